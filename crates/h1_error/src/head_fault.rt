@@ -1,0 +1,89 @@
+//! Why the head of a message is refused (RFC 9112, sections 2 to 6).
+ghost use Rattle.std.specs.Prelude.{◌≡◌};
+ghost use Rattle.h1_error.specs.Text.{fault_name};
+
+use std::fmt;
+
+/// Why the head of a message is refused.
+#[derive(Clone, Copy, Debug, PartialEq, Eq, Hash)]
+pub enum HeadFault {
+    /// The bytes are no head by the grammar, or have more than 256 fields.
+    NotAHead,
+    /// No head ends within the limit of 1,048,575 bytes.
+    TooLong,
+    /// More than one Host line (RFC 9112, section 3.2).
+    DuplicateHost,
+    /// The Host line has userinfo.
+    UserinfoInHost,
+    /// The URI's authority has userinfo.
+    UserinfoInUri,
+    /// Host and the URI's authority differ.
+    HostDiffersFromUri,
+    /// The target has userinfo (RFC 9110, section 4.2.4).
+    UserinfoInTarget,
+    /// The target can be read as two authorities.
+    AmbiguousTarget,
+    /// The target's authority is none by the grammar.
+    UnparseableAuthority,
+    /// Host differs from the target's authority (RFC 9112, section 3.2.2).
+    HostDiffersFromTarget,
+    /// The target of a CONNECT can be read as two authorities.
+    AmbiguousConnect,
+    /// A CONNECT whose target has no port needs a Host line.
+    ConnectHostMissing,
+    /// Host differs from the target of a CONNECT (RFC 9112, section 3.2.3).
+    ConnectHostDiffers,
+    /// The Content-Length lines don't read as one number (RFC 9110, section 8.6).
+    BadContentLength,
+    /// Transfer-Encoding on HTTP/1.0 (RFC 9112, section 6.1).
+    CodingOn10,
+    /// The last transfer coding isn't `chunked` (RFC 9112, section 6.3).
+    FinalCodingNotChunked,
+    /// A request line can't be written with this target or version.
+    BadRequestLine,
+    /// The version is none that HTTP/1 writes.
+    UnsupportedVersion,
+    /// A method that is no token (RFC 9110, section 9.1).
+    BadMethod,
+    /// A field name that is no token (RFC 9110, section 5.1).
+    BadName,
+    /// A field value with CR, LF or NUL (RFC 9110, section 5.5).
+    BadValue,
+    /// A status code outside 100 to 999.
+    BadStatus,
+    /// A date that is none of the three formats (RFC 9110, section 5.6.7).
+    BadDate,
+}
+
+impl HeadFault {
+    /// The variant's name.
+    pub fn name(&self) -> &'static str
+        ensures { result.now ≡ fault_name self.now }
+    {
+        match self {
+            HeadFault::NotAHead => "NotAHead",
+            HeadFault::TooLong => "TooLong",
+            HeadFault::DuplicateHost => "DuplicateHost",
+            HeadFault::UserinfoInHost => "UserinfoInHost",
+            HeadFault::UserinfoInUri => "UserinfoInUri",
+            HeadFault::HostDiffersFromUri => "HostDiffersFromUri",
+            HeadFault::UserinfoInTarget => "UserinfoInTarget",
+            HeadFault::AmbiguousTarget => "AmbiguousTarget",
+            HeadFault::UnparseableAuthority => "UnparseableAuthority",
+            HeadFault::HostDiffersFromTarget => "HostDiffersFromTarget",
+            HeadFault::AmbiguousConnect => "AmbiguousConnect",
+            HeadFault::ConnectHostMissing => "ConnectHostMissing",
+            HeadFault::ConnectHostDiffers => "ConnectHostDiffers",
+            HeadFault::BadContentLength => "BadContentLength",
+            HeadFault::CodingOn10 => "CodingOn10",
+            HeadFault::FinalCodingNotChunked => "FinalCodingNotChunked",
+            HeadFault::BadRequestLine => "BadRequestLine",
+            HeadFault::UnsupportedVersion => "UnsupportedVersion",
+            HeadFault::BadMethod => "BadMethod",
+            HeadFault::BadName => "BadName",
+            HeadFault::BadValue => "BadValue",
+            HeadFault::BadStatus => "BadStatus",
+            HeadFault::BadDate => "BadDate",
+        }
+    }
+}
