@@ -1,0 +1,4 @@
+pub mod CountLemmas
+pub mod Laters
+pub mod MemReads
+pub mod Streams

@@ -1,0 +1,42 @@
+-- What a link gave and took, and how often it was called: the transport connection of RFC 9112,
+-- section 9, as its user sees it.
+use Rattle.std.specs.Prelude.{ℕ, List, Bool, false, Option, None}
+
+pub record LinkState : Type 0 where
+  -- the bytes that its reads handed out, where the link tells them
+  pub given : Option (List ℕ)
+  -- the bytes that its writes took, where the link tells them
+  pub written : Option (List ℕ)
+  -- a read met the peer's end
+  pub ended : Bool
+  -- the reads that failed; the writes and flushes that failed
+  pub read_faults : ℕ
+  pub write_faults : ℕ
+  -- the reads that weren't ready; the writes and flushes that weren't
+  pub read_waits : ℕ
+  pub write_waits : ℕ
+  -- how many bytes its reads handed out and its writes took
+  pub bytes_in : ℕ
+  pub bytes_out : ℕ
+  -- the calls that moved a byte, and all others
+  pub moves : ℕ
+  pub others : ℕ
+  -- `bytes_out` when a flush was last done, 0 before
+  pub flushed : ℕ
+
+-- a link that tells no bytes, before its first call
+abbrev pub untold_state : LinkState
+untold_state = record {
+  given = None;
+  written = None;
+  ended = false;
+  read_faults = 0;
+  write_faults = 0;
+  read_waits = 0;
+  write_waits = 0;
+  bytes_in = 0;
+  bytes_out = 0;
+  moves = 0;
+  others = 0;
+  flushed = 0;
+}

@@ -1,0 +1,33 @@
+//! The outside of an HTTP/1 connection: links, sources, sinks, clocks and acceptors, in memory and
+//! over the system.
+//!
+//! Each is a trait whose clauses say which bytes a call moved and which counts it raised. An answer
+//! that tells of a fault comes only where a count of faults rose.
+#![tactic(auto)]
+
+mod acceptor;
+mod clock;
+mod dialer;
+mod laws;
+mod link;
+mod memory;
+mod sink;
+mod source;
+mod standard;
+mod system_clock;
+mod tcp;
+
+pub use acceptor::Acceptor;
+pub use clock::{Clock, YEAR_10000};
+pub use dialer::{DialStep, Dialer};
+pub use laws::{calls_add_up, calls_only_add, counts_add_up, later_states_go_on, streams_only_add};
+pub use link::{FlushStep, Link, ReadStep, WriteStep};
+pub use memory::{DummyIO, Gate, MemAcceptor, MemDialer, MemLink, MemSink, MemSource, SetClock};
+pub use sink::{Sink, SinkStep};
+pub use source::{Source, SourceStep};
+pub use standard::{StdSink, StdSource};
+pub use system_clock::SystemClock;
+pub use tcp::{TcpAcceptor, TcpDialer, TcpLink};
+
+#[cfg(test)]
+mod tests;

@@ -1,0 +1,231 @@
+//! Links over TCP (RFC 9112, section 9).
+ghost use Rattle.std.specs.Prelude.{◌≡◌, IfSome};
+ghost use Rattle.std.specs.Net.Socket.{socket_port};
+ghost use Rattle.h1_link.specs.LinkState.{untold_state};
+
+use crate::acceptor::Acceptor;
+use crate::dialer::{DialStep, Dialer};
+use crate::link::{FlushStep, Link, ReadStep, WriteStep};
+use crate::memory::{Tally, raise};
+use std::io::{self, ErrorKind, Read, Write};
+use std::marker::Model;
+use std::net::{Ipv4Addr, Net, OpenListener, OpenStream, Shutdown, SocketAddr, SocketAddrV4};
+use std::time::Duration;
+
+/// How long a read or a write waits for the peer, in milliseconds.
+const WAIT: u64 = 20;
+
+/// A link over a TCP stream, which tells no bytes.
+#[derive(Drop)]
+pub struct TcpLink<S: Read + Write + OpenStream + Drop> {
+    stream: S,
+    tally: Tally,
+}
+
+impl<S: Read + Write + OpenStream + Drop> Model for TcpLink<S> {
+    ghost use Rattle.h1_link.specs.LinkState.{LinkState};
+
+    ghost Value = { LinkState };
+
+    ghost view = { λ l. l.tally };
+}
+
+impl<S: Read + Write + OpenStream + Drop> TcpLink<S> {
+    /// A link over this stream; `None` where its calls can't be kept from blocking.
+    pub fn new(stream: S) -> Option<Self>
+        ensures { IfSome result (λ link. link ≡ untold_state) }
+    {
+        let wait = Some(Duration::from_millis(WAIT));
+        if stream.set_read_timeout(wait).is_err() || stream.set_write_timeout(wait).is_err() {
+            return None;
+        }
+        Some(TcpLink {
+            stream,
+            tally: Tally::new(),
+        })
+    }
+}
+
+/// Whether the peer may be ready at a later call.
+fn is_wait(error: &io::Error) -> bool {
+    matches!(
+        error.kind(),
+        ErrorKind::WouldBlock | ErrorKind::TimedOut | ErrorKind::Interrupted
+    )
+}
+
+impl<S: Read + Write + OpenStream + Drop> Link for TcpLink<S> {
+    ghost state = { λ link. link };
+
+    ghost same_plan = { λ _ _. Unit {0} };
+
+    fn poll_read(&mut self, buf: &mut [u8]) -> ReadStep {
+        let step = match self.stream.read(buf) {
+            Ok(0) => ReadStep::End,
+            Ok(count) => ReadStep::Got(count),
+            Err(error) if is_wait(&error) => ReadStep::NotReady,
+            Err(_) => ReadStep::Failed,
+        };
+        self.tally.count_read(buf, step);
+        step
+    }
+
+    fn poll_write(&mut self, piece: &[u8]) -> WriteStep {
+        let step = match self.stream.write(piece) {
+            Ok(count) => WriteStep::Took(count),
+            Err(error) if is_wait(&error) => WriteStep::NotReady,
+            Err(_) => WriteStep::Failed,
+        };
+        self.tally.count_write(piece, step);
+        step
+    }
+
+    fn poll_flush(&mut self) -> FlushStep {
+        let step = match self.stream.flush() {
+            Ok(()) => FlushStep::Done,
+            Err(error) if is_wait(&error) => FlushStep::NotReady,
+            Err(_) => FlushStep::Failed,
+        };
+        self.tally.count_flush(step);
+        step
+    }
+
+    fn shutdown(&mut self) {
+        // A stream that the peer has closed can't be shut down again, which is no fault.
+        let _ = self.stream.shutdown(Shutdown::Both);
+        self.tally.count_shutdown();
+    }
+
+    ghost plan_itself = { λ _. tt };
+
+    ghost plan_on = { λ _ _ _ _ _. tt };
+}
+
+/// The port on this machine.
+fn local(port: u16) -> SocketAddr
+    ensures { socket_port result ≡ port }
+{
+    SocketAddr::V4(SocketAddrV4::new(Ipv4Addr::LOCALHOST, port))
+}
+
+/// A dialer of this machine: the key is the port. A key above 65,535 is a failed dial.
+#[derive(Drop)]
+pub struct TcpDialer<R: Net + Drop> {
+    rt: R,
+    faults: u64,
+}
+
+impl<R: Net + Drop> Model for TcpDialer<R> {
+    ghost use Rattle.h1_link.specs.DialerState.{DialerState};
+
+    ghost Value = { DialerState };
+
+    ghost view = { λ d. record { dial_faults = d.faults; dial_waits = 0 } };
+}
+
+impl<R: Net + Drop> TcpDialer<R> {
+    /// A dialer over this runtime.
+    pub fn new(rt: R) -> Self
+        ensures { result ≡ record { dial_faults = 0; dial_waits = 0 } }
+    {
+        TcpDialer { rt, faults: 0 }
+    }
+}
+
+impl<R: Net + Drop> Dialer for TcpDialer<R> {
+    type Link = TcpLink<R::Stream>;
+
+    ghost state = { λ dialer. dialer };
+
+    ghost same_plan = { λ _ _. Unit {0} };
+
+    fn poll_dial(&mut self, key: u64) -> DialStep<TcpLink<R::Stream>> {
+        let dialed = u16::try_from(key)
+            .ok()
+            .and_then(|port| self.rt.connect(local(port)).ok())
+            .and_then(TcpLink::new);
+        match dialed {
+            Some(link) => DialStep::Connected(link),
+            None => {
+                self.faults = raise(self.faults);
+                DialStep::Failed
+            }
+        }
+    }
+
+    ghost plan_itself = { λ _. tt };
+
+    ghost plan_on = { λ _ _ _ _ _. tt };
+}
+
+/// An acceptor of this machine's peers.
+#[derive(Drop)]
+pub struct TcpAcceptor<R: Net + Drop> {
+    rt: R,
+    listener: Option<R::Listener>,
+    faults: u64,
+    accepted: u64,
+}
+
+impl<R: Net + Drop> Model for TcpAcceptor<R> {
+    ghost use Rattle.h1_link.specs.AcceptorState.{AcceptorState};
+
+    ghost Value = { AcceptorState };
+
+    ghost view = { λ a. record { accept_faults = a.faults; accepted = a.accepted } };
+}
+
+impl<R: Net + Drop> TcpAcceptor<R> {
+    /// An acceptor over this runtime, which holds no port yet.
+    pub fn new(rt: R) -> Self
+        ensures { result ≡ record { accept_faults = 0; accepted = 0 } }
+    {
+        TcpAcceptor {
+            rt,
+            listener: None,
+            faults: 0,
+            accepted: 0,
+        }
+    }
+}
+
+impl<R: Net + Drop> Acceptor for TcpAcceptor<R> {
+    type Link = TcpLink<R::Stream>;
+
+    ghost state = { λ acceptor. acceptor };
+
+    fn bind(&mut self, port: u16) -> bool {
+        match self.rt.bind(local(port)) {
+            Ok(listener) => {
+                self.listener = Some(listener);
+                true
+            }
+            Err(_) => {
+                self.faults = raise(self.faults);
+                false
+            }
+        }
+    }
+
+    fn accept(&mut self) -> Option<TcpLink<R::Stream>> {
+        match accept_on(&self.listener) {
+            Some(link) => {
+                self.accepted = raise(self.accepted);
+                Some(link)
+            }
+            None => {
+                self.faults = raise(self.faults);
+                None
+            }
+        }
+    }
+}
+
+/// The next peer's link, where a port is held.
+fn accept_on<N: OpenListener>(listener: &Option<N>) -> Option<TcpLink<N::Stream>>
+where
+    N::Stream: Read + Write + OpenStream + Drop,
+{
+    let (stream, _peer) = listener.as_ref()?.accept().ok()?;
+    TcpLink::new(stream)
+}
