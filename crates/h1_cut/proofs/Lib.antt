@@ -1,0 +1,4 @@
+pub mod CutLemmas
+pub mod LimitLemmas
+pub mod LineLemmas
+pub mod SearchLemmas

@@ -1,0 +1,4 @@
+pub mod Cut
+pub mod Limit
+pub mod Lines
+pub mod Search
