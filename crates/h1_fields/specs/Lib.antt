@@ -1,0 +1,8 @@
+pub mod Memory
+pub mod Names
+pub mod Lines
+pub mod ListParts
+pub mod ContentLength
+pub mod Codings
+pub mod Search
+pub mod Pieces

@@ -1,0 +1,21 @@
+//! The field lines of a message, and what the lists in them mean.
+//!
+//! `Fields` keeps the lines as they came: names in their spelling, in their order. Names are
+//! compared in any case of ASCII's letters. The lists of Content-Length, Transfer-Encoding and
+//! Connection are read over all lines of the name.
+#![tactic(auto)]
+
+mod content_length;
+mod fields;
+mod iter;
+mod laws;
+mod lists;
+mod meaning;
+mod name;
+#[cfg(test)]
+mod tests;
+
+pub use content_length::ContentLength;
+pub use fields::Fields;
+pub use iter::{FieldsIter, ValuesIter};
+pub use laws::{chunked_last_is, content_length_is, insertion_and_removal, names_ignore_case};
