@@ -1,0 +1,5 @@
+pub mod SyntaxLemmas
+pub mod DateLemmas
+pub mod ReplyLemmas
+pub mod RequestHeadLemmas
+pub mod TokenLemmas

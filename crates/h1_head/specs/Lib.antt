@@ -1,0 +1,14 @@
+pub mod Views
+pub mod Versions
+pub mod Faults
+pub mod Request
+pub mod Response
+pub mod Date
+pub mod Wire
+pub mod Parts
+pub mod RequestGrammar
+pub mod RequestFault
+pub mod RequestSpans
+pub mod RequestVerdict
+pub mod RequestHead
+pub mod Wish

@@ -1,0 +1,41 @@
+//! The heads of requests and responses: their parts, their bytes and their dates, and the reading
+//! of a request's head.
+#![tactic(auto)]
+
+mod date;
+mod laws;
+mod limits;
+mod parts;
+mod reading_laws;
+#[cfg(test)]
+mod reading_tests;
+mod request;
+mod request_checks;
+mod request_grammar;
+mod request_head;
+mod response;
+mod syntax;
+#[cfg(test)]
+mod tests;
+mod version;
+mod wire;
+
+pub use date::get_cached_date;
+pub use h1_authority::{
+    RawTargetAuthority, has_ambiguous_port_suffix, is_http_family_scheme, raw_target_authority,
+};
+pub use h1_cut::HeadSearch;
+pub use h1_fields::{ContentLength, Fields, FieldsIter, ValuesIter};
+pub use laws::{dates_are_unique, replies_keep_their_framing};
+pub use limits::{MAX_HEADER_SIZE, MAX_HEADERS};
+pub use reading_laws::{
+    request_heads_are_stable, request_heads_are_unique, request_heads_have_no_front,
+};
+pub use request::RequestHeader;
+pub use request_checks::validate_request_authority;
+pub use request_head::{HeadStep, RequestHead, read_request_head, search_request_head};
+pub use response::ResponseHeader;
+pub use version::is_http_1;
+pub use wire::{
+    http_req_header_to_wire, push_response_head, reply_bytes, request_target_has_forbidden_byte,
+};

@@ -1,0 +1,266 @@
+//! The head of a request (RFC 9112, section 3).
+ghost use Rattle.std.specs.Prelude.{◌≡◌, ◌++◌, ◌∷◌, [], IsTrue, IfOk, OnOk, OnErr, IsOkUnless, option_map};
+ghost use Rattle.httparse.specs.Grammar.{IsToken, is_token};
+ghost use Rattle.h1_fields.specs.Memory.{no_memory};
+ghost use Rattle.h1_fields.specs.Lines.{has_line, first_value, values_of, with_line, without};
+ghost use Rattle.h1_head.specs.Faults.{RefusedFor, method_fault, line_fault};
+ghost use Rattle.h1_head.specs.Request.{new_request, request_read, end_stream_of};
+ghost use Rattle.h1_head.specs.Parts.{request_of_parts};
+
+use crate::parts::{authority_of, lines_of, target_of};
+use crate::syntax::{check_line, refuse};
+use crate::version::{is_http_2, with_minor};
+use h1_error::{Error, ErrorType, HeadFault};
+use h1_fields::{Fields, ValuesIter};
+use http::request::Parts;
+use http::{Method, Version};
+use httparse::is_token;
+use std::alloc::Global;
+use std::marker::Model;
+
+/// The head of a request: its method, target, version, the authority of its URI where it was made
+/// from one, and its field lines. The flag `send_end_stream` is for HTTP/2 alone.
+#[derive(Debug, Drop)]
+pub struct RequestHeader {
+    alloc: Global,
+    method: Method,
+    target: Vec<u8>,
+    version: Version,
+    authority: Option<Vec<u8>>,
+    fields: Fields,
+    send_end_stream: bool,
+}
+
+impl Model for RequestHeader {
+    ghost use Rattle.std.specs.Prelude.{option_map};
+    ghost use Rattle.h1_head.specs.Views.{RequestView};
+
+    ghost Value = { RequestView };
+
+    ghost view = { λ r. record {
+      method = r.method;
+      target = r.target.items;
+      version = r.version;
+      authority = option_map (λ bytes. bytes.items) r.authority;
+      fields = r.fields;
+      send_end_stream = r.send_end_stream;
+    } };
+}
+
+impl RequestHeader {
+    /// A request of version 1.1 with no fields. `size_hint` is how many fields are to come.
+    pub fn build(
+        alloc: Global,
+        method: &[u8],
+        raw_path: &[u8],
+        size_hint: Option<usize>,
+    ) -> Result<Self, Error>
+        ensures ok { IfOk result (λ head. head ≡ new_request method.now raw_path.now) }
+        ensures refused { RefusedFor (method_fault method.now) result }
+    {
+        let method = method_of(alloc, method)?;
+        Ok(RequestHeader {
+            alloc,
+            method,
+            target: Vec::from_slice(alloc, raw_path)?,
+            version: Version::HTTP_11,
+            authority: None,
+            fields: Fields::with_capacity(alloc, size_hint.unwrap_or(0))?,
+            send_end_stream: true,
+        })
+    }
+
+    /// A request from its parts: names in lower case, and as target path and query, or the
+    /// authority of a URI without a path.
+    pub fn from_parts(alloc: Global, parts: Parts) -> Result<Self, Error>
+        ensures ok { IfOk result (λ head. head ≡ request_of_parts parts) }
+        ensures err { IsOkUnless result no_memory }
+    {
+        let target = Vec::from_slice(alloc, target_of(&parts.uri))?;
+        let authority = authority_of(alloc, &parts.uri)?;
+        let fields = lines_of(alloc, &parts.headers)?;
+        Ok(RequestHeader {
+            alloc,
+            method: parts.method,
+            target,
+            version: parts.version,
+            authority,
+            fields,
+            send_end_stream: true,
+        })
+    }
+
+    /// A request that was read, of version 1.0 or 1.1 by its last digit.
+    pub(crate) fn from_read(
+        alloc: Global,
+        method: &[u8],
+        target: &[u8],
+        minor: u8,
+        fields: Fields,
+    ) -> Result<Self, Error>
+        requires { IsTrue (is_token method.now) }
+        ensures ok { IfOk result (λ head. head ≡ request_read method.now target.now minor fields) }
+        ensures err { IsOkUnless result no_memory }
+    {
+        let method = method_of(alloc, method)?;
+        Ok(RequestHeader {
+            alloc,
+            method,
+            target: Vec::from_slice(alloc, target)?,
+            version: with_minor(minor),
+            authority: None,
+            fields,
+            send_end_stream: true,
+        })
+    }
+
+    pub(crate) fn allocator(&self) -> Global {
+        self.alloc
+    }
+
+    pub fn method(&self) -> &Method
+        ensures { result.now ≡ self.now.method }
+    {
+        &self.method
+    }
+
+    /// The target as it stands on the request line.
+    pub fn raw_path(&self) -> &[u8]
+        ensures { result.now ≡ self.now.target }
+    {
+        self.target.as_slice()
+    }
+
+    pub fn version(&self) -> Version
+        ensures { result ≡ self.now.version }
+    {
+        self.version
+    }
+
+    /// The authority of the URI that the request was made from.
+    pub fn authority(&self) -> Option<&[u8]>
+        ensures { option_map (λ bytes. bytes.now) result ≡ self.now.authority }
+    {
+        match &self.authority {
+            Some(bytes) => Some(bytes.as_slice()),
+            None => None,
+        }
+    }
+
+    pub fn fields(&self) -> &Fields
+        ensures { result.now ≡ self.now.fields }
+    {
+        &self.fields
+    }
+
+    pub fn set_version(&mut self, version: Version)
+        ensures { self.new ≡ record self.old { version = version } }
+    {
+        self.version = version;
+    }
+
+    pub fn set_send_end_stream(&mut self, on: bool)
+        ensures { self.new ≡ record self.old { send_end_stream = on } }
+    {
+        self.send_end_stream = on;
+    }
+
+    /// The flag, where the version is HTTP/2.
+    pub fn send_end_stream(&self) -> Option<bool>
+        ensures { result ≡ end_stream_of self.now }
+    {
+        if is_http_2(self.version) {
+            Some(self.send_end_stream)
+        } else {
+            None
+        }
+    }
+
+    /// Adds a line at the end.
+    pub fn append_header(&mut self, name: &[u8], value: &[u8]) -> Result<(), Error>
+        ensures ok { OnOk result (self.new
+            ≡ record self.old { fields = self.old.fields ++ (name.now, value.now) ∷ [] }) }
+        ensures refused { RefusedFor (line_fault name.now value.now) result }
+        ensures same { OnErr result (self.new ≡ self.old) }
+    {
+        check_line(name, value)?;
+        self.fields.append(name, value)
+    }
+
+    /// Puts the line in the place of the first of that name, and removes later ones of that name;
+    /// at the end where there is none.
+    pub fn insert_header(&mut self, name: &[u8], value: &[u8]) -> Result<(), Error>
+        ensures ok { OnOk result (self.new
+            ≡ record self.old { fields = with_line name.now value.now self.old.fields }) }
+        ensures refused { RefusedFor (line_fault name.now value.now) result }
+        ensures same { OnErr result (self.new ≡ self.old) }
+    {
+        check_line(name, value)?;
+        self.fields.insert(name, value)
+    }
+
+    /// Removes all lines of that name. True exactly where there was one.
+    pub fn remove_header(&mut self, name: &[u8]) -> bool
+        ensures fields { self.new ≡ record self.old { fields = without name.now self.old.fields } }
+        ensures found { result ≡ has_line name.now self.old.fields }
+    {
+        self.fields.remove(name)
+    }
+
+    /// The value of the first line of that name.
+    pub fn get(&self, name: &[u8]) -> Option<&[u8]>
+        ensures { option_map (λ value. value.now) result ≡ first_value name.now self.now.fields }
+    {
+        self.fields.get(name)
+    }
+
+    /// The values of all lines of that name, in order.
+    pub fn get_all<'a>(&'a self, name: &'a [u8]) -> ValuesIter<'a>
+        ensures { result ≡ values_of name.now self.now.fields }
+    {
+        self.fields.get_all(name)
+    }
+
+    /// The same head again.
+    pub fn copy(&self) -> Result<Self, Error>
+        ensures ok { IfOk result (λ copy. copy ≡ self.now) }
+        ensures err { IsOkUnless result no_memory }
+    {
+        let alloc = self.alloc;
+        Ok(RequestHeader {
+            alloc,
+            method: self.method.clone()?,
+            target: Vec::from_slice(alloc, self.target.as_slice())?,
+            version: self.version,
+            authority: copy_bytes(alloc, &self.authority)?,
+            fields: self.fields.copy()?,
+            send_end_stream: self.send_end_stream,
+        })
+    }
+}
+
+/// The method that these bytes name. A token is refused only where there is no memory.
+fn method_of(alloc: Global, method: &[u8]) -> Result<Method, Error>
+    ensures ok { IfOk result (λ made. made ≡ method.now) }
+    ensures refused { RefusedFor (method_fault method.now) result }
+{
+    if !is_token(method) {
+        return Err(refuse(HeadFault::BadMethod));
+    }
+    match Method::from_bytes(alloc, method) {
+        Ok(made) => Ok(made),
+        Err(_) => Err(Error::from(ErrorType::NoMemory)),
+    }
+}
+
+/// The same bytes again, where there are some.
+pub(crate) fn copy_bytes(alloc: Global, bytes: &Option<Vec<u8>>) -> Result<Option<Vec<u8>>, Error>
+    ensures ok { IfOk result (λ copy. option_map (λ bytes. bytes.items) copy
+        ≡ option_map (λ bytes. bytes.items) bytes.now) }
+    ensures err { IsOkUnless result no_memory }
+{
+    match bytes {
+        Some(bytes) => Ok(Some(Vec::from_slice(alloc, bytes.as_slice())?)),
+        None => Ok(None),
+    }
+}

@@ -1,0 +1,121 @@
+//! What a request is refused for whose head has the form of one (RFC 9112, sections 3.2, 6.1 and
+//! 6.3; RFC 9110, section 8.6), and whether it wishes the connection kept (RFC 9112, section 9.3).
+ghost use Rattle.std.specs.Prelude.{◌≡◌, codes, MatchOption};
+ghost use Rattle.h1_fields.specs.Lines.{values_of};
+ghost use Rattle.h1_authority.specs.AuthorityFault.{hosts_seen, hosts_behind, no_host};
+ghost use Rattle.h1_head.specs.Faults.{refusal};
+ghost use Rattle.h1_head.specs.RequestFault.{coding_fault, first_fault, has_both, host_fault, is_both, length_fault, settled};
+ghost use Rattle.h1_head.specs.Wish.{wish};
+
+use crate::RequestHeader;
+use crate::syntax::refuse;
+use crate::version::{is_http_10, is_http_11};
+use h1_authority::{Hosts, check_authority};
+use h1_error::{Error, HeadFault};
+use h1_fields::{ContentLength, Fields};
+
+/// Whether the target, the Host lines and the URI's authority name one authority (RFC 9112, section
+/// 3.2). The error says the first fault.
+pub fn validate_request_authority(req: &RequestHeader) -> Result<(), Error>
+    ensures { MatchOption (host_fault req.now) (result ≡ Ok tt)
+        (λ fault. result ≡ Err (refusal fault)) }
+{
+    match req.host_fault() {
+        None => Ok(()),
+        Some(fault) => Err(refuse(fault)),
+    }
+}
+
+impl RequestHeader {
+    /// Whether the request wishes the connection kept. `both` says whether its head had both
+    /// Transfer-Encoding and Content-Length.
+    pub fn wishes_keep_alive(&self, both: bool) -> bool
+        ensures { result ≡ wish self.now both }
+    {
+        if both || self.fields().lists_close() {
+            false
+        } else {
+            self.fields().lists_keep_alive() || is_http_11(self.version())
+        }
+    }
+
+    /// Removes the Content-Length lines where Transfer-Encoding stands beside them, and says
+    /// whether.
+    pub(crate) fn settle_length(&mut self) -> bool
+        ensures settled { self.new ≡ settled self.old }
+        ensures both { result ≡ is_both self.old }
+    {
+        let both = has_both(self.fields());
+        if both {
+            self.remove_header(b"Content-Length");
+        }
+        both
+    }
+
+    /// The first fault of the request.
+    pub(crate) fn first_fault(&self) -> Option<HeadFault>
+        ensures { result ≡ first_fault self.now }
+    {
+        if let Some(fault) = self.host_fault() {
+            return Some(fault);
+        }
+        if let Some(fault) = length_fault(self.fields().content_length()) {
+            return Some(fault);
+        }
+        self.coding_fault()
+    }
+
+    fn host_fault(&self) -> Option<HeadFault>
+        ensures { result ≡ host_fault self.now }
+    {
+        let hosts = hosts_of(self.fields());
+        check_authority(
+            self.method().as_str().as_bytes(),
+            self.raw_path(),
+            hosts,
+            self.authority(),
+        )
+        .err()
+    }
+
+    fn coding_fault(&self) -> Option<HeadFault>
+        ensures { result ≡ coding_fault self.now }
+    {
+        if !self.fields().has_transfer_encoding() {
+            None
+        } else if is_http_10(self.version()) {
+            Some(HeadFault::CodingOn10)
+        } else if self.fields().is_chunked_last() {
+            None
+        } else {
+            Some(HeadFault::FinalCodingNotChunked)
+        }
+    }
+}
+
+/// Whether Transfer-Encoding and Content-Length are both there.
+fn has_both(fields: &Fields) -> bool
+    ensures { result ≡ has_both fields.now }
+{
+    fields.has_transfer_encoding() && fields.contains(b"Content-Length")
+}
+
+/// The Host lines.
+fn hosts_of(fields: &Fields) -> Hosts<'_>
+    ensures { hosts_seen result ≡ hosts_behind no_host (values_of (codes "Host") fields.now) }
+{
+    let mut hosts = Hosts::Absent;
+    for value in fields.get_all(b"Host") {
+        hosts = hosts.and(value);
+    }
+    hosts
+}
+
+fn length_fault(length: ContentLength) -> Option<HeadFault>
+    ensures { result ≡ length_fault length }
+{
+    match length {
+        ContentLength::Absent | ContentLength::Number(_) => None,
+        ContentLength::Bad => Some(HeadFault::BadContentLength),
+    }
+}

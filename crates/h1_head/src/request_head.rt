@@ -1,0 +1,128 @@
+//! The head of a request, read from the front of a stream (RFC 9112, sections 2 to 6).
+//!
+//! What came so far goes in, and what is known of the head comes out. The answer depends on nothing
+//! but these bytes, and an accepted or refused head stays so whatever comes behind it.
+ghost use Rattle.std.specs.Prelude.{IfOk, IsOkUnless, MatchOption};
+ghost use Rattle.h1_cut.specs.Search.{HasLooked};
+ghost use Rattle.h1_fields.specs.Memory.{no_memory};
+ghost use Rattle.h1_head.specs.RequestHead.{IsStepOf};
+ghost use Rattle.h1_head.specs.RequestGrammar.{IsNoHead};
+ghost use Rattle.h1_head.specs.RequestVerdict.{IsSaidBy, IsSettlingOf, IsVerdictOn};
+
+use crate::RequestHeader;
+use crate::limits::MAX_HEADER_SIZE;
+use crate::request_grammar::parse_head;
+use bytes::Bytes;
+use h1_cut::HeadSearch;
+use h1_error::{Error, HeadFault};
+use h1_escape::escape_head;
+use std::alloc::Global;
+
+/// An accepted head.
+#[derive(Debug, Drop)]
+pub struct RequestHead {
+    /// The request, without Content-Length lines where Transfer-Encoding stands beside them.
+    pub header: RequestHeader,
+    /// Whether Content-Length lines went (RFC 9112, section 6.3).
+    pub both: bool,
+    /// The bytes that were parsed: the head as it came, or with its target escaped.
+    pub raw: Bytes,
+}
+
+/// What is known of the head at the front of a stream.
+#[derive(Debug, Drop)]
+pub enum HeadStep {
+    /// A head is there and accepted. It takes so many of the bytes that came.
+    Whole(RequestHead, usize),
+    /// No head ends in the bytes yet.
+    NotYet,
+    /// The head is refused, or none ends within the limit.
+    Refused(HeadFault),
+}
+
+/// Reads the head at the front of the bytes.
+pub fn read_request_head(alloc: Global, bytes: &[u8]) -> Result<HeadStep, Error>
+    ensures ok { IfOk result (IsStepOf bytes.now) }
+    ensures err { IsOkUnless result no_memory }
+{
+    search_request_head(alloc, &mut HeadSearch::new(), bytes)
+}
+
+/// The same for bytes that grow from call to call: the search has looked at a front of them, and
+/// goes on from there. A new head needs a new search.
+pub fn search_request_head(
+    alloc: Global,
+    search: &mut HeadSearch,
+    bytes: &[u8],
+) -> Result<HeadStep, Error>
+    requires { HasLooked MAX_HEADER_SIZE search.old bytes.now }
+    ensures ok { IfOk result (IsStepOf bytes.now) }
+    ensures err { IsOkUnless result no_memory }
+    ensures looked { HasLooked MAX_HEADER_SIZE search.new bytes.now }
+{
+    let Some(len) = search.find_within(bytes, MAX_HEADER_SIZE) else {
+        if bytes.len() <= MAX_HEADER_SIZE {
+            return Ok(HeadStep::NotYet);
+        }
+        return Ok(HeadStep::Refused(HeadFault::TooLong));
+    };
+    match judge(alloc, &bytes[..len])? {
+        Verdict::Accepted(head) => Ok(HeadStep::Whole(head, len)),
+        Verdict::Refused(fault) => Ok(HeadStep::Refused(fault)),
+    }
+}
+
+/// What becomes of a whole head.
+#[derive(Drop)]
+enum Verdict {
+    Accepted(RequestHead),
+    Refused(HeadFault),
+}
+
+fn judge(alloc: Global, head: &[u8]) -> Result<Verdict, Error>
+    ensures ok { IfOk result (IsVerdictOn head.now) }
+    ensures err { IsOkUnless result no_memory }
+{
+    match spell(alloc, head)? {
+        Some(spelled) => Ok(settle(spelled)),
+        None => Ok(Verdict::Refused(HeadFault::NotAHead)),
+    }
+}
+
+/// What a head says, and the bytes in which it says so.
+#[derive(Drop)]
+struct Spelled {
+    header: RequestHeader,
+    raw: Bytes,
+}
+
+/// Parses the head, or else its escape.
+fn spell(alloc: Global, head: &[u8]) -> Result<Option<Spelled>, Error>
+    ensures ok { IfOk result (λ found. MatchOption found (IsNoHead head.now) (IsSaidBy head.now)) }
+    ensures err { IsOkUnless result no_memory }
+{
+    if let Some(header) = parse_head(alloc, head)? {
+        let raw = Bytes::copy_from_slice(alloc, head)?;
+        return Ok(Some(Spelled { header, raw }));
+    }
+    let Some(escaped) = escape_head(alloc, head)? else {
+        return Ok(None);
+    };
+    let Some(header) = parse_head(alloc, escaped.as_slice())? else {
+        return Ok(None);
+    };
+    let raw = Bytes::from_vec(escaped)?;
+    Ok(Some(Spelled { header, raw }))
+}
+
+/// Drops Content-Length lines beside Transfer-Encoding, and judges what is left.
+fn settle(spelled: Spelled) -> Verdict
+    ensures { IsSettlingOf spelled result }
+{
+    let Spelled { mut header, raw } = spelled;
+    let both = header.settle_length();
+    match header.first_fault() {
+        Some(fault) => Verdict::Refused(fault),
+        None => Verdict::Accepted(RequestHead { header, both, raw }),
+    }
+}

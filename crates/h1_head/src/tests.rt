@@ -1,0 +1,137 @@
+//! Heads by example.
+use crate::{
+    RequestHeader, ResponseHeader, get_cached_date, http_req_header_to_wire, push_response_head,
+    reply_bytes,
+};
+use bytes::BytesMut;
+use h1_error::{Error, ErrorType, HeadFault};
+use http::{Request, Version};
+use std::test::Fail;
+
+fn refused(fault: HeadFault) -> Error {
+    Error::from(ErrorType::InvalidHTTPHeader(fault))
+}
+
+#[test]
+fn a_request_is_written_with_its_line_and_fields(rt: HostRuntime) -> Result<(), Error> {
+    let mut req = RequestHeader::build(rt.alloc(), b"GET", b"/x", None)?;
+    req.append_header(b"Host", b"a")?;
+    let wire = http_req_header_to_wire(&req)?.expect(&rt, "a request line");
+    assert_eq!(rt;
+        wire.as_slice(),
+        b"GET /x HTTP/1.1\r\nHost: a\r\n\r\n".as_slice()
+    );
+    assert_eq!(rt; req.copy()?.get(b"host"), Some(b"a".as_slice()));
+    req.set_version(Version::HTTP_3);
+    assert!(rt; http_req_header_to_wire(&req)?.is_none());
+    let spaced = RequestHeader::build(rt.alloc(), b"GET", b"/a b", Some(1))?;
+    assert!(rt; http_req_header_to_wire(&spaced)?.is_none());
+    Ok(())
+}
+
+#[test]
+fn the_flag_is_for_http_2(rt: HostRuntime) -> Result<(), Error> {
+    let mut req = RequestHeader::build(rt.alloc(), b"POST", b"/", None)?;
+    assert_eq!(rt; req.send_end_stream(), None);
+    req.set_version(Version::HTTP_2);
+    assert_eq!(rt; req.send_end_stream(), Some(true));
+    req.set_send_end_stream(false);
+    assert_eq!(rt; req.send_end_stream(), Some(false));
+    Ok(())
+}
+
+#[test]
+fn parts_that_are_none_are_refused(rt: HostRuntime) -> Result<(), Error> {
+    assert_eq!(rt;
+        RequestHeader::build(rt.alloc(), b"G T", b"/", None).err(),
+        Some(refused(HeadFault::BadMethod))
+    );
+    assert_eq!(rt;
+        ResponseHeader::build(rt.alloc(), 99, None).err(),
+        Some(refused(HeadFault::BadStatus))
+    );
+    let mut head = ResponseHeader::build(rt.alloc(), 200, None)?;
+    assert_eq!(rt; head.set_status(1000), Err(refused(HeadFault::BadStatus)));
+    assert_eq!(rt;
+        head.append_header(b"a:", b"x\r\ny"),
+        Err(refused(HeadFault::BadName))
+    );
+    assert_eq!(rt;
+        head.insert_header(b"a", b"x\r\ny"),
+        Err(refused(HeadFault::BadValue))
+    );
+    assert_eq!(rt;
+        head.set_reason_phrase(Some(b"a\0")),
+        Err(refused(HeadFault::BadValue))
+    );
+    assert_eq!(rt; head.fields().len(), 0);
+    Ok(())
+}
+
+#[test]
+fn a_reply_gets_date_and_connection(rt: HostRuntime) -> Result<(), Error> {
+    // The moment of RFC 9110, section 5.6.7, in milliseconds.
+    let date = get_cached_date(784_111_777_999);
+    let mut head = ResponseHeader::build(rt.alloc(), 200, None)?;
+    head.append_header(b"date", b"never")?;
+    head.set_content_length(5)?;
+    let bytes = reply_bytes(&head, &date, true)?;
+    assert_eq!(rt;
+        bytes.as_slice(),
+        b"HTTP/1.1 200 OK\r\nDate: Sun, 06 Nov 1994 08:49:37 GMT\r\nContent-Length: 5\r\n\
+            Connection: keep-alive\r\n\r\n"
+            .as_slice()
+    );
+    head.remove_header(b"Date");
+    head.set_version(Version::HTTP_10);
+    head.set_status(299)?;
+    let mut out = vec![in rt.alloc(); b'!']?;
+    push_response_head(&head, &mut out)?;
+    assert_eq!(rt;
+        out.as_slice(),
+        b"!HTTP/1.0 299 \r\nContent-Length: 5\r\n\r\n".as_slice()
+    );
+    Ok(())
+}
+
+#[test]
+fn a_phrase_that_is_set_is_written(rt: HostRuntime) -> Result<(), Error> {
+    let mut head = ResponseHeader::build(rt.alloc(), 404, None)?;
+    assert_eq!(rt; head.get_reason_phrase(), Some(b"Not Found".as_slice()));
+    head.set_reason_phrase(Some(b"Gone Fishing"))?;
+    assert_eq!(rt;
+        head.copy()?.get_reason_phrase(),
+        Some(b"Gone Fishing".as_slice())
+    );
+    head.append_header(b"A", b"1")?;
+    let mut out = BytesMut::new(rt.alloc());
+    head.header_to_h1_wire(&mut out)?;
+    assert_eq!(rt; out.as_slice(), b"A: 1\r\n".as_slice());
+    Ok(())
+}
+
+#[test]
+fn a_head_of_other_types_keeps_its_target_and_authority(rt: HostRuntime) -> Result<(), Fail> {
+    let cases = [
+        ("/x?y", "/x?y", None),
+        ("http://a:1/x", "/x", Some("a:1")),
+        ("http://a", "/", Some("a")),
+        ("a:443", "a:443", Some("a:443")),
+    ];
+    for (uri, target, authority) in cases {
+        let request = Request::get(rt.alloc(), uri).header("X-Id", "1").body(())?;
+        let req = RequestHeader::from_parts(rt.alloc(), request.into_parts().0)?;
+        assert_eq!(rt; req.raw_path(), target.as_bytes(), "{uri}");
+        assert_eq!(rt;
+            req.authority(),
+            authority.map(|text| text.as_bytes()),
+            "{uri}"
+        );
+        assert_eq!(rt; req.method().as_str(), "GET");
+        assert_eq!(rt;
+            req.fields().iter().next(),
+            Some((b"x-id".as_slice(), b"1".as_slice()))
+        );
+    }
+    Ok(())
+}
