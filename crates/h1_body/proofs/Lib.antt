@@ -1,0 +1,15 @@
+pub mod ChunkFronts
+pub mod Completing
+pub mod CountedLemmas
+pub mod EndingLemmas
+pub mod FeedLemmas
+pub mod GrammarRuns
+pub mod LawLemmas
+pub mod MachineLemmas
+pub mod ReadLemmas
+pub mod RunLemmas
+pub mod SoundLemmas
+pub mod TrailerFronts
+pub mod TrailerRuns
+pub mod WireLemmas
+pub mod WrittenLemmas

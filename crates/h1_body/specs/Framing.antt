@@ -1,0 +1,33 @@
+-- How the end of a message's body is found (RFC 9112, section 6.3).
+use Rattle.std.specs.Prelude.{ℕ, Bool, ◌||◌, ◌==◌, List, codes, bytes_eq, if◌then◌else◌}
+use Rattle.h1_fields.specs.Lines.{Line}
+use Rattle.h1_fields.specs.Codings.{is_chunked_last}
+use Rattle.h1_fields.specs.ContentLength.{content_length}
+use Rattle.h1_fields.specs.declared.content_length.ContentLength.{ContentLength}
+use Rattle.h1_fields.specs.declared.content_length.ContentLength.TheVariants as stated
+use Rattle.h1_head.specs.Views.{RequestView, ResponseView}
+use Rattle.h1_body.specs.declared.framing.Framing.{Framing}
+use Rattle.h1_body.specs.declared.framing.Framing.TheVariants.{Counted, Chunked, UntilClose}
+
+-- a stated length, or this framing where none is stated as one number
+abbrev pub by_length : Framing → ContentLength → Framing
+by_length otherwise (stated.Number n) = Counted n
+by_length otherwise stated.Absent = otherwise
+by_length otherwise stated.Bad = otherwise
+
+-- the last coding decides, then the length
+abbrev pub by_fields : Framing → List Line → Framing
+by_fields otherwise fields =
+    if is_chunked_last fields then Chunked else by_length otherwise (content_length fields)
+
+-- a request with neither has no body
+abbrev pub framing : RequestView → Framing
+framing head = by_fields (Counted 0) head.fields
+
+-- a reply to HEAD, and one of status 204 or 304, has no body
+abbrev pub has_no_body : List ℕ → ℕ → Bool
+has_no_body method status = bytes_eq method (codes "HEAD") || status == 204 || status == 304
+
+-- a reply with neither ends where the link does
+abbrev pub out : List ℕ → ResponseView → Framing
+out method head = if has_no_body method head.status then Counted 0 else by_fields UntilClose head.fields

@@ -1,0 +1,12 @@
+pub mod Body
+pub mod ChunkedBody
+pub mod Chunks
+pub mod Feeds
+pub mod Fixed
+pub mod Laws
+pub mod Memory
+pub mod Read
+pub mod Reader
+pub mod Writer
+pub mod Written
+pub mod Framing

@@ -1,0 +1,29 @@
+//! Bodies of HTTP/1 messages: how they are framed, read from pieces of any size, and written
+//! (RFC 9112, sections 6 and 7).
+#![tactic(auto)]
+
+mod body_bytes;
+mod chunking;
+mod fed;
+mod fixed_buffer;
+mod framing;
+mod laws;
+mod reader;
+mod size_line;
+#[cfg(test)]
+mod tests;
+mod wire;
+mod writer;
+
+pub use body_bytes::BodyBytes;
+pub use chunking::{CHUNK_LIMIT, Chunking, SIZE_LINE_LIMIT, TRAILERS_LIMIT};
+pub use fed::{Fed, FeedState};
+pub use fixed_buffer::FixedBuffer;
+pub use framing::{Framing, framing_of, reply_framing};
+pub use laws::{
+    bodies_grow, chunked_is_the_grammar, no_chunked_body_begins_another, readings_join,
+    written_bodies_are_read_back,
+};
+pub use reader::{BodyReader, Reading};
+pub use wire::Wire;
+pub use writer::BodyWriter;

@@ -1,0 +1,157 @@
+//! Reading a body from pieces of any size (RFC 9112, sections 6 and 7.1).
+ghost use Rattle.std.specs.Prelude.{◌≡◌, ◌++◌, ℕ, List, [], true, false, slice_range, IfOk, IfErr};
+ghost use Rattle.h1_body.specs.Memory.{no_memory};
+ghost use Rattle.h1_body.specs.Body.{stop_of, whole, unfinished};
+ghost use Rattle.h1_body.specs.Chunks.{chunked};
+ghost use Rattle.h1_body.specs.Reader.{body, counted, reads, closes_with_link, is_until_close};
+ghost use Rattle.h1_body.specs.Feeds.{Feeds};
+ghost use Rattle.h1_body.specs.declared.fed.FeedState.TheVariants as state;
+
+use crate::chunking::{Chunking, state_of, step};
+use crate::{BodyBytes, Fed, FeedState, Framing};
+use h1_error::Error;
+
+/// Reads the payload out of the bytes of one body.
+#[derive(Clone, Copy, Debug, PartialEq, Eq)]
+pub struct BodyReader {
+    reading: Reading,
+}
+
+/// Where a reader stands in its body.
+#[derive(Clone, Copy, Debug, PartialEq, Eq)]
+pub enum Reading {
+    /// So many bytes of the body are still to come.
+    Counted(u64),
+    /// In a chunked body.
+    Chunked(Chunking),
+    /// In a body that ends where the link does.
+    UntilClose,
+    /// Behind a body that ended where the link did.
+    Ended,
+}
+
+impl BodyReader {
+    /// A reader in front of a body.
+    pub fn new(framing: Framing) -> Self
+        ensures reads { (bytes : List ℕ) → reads result bytes ≡ body framing bytes }
+        ensures closes { closes_with_link result ≡ is_until_close framing }
+    {
+        let reading = match framing {
+            Framing::Counted(n) => Reading::Counted(n),
+            Framing::Chunked => Reading::Chunked(Chunking::Start),
+            Framing::UntilClose => Reading::UntilClose,
+        };
+        BodyReader { reading }
+    }
+
+    /// The state of all bytes used so far.
+    pub fn state(&self) -> FeedState
+        ensures { stop_of result ≡ reads self.now [] }
+    {
+        match self.reading {
+            Reading::Counted(0) | Reading::Ended => FeedState::Done,
+            Reading::Counted(_) | Reading::UntilClose => FeedState::More,
+            Reading::Chunked(place) => state_of(place),
+        }
+    }
+
+    /// Takes the bytes of a piece through the end of the first run of payload in it.
+    pub fn feed(&mut self, piece: &[u8]) -> Fed
+        ensures feeds { Feeds (reads self.old) (reads self.new) piece.now result }
+        ensures closes { closes_with_link self.new ≡ closes_with_link self.old }
+    {
+        match self.reading {
+            Reading::Counted(left) => {
+                let (left, fed) = feed_counted(left, piece);
+                self.reading = Reading::Counted(left);
+                fed
+            }
+            Reading::Chunked(place) => {
+                let (place, fed) = feed_chunks(place, piece);
+                self.reading = Reading::Chunked(place);
+                fed
+            }
+            Reading::UntilClose => feed_all(piece),
+            Reading::Ended => feed_none(piece),
+        }
+    }
+
+    /// Feeds a piece, and adds its payload to what is kept. Where there is no memory for it, the
+    /// piece isn't fed.
+    pub fn feed_into(&mut self, piece: &[u8], kept: &mut BodyBytes) -> Result<Fed, Error>
+        ensures ok { IfOk result (λ fed. Feeds (reads self.old) (reads self.new) piece.now fed
+            × (kept.new ≡ kept.old ++ slice_range piece.now fed.payload.start fed.payload.end)) }
+        ensures err { IfErr result (λ error. (error ≡ no_memory)
+            × (self.new ≡ self.old) × (kept.new ≡ kept.old)) }
+        ensures closes { closes_with_link self.new ≡ closes_with_link self.old }
+    {
+        let mut next = *self;
+        let fed = next.feed(piece);
+        kept.append(&piece[fed.payload.start..fed.payload.end])?;
+        *self = next;
+        Ok(fed)
+    }
+
+    /// Says what the end of the link makes of the body: `More` means that the body is cut.
+    pub fn ended(&mut self) -> FeedState
+        ensures closed { closes_with_link self.old ≡ true
+            → (result ≡ state.Done) × (closes_with_link self.new ≡ false)
+            × ((bytes : List ℕ) → reads self.new bytes ≡ whole [] 0) }
+        ensures otherwise { closes_with_link self.old ≡ false
+            → (stop_of result ≡ reads self.old []) × (self.new ≡ self.old) }
+    {
+        if let Reading::UntilClose = self.reading {
+            self.reading = Reading::Ended;
+        }
+        self.state()
+    }
+}
+
+fn feed_counted(left: u64, piece: &[u8]) -> (u64, Fed)
+    ensures { Feeds (counted left) (counted result.0) piece.now result.1 }
+{
+    if left <= piece.len() as u64 {
+        return (0, Fed::of(0, left as usize, FeedState::Done));
+    }
+    let used = piece.len();
+    (left - used as u64, Fed::of(0, used, FeedState::More))
+}
+
+fn feed_all(piece: &[u8]) -> Fed
+    ensures { Feeds unfinished unfinished piece.now result }
+{
+    Fed::of(0, piece.len(), FeedState::More)
+}
+
+fn feed_none(piece: &[u8]) -> Fed
+    ensures { Feeds (λ _. whole [] 0) (λ _. whole [] 0) piece.now result }
+{
+    let _ = piece;
+    Fed::of(0, 0, FeedState::Done)
+}
+
+fn feed_chunks(start: Chunking, piece: &[u8]) -> (Chunking, Fed)
+    ensures { Feeds (chunked start) (chunked result.0) piece.now result.1 }
+{
+    let mut place = start;
+    for (at, byte) in piece.iter().enumerate() {
+        match place {
+            // All data that are left, or all that the piece holds.
+            Chunking::Data(more) => {
+                let room = (piece.len() - at) as u64;
+                if more < room {
+                    let end = at + more as usize + 1;
+                    return (Chunking::DataCr, Fed::of(at, end, FeedState::More));
+                }
+                let place = Chunking::Data(more - room);
+                return (place, Fed::of(at, piece.len(), FeedState::More));
+            }
+            Chunking::Done | Chunking::Broken => {
+                return (place, Fed::of(at, at, state_of(place)));
+            }
+            _ => place = step(place, *byte),
+        }
+    }
+    let end = piece.len();
+    (place, Fed::of(end, end, state_of(place)))
+}
