@@ -1,0 +1,15 @@
+-- What is owed is sent from its front.
+use Rattle.std.proofs.Common.{◌≡◌}
+use Rattle.h1_server.specs.Moved.{Sent}
+use Rattle.h1_server.specs.Writing.{sent_after}
+use Rattle.h1_server.proofs.sending.send.Given as goal
+
+abbrev pub invariant-sends : goal.invariant-sends
+invariant-sends g l = record {
+  moved : Sent (g.L.Link.state l.fn.link) (g.L.Link.state l.link) l.fn.owed l.owed l.fn.budget l.budget;
+  counted : l.sent ≡ sent_after l.fn.sent l.fn.owed l.owed;
+  plan : g.L.Link.same_plan l.fn.link l.link;
+}
+
+abbrev pub decreases-sends : goal.decreases-sends
+decreases-sends g l = l.budget

@@ -1,0 +1,11 @@
+-- The setting of keep-alive (RFC 9112, section 9.3).
+use Rattle.std.specs.Prelude.{ℕ, true, false, Option, Some, None, if◌then◌else◌}
+use Rattle.h1_server.specs.declared.settings.Settings.{Settings}
+
+-- None turns keep-alive off; a number turns it on and is the deadline of the next head
+abbrev pub keepalive_set : Settings → Option ℕ → Settings
+keepalive_set settings None = record settings { keep_off = true }
+keepalive_set settings (Some seconds) = record settings { keep_off = false; keepalive = seconds }
+
+abbrev pub keepalive_timeout : Settings → Option ℕ
+keepalive_timeout settings = if settings.keep_off then None else Some settings.keepalive

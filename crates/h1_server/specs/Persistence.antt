@@ -1,0 +1,23 @@
+-- When a connection persists behind a reply (RFC 9112, section 9.3).
+use Rattle.std.specs.Prelude.{Bool, true, false, ◌&&◌, ◌||◌, not, is_none, []}
+use Rattle.h1_body.specs.Body.{Body, whole, unfinished, broken}
+use Rattle.h1_body.specs.Reader.{reads}
+use Rattle.h1_server.specs.declared.body.BodyState.{BodyState}
+use Rattle.h1_server.specs.declared.settings.Settings.{Settings}
+
+-- nothing may follow
+abbrev pub is_whole : Body → Bool
+is_whole (whole payload used) = true
+is_whole (unfinished payload) = false
+is_whole (broken payload) = false
+
+-- the request's body was read to its end, and nothing failed in it
+abbrev pub is_body_whole : BodyState → Bool
+is_body_whole body = is_whole (reads body.reader []) && is_none body.refused
+
+-- The flag of a final header: the request wishes it, keep-alive is not off, and the request's body
+-- is whole, or it may still be read behind the reply.
+abbrev pub keep_flag : Bool → Settings → BodyState → Bool
+keep_flag wish settings body =
+    wish && not settings.keep_off
+    && (is_body_whole body || (not settings.closing && is_none body.refused))

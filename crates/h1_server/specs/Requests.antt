@@ -1,0 +1,82 @@
+-- Reading a request's head (RFC 9112, sections 2.2 and 3).
+use Rattle.std.specs.Prelude.{◌≡◌, ℕ, ◌<◌, ◌⊎◌, List, [], length, drop, true, false, not, Option, Some, None, option_map, Result, Ok, Err}
+use Rattle.futures.specs.declared.task.Poll.{Poll}
+use Rattle.futures.specs.declared.task.Poll.TheVariants.{Ready, Pending}
+use Rattle.h1_error.specs.declared.error.Error.{Error}
+use Rattle.h1_error.specs.declared.error.ErrorType.{ErrorType}
+use Rattle.h1_error.specs.declared.error.ErrorType.TheVariants as kind
+use Rattle.h1_link.specs.LinkState.{LinkState}
+use Rattle.h1_link.specs.Counts.{Rose}
+use Rattle.h1_head.specs.RequestHead.{HeadAt, RefusedAt, NotYetAt}
+use Rattle.h1_head.specs.Wish.{wish}
+use Rattle.h1_body.specs.Reader.{body, reads}
+use Rattle.h1_server.specs.Moved.{Received}
+use Rattle.h1_body.specs.Framing.{framing}
+use Rattle.h1_server.specs.SessionView.{SessionView, allowance}
+use Rattle.h1_server.specs.declared.request.Request.{Request}
+use Rattle.h1_server.specs.declared.request.ReadRequest.{ReadRequest}
+use Rattle.h1_server.specs.declared.request.ReadRequest.TheVariants as read
+use Rattle.h1_server.specs.declared.request.NoRequest.TheVariants.{Closed, IdleTimeout}
+
+-- the head that was read and what follows from it: its wish, and the framing of its body
+pub record IsRequestOf (bytes : List ℕ) (used : ℕ) (request : Request) : Type 0 where
+  pub head : HeadAt bytes used request.header request.both
+  pub framed : request.framing ≡ framing request.header
+  pub wishes : request.wish ≡ wish request.header request.both
+
+-- a head was read: its bytes are used, and the body behind it is still to be read
+pub record BeginsRequest {L : Type 0} (old new : SessionView L) (bytes : List ℕ) (request : Request) (n : ℕ) : Type 0 where
+  pub used : ℕ
+  pub is : IsRequestOf bytes used request
+  pub received : new.received ≡ drop used bytes
+  pub raw : n ≡ length request.raw
+  pub reader : (rest : List ℕ) → reads new.body.reader rest ≡ body request.framing rest
+  pub body : new.body ≡ record old.body { reader = new.body.reader; refused = None }
+  pub keep_off : new.settings ≡ record old.settings { keep_off = not request.wish }
+  pub refused : new.refused ≡ None
+
+-- no head was read: the bytes are kept
+pub record BeginsNone {L : Type 0} (old new : SessionView L) (bytes : List ℕ) : Type 0 where
+  pub request : new.request ≡ None
+  pub received : new.received ≡ bytes
+  pub body : new.body ≡ old.body
+  pub settings : new.settings ≡ old.settings
+
+-- when each refusal comes, with the bytes that are received and not used then
+abbrev pub HeadRefusal : LinkState → LinkState → List ℕ → ErrorType → Type 0
+HeadRefusal before now bytes (kind.InvalidHTTPHeader fault) = RefusedAt bytes fault
+HeadRefusal before now bytes kind.ConnectionClosed = (now.ended ≡ true) × NotYetAt bytes × (0 < length bytes)
+HeadRefusal before now bytes kind.ReadError = Rose before.read_faults now.read_faults
+HeadRefusal before now bytes kind.NoMemory = Unit {0}
+HeadRefusal before now bytes _ = ⊥
+
+-- every refusal but want of memory is answered again
+abbrev pub refused_for_good : Error → Option Error
+refused_for_good error = kept_refusal error error.kind where
+  kept_refusal : Error → ErrorType → Option Error
+  kept_refusal error kind.NoMemory = None
+  kept_refusal error _ = Some error
+
+abbrev pub HeadAnswer : {L : Type 0} → (L → LinkState) → SessionView L → SessionView L → List ℕ → ℕ → Poll (Result ReadRequest Error) → Type 0
+HeadAnswer state old new bytes left (Ready (Ok (read.Head n))) =
+    (request : Request) × (new.request ≡ Some request) × BeginsRequest old new bytes request n
+    × ((state new.link).read_waits ≡ (state old.link).read_waits)
+HeadAnswer state old new bytes left (Ready (Ok (read.None Closed))) =
+    BeginsNone old new bytes × (new.refused ≡ None) × ((state new.link).ended ≡ true) × (bytes ≡ [])
+HeadAnswer state old new bytes left (Ready (Ok (read.None IdleTimeout))) = ⊥
+HeadAnswer state old new bytes left (Ready (Err error)) =
+    BeginsNone old new bytes × (new.refused ≡ refused_for_good error)
+    × HeadRefusal (state old.link) (state new.link) bytes error.kind × (error.retry ≡ false)
+HeadAnswer state old new bytes left Pending =
+    BeginsNone old new bytes × (new.refused ≡ None) × NotYetAt bytes
+    × (Rose (state old.link).read_waits (state new.link).read_waits ⊎ (left ≡ 0))
+
+-- one call that reads a head
+pub record ReadsRequest {L : Type 0} (state : L → LinkState) (old new : SessionView L) (outcome : Poll (Result ReadRequest Error)) : Type 0 where
+  -- the bytes that are received and not used, before the head is taken
+  pub bytes : List ℕ
+  pub left : ℕ
+  pub received : Received (state old.link) (state new.link) old.received bytes (allowance old.budget) left
+  pub budget : new.budget ≡ option_map (λ _. left) old.budget
+  pub reply : new.reply ≡ old.reply
+  pub answer : HeadAnswer state old new bytes left outcome

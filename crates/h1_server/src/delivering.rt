@@ -1,0 +1,86 @@
+//! Delivering the write that is in progress: sending what is owed, and flushing it.
+ghost use Rattle.std.specs.Prelude.{◌≡◌, [], Some, false};
+ghost use Rattle.h1_server.specs.Moved.{Moved, Sent};
+ghost use Rattle.h1_server.specs.Writing.{DeliveryAnswer, FlushCause, with_count};
+ghost use Rattle.h1_server.specs.declared.reply.Step.TheVariants.{Free};
+ghost use Rattle.h1_error.specs.declared.error.ErrorType.TheVariants.{WriteError};
+
+use crate::sending::{Sending, send};
+use crate::{ReplyState, Step};
+use futures::task::Poll;
+use h1_error::{Error, ErrorType};
+use h1_link::{FlushStep, Link};
+
+/// What a write asks for.
+#[derive(Clone, Copy, Debug, PartialEq, Eq)]
+pub(crate) enum Delivery {
+    /// The link takes all bytes.
+    Sent,
+    /// The link takes all bytes and flushes them.
+    Flushed,
+}
+
+/// Goes on with the write that is in progress, and ends it where all of it is delivered.
+pub(crate) fn deliver<L: Link>(
+    link: &mut L,
+    reply: &mut ReplyState,
+    how: Delivery,
+    budget: &mut u32,
+) -> Poll<Result<(), Error>>
+    ensures sent { Sent (L.state link.old) (L.state link.new) reply.old.owed reply.new.owed budget.old budget.new }
+    ensures answer { DeliveryAnswer how (L.state link.old) (L.state link.new) reply.old reply.new budget.new result }
+    ensures plan { L.same_plan link.old link.new }
+{
+    match send(link, &mut reply.owed, &mut reply.sent, budget) {
+        Sending::All => {}
+        Sending::NotReady => return Poll::Pending,
+        Sending::Spent => return Poll::Pending,
+        Sending::Failed => return Poll::Ready(Err(refuse(reply))),
+        Sending::NoMemory => return Poll::Ready(Err(Error::from(ErrorType::NoMemory))),
+    }
+    match flush(link, how) {
+        FlushStep::Done => {
+            reply.step = Step::Free;
+            Poll::Ready(Ok(()))
+        }
+        FlushStep::NotReady => Poll::Pending,
+        FlushStep::Failed => Poll::Ready(Err(refuse(reply))),
+    }
+}
+
+/// Flushes the link where that is asked for.
+fn flush<L: Link>(link: &mut L, how: Delivery) -> FlushStep
+    ensures moved { Moved (L.state link.old) (L.state link.new) [] [] 0 }
+    ensures cause { FlushCause how (L.state link.old) (L.state link.new) result }
+    ensures plan { L.same_plan link.old link.new }
+{
+    match how {
+        Delivery::Sent => FlushStep::Done,
+        Delivery::Flushed => link.poll_flush(),
+    }
+}
+
+/// Ends the write that is in progress with a fault of the link, which each later write answers.
+fn refuse(reply: &mut ReplyState) -> Error
+    ensures error { result ≡ record { kind = WriteError; retry = false } }
+    ensures refused { reply.new ≡ record reply.old { step = Free; refused = Some result } }
+{
+    let error = Error::from(ErrorType::WriteError);
+    reply.step = Step::Free;
+    reply.refused = Some(error);
+    error
+}
+
+/// The answer of a write that says a count once it is delivered.
+pub(crate) fn with_count(
+    answer: Poll<Result<(), Error>>,
+    count: Option<usize>,
+) -> Poll<Result<Option<usize>, Error>>
+    ensures { result ≡ with_count answer count }
+{
+    match answer {
+        Poll::Ready(Ok(())) => Poll::Ready(Ok(count)),
+        Poll::Ready(Err(error)) => Poll::Ready(Err(error)),
+        Poll::Pending => Poll::Pending,
+    }
+}

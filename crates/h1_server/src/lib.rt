@@ -1,0 +1,26 @@
+//! The server's side of one HTTP/1 exchange over a link (RFC 9112).
+#![tactic(auto)]
+
+mod body;
+mod budget;
+mod delivering;
+mod persistence;
+mod reading_body;
+mod reading_head;
+mod receiving;
+mod reply;
+mod request;
+mod sending;
+mod server;
+mod settings;
+mod taking;
+mod taking_up;
+#[cfg(test)]
+mod tests;
+
+pub use body::BodyState;
+pub use budget::CALL_BUDGET;
+pub use reply::{ReplyState, Step};
+pub use request::{NoRequest, ReadRequest, Request};
+pub use server::HttpSession;
+pub use settings::Settings;

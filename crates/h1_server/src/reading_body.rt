@@ -1,0 +1,63 @@
+//! Reading a part of a request's body off the link (RFC 9112, section 6).
+ghost use Rattle.std.specs.Prelude.{◌≡◌, ◌-◌};
+ghost use Rattle.h1_server.specs.Decoding.{ReadsBody, BodyCause, payload_of};
+
+use crate::receiving::{Filled, fill};
+use crate::taking::{Taken, take};
+use bytes::{Bytes, BytesMut};
+use h1_body::{BodyBytes, BodyReader};
+use h1_link::Link;
+use std::alloc::Global;
+
+/// What reading a part of a body came to.
+#[derive(Drop)]
+pub(crate) enum BodyRead {
+    /// Payload, which is not empty.
+    Piece(Bytes),
+    /// The body is at its end.
+    Done,
+    /// The bytes of the body are none that its framing allows.
+    Broken,
+    /// The link ended inside the body.
+    Cut,
+    NotReady,
+    /// No further link call may move bytes.
+    Spent,
+    Failed,
+    NoMemory,
+}
+
+/// Reads until payload is there, the body ends or reading can't go on. What is received already
+/// is used before the first read.
+pub(crate) fn read_body<L: Link>(
+    alloc: Global,
+    link: &mut L,
+    received: &mut BytesMut,
+    reader: &mut BodyReader,
+    kept: &mut Option<BodyBytes>,
+    budget: &mut u32,
+) -> BodyRead
+    ensures reads { ReadsBody (L.state link.old) (L.state link.new) received.old.items received.new.items reader.old reader.new kept.old kept.new budget.old budget.new (payload_of result) }
+    ensures cause { BodyCause (L.state link.old) (L.state link.new) reader.new received.new.items (payload_of result) budget.new result }
+    ensures plan { L.same_plan link.old link.new }
+{
+    'reads: loop {
+        match take(alloc, received, reader, kept) {
+            Ok(Taken::Piece(bytes)) => return BodyRead::Piece(bytes),
+            Ok(Taken::Done) => return BodyRead::Done,
+            Ok(Taken::Broken) => return BodyRead::Broken,
+            Ok(Taken::Lacks) => {}
+            Err(_) => return BodyRead::NoMemory,
+        }
+        if *budget == 0 {
+            return BodyRead::Spent;
+        }
+        match fill(link, received) {
+            Filled::Got => *budget -= 1,
+            Filled::End => return BodyRead::Cut,
+            Filled::NotReady => return BodyRead::NotReady,
+            Filled::Failed => return BodyRead::Failed,
+            Filled::NoMemory => return BodyRead::NoMemory,
+        }
+    }
+}

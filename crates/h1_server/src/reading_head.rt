@@ -1,0 +1,66 @@
+//! Reading a request's head off the link (RFC 9112, sections 2.2 and 3).
+ghost use Rattle.std.specs.Prelude.{◌≡◌, ◌<◌, ◌-◌};
+ghost use Rattle.h1_server.specs.Moved.{Received};
+ghost use Rattle.h1_server.specs.Reading.{HeadCause};
+ghost use Rattle.h1_cut.specs.Search.{HasLooked};
+ghost use Rattle.h1_head.specs.declared.limits.TheConstants.{MAX_HEADER_SIZE};
+
+use crate::receiving::{Filled, fill};
+use bytes::BytesMut;
+use h1_error::HeadFault;
+use h1_head::{HeadSearch, HeadStep, RequestHead, search_request_head};
+use h1_link::Link;
+use std::alloc::Global;
+
+/// What reading a head came to.
+#[derive(Drop)]
+pub(crate) enum HeadRead {
+    /// The head, and how many of the received bytes it takes.
+    Whole(RequestHead, usize),
+    Refused(HeadFault),
+    /// The link ended, and no byte was received.
+    Closed,
+    /// The link ended inside a head.
+    Cut,
+    NotReady,
+    /// No further link call may move bytes.
+    Spent,
+    Failed,
+    NoMemory,
+}
+
+/// Reads until a head is whole, is refused or can't go on. What is received already is judged
+/// before the first read.
+pub(crate) fn read_head<L: Link>(
+    alloc: Global,
+    link: &mut L,
+    received: &mut BytesMut,
+    search: &mut HeadSearch,
+    budget: &mut u32,
+) -> HeadRead
+    requires { HasLooked MAX_HEADER_SIZE search.old received.old.items }
+    ensures received { Received (L.state link.old) (L.state link.new) received.old.items received.new.items budget.old budget.new }
+    ensures cause { HeadCause (L.state link.old) (L.state link.new) received.new.items budget.new result }
+    ensures looked { HasLooked MAX_HEADER_SIZE search.new received.new.items }
+    ensures plan { L.same_plan link.old link.new }
+{
+    'reads: loop {
+        match search_request_head(alloc, search, received.as_slice()) {
+            Ok(HeadStep::Whole(head, used)) => return HeadRead::Whole(head, used),
+            Ok(HeadStep::Refused(fault)) => return HeadRead::Refused(fault),
+            Ok(HeadStep::NotYet) => {}
+            Err(_) => return HeadRead::NoMemory,
+        }
+        if *budget == 0 {
+            return HeadRead::Spent;
+        }
+        match fill(link, received) {
+            Filled::Got => *budget -= 1,
+            Filled::End if received.is_empty() => return HeadRead::Closed,
+            Filled::End => return HeadRead::Cut,
+            Filled::NotReady => return HeadRead::NotReady,
+            Filled::Failed => return HeadRead::Failed,
+            Filled::NoMemory => return HeadRead::NoMemory,
+        }
+    }
+}

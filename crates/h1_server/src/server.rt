@@ -1,0 +1,255 @@
+//! The session: one exchange over a link, call by call.
+ghost use Rattle.std.specs.Prelude.{◌≡◌, ◌↔◌, [], IsTrue, IsSome, IfSome, None, Some, true, false, is_some, MatchOption, IsOkAnd};
+ghost use Rattle.h1_link.specs.Steps.{after_shutdown};
+ghost use Rattle.h1_link.specs.Later.{KeepsBytes};
+ghost use Rattle.std.specs.Fn.{FnOnceTakesAtMut, FnOnceReturnsAtMut};
+ghost use Rattle.h1_server.specs.Keepalive.{keepalive_set, keepalive_timeout};
+
+use crate::persistence::is_at_end;
+use crate::settings::with_keepalive;
+use crate::{BodyState, ReplyState, Request, Settings, Step};
+use bytes::BytesMut;
+use h1_body::BodyBytes;
+use h1_error::Error;
+use h1_head::{HeadSearch, RequestHeader};
+use h1_link::Link;
+use std::alloc::Global;
+use std::marker::Model;
+use std::mem;
+
+mod replies;
+mod requests;
+
+/// A server's session for one request and its reply over a link.
+#[derive(Drop)]
+pub struct HttpSession<L: Link + Drop, C: Drop> {
+    alloc: Global,
+    link: L,
+    received: BytesMut,
+    /// The search for the end of the head among the received bytes, until a head is read.
+    search: HeadSearch,
+    request: Option<Request>,
+    refused: Option<Error>,
+    body: BodyState,
+    reply: ReplyState,
+    settings: Settings,
+    budget: Option<u32>,
+    context: Option<C>,
+}
+
+impl<L: Link + Drop, C: Drop> Model for HttpSession<L, C> {
+    ghost use Rattle.h1_server.specs.SessionView.{SessionView, Settled, IsSearched};
+
+    ghost Value = { SessionView L };
+
+    ghost view = { λ s. record { link = s.link; received = s.received.items; request = s.request; refused = s.refused; body = s.body; reply = s.reply; settings = s.settings; budget = s.budget } };
+
+    ghost invariant = { λ s. record { settled : Settled s.reply; searched : IsSearched s.request s.search s.received.items } };
+}
+
+impl<L: Link + Drop, C: Drop> HttpSession<L, C> {
+    ghost use Rattle.h1_server.specs.SessionView.{IsNewSession};
+    ghost use Rattle.h1_server.specs.declared.reply.Step.TheVariants.{Free};
+    ghost use Rattle.h1_server.specs.Persistence.{is_whole};
+    ghost use Rattle.h1_body.specs.Reader.{reads};
+
+    /// A session over a link. Keep-alive is off until a head is read.
+    pub fn new(alloc: Global, link: L) -> Result<Self, Error>
+        ensures { IsOkAnd result (IsNewSession link) }
+    {
+        Ok(HttpSession {
+            alloc,
+            link,
+            received: BytesMut::new(alloc),
+            search: HeadSearch::new(),
+            request: None,
+            refused: None,
+            body: BodyState::new(),
+            reply: ReplyState::new(),
+            settings: Settings::new(),
+            budget: None,
+            context: None,
+        })
+    }
+
+    /// Whether the head of the request was read.
+    pub fn has_request(&self) -> bool
+        ensures { result ≡ is_some self.now.request }
+    {
+        self.request.is_some()
+    }
+
+    /// The request, once its head was read.
+    pub fn request(&self) -> Option<&Request>
+        ensures { MatchOption result (self.now.request ≡ None) (λ request. self.now.request ≡ Some request.now) }
+    {
+        self.request.as_ref()
+    }
+
+    /// The head of the request.
+    pub fn req_header(&self) -> &RequestHeader
+        requires { IsSome self.now.request }
+        ensures { IfSome self.now.request (λ request. result.now ≡ request.header) }
+    {
+        match &self.request {
+            Some(request) => &request.header,
+            None => unreachable!(),
+        }
+    }
+
+    /// Whether no write is in progress.
+    pub fn is_free(&self) -> bool
+        ensures { IsTrue result ↔ (self.now.reply.step ≡ Free) }
+    {
+        self.reply.step == Step::Free
+    }
+
+    /// Turns keep-alive off, or sets the deadline of the next head in seconds, of which 0 is none.
+    pub fn set_server_keepalive(&mut self, seconds: Option<u64>)
+        ensures { self.new ≡ record self.old { settings = keepalive_set self.old.settings seconds } }
+    {
+        self.settings = with_keepalive(self.settings, seconds);
+    }
+
+    /// The deadline of the next head in seconds, of which 0 is none; None where keep-alive is off.
+    pub fn get_keepalive_timeout(&self) -> Option<u64>
+        ensures { result ≡ keepalive_timeout self.now.settings }
+    {
+        if self.settings.keep_off {
+            None
+        } else {
+            Some(self.settings.keepalive)
+        }
+    }
+
+    /// Whether bytes behind the request begin the next one.
+    pub fn pipelining_enabled(&self) -> bool
+        ensures { result ≡ self.now.settings.pipelining }
+    {
+        self.settings.pipelining
+    }
+
+    pub fn set_pipelining_enabled(&mut self, enabled: bool)
+        ensures { self.new ≡ record self.old { settings = record self.old.settings { pipelining = enabled } } }
+    {
+        self.settings.pipelining = enabled;
+    }
+
+    /// Sets how many link calls that move bytes all calls together may make from here on; with
+    /// None each call has a budget of its own.
+    pub fn set_poll_budget(&mut self, budget: Option<u32>)
+        ensures { self.new ≡ record self.old { budget = budget } }
+    {
+        self.budget = budget;
+    }
+
+    pub fn poll_budget(&self) -> Option<u32>
+        ensures { result ≡ self.now.budget }
+    {
+        self.budget
+    }
+
+    /// From here on all payload that is read is kept behind these bytes.
+    pub fn keep_payload(&mut self, kept: BodyBytes)
+        ensures { self.new ≡ record self.old { body = record self.old.body { kept = Some kept } } }
+    {
+        self.body.kept = Some(kept);
+    }
+
+    /// Hands out the payload that was kept, and keeps none from here on.
+    pub fn take_payload(&mut self) -> Option<BodyBytes>
+        ensures taken { result ≡ self.old.body.kept }
+        ensures rest { self.new ≡ record self.old { body = record self.old.body { kept = None } } }
+    {
+        self.body.kept.take()
+    }
+
+    /// Whether a read of the body was pending since this was last asked.
+    pub fn take_waits(&mut self) -> bool
+        ensures asked { result ≡ self.old.body.waits }
+        ensures rest { self.new ≡ record self.old { body = record self.old.body { waits = false } } }
+    {
+        mem::replace(&mut self.body.waits, false)
+    }
+
+    /// Whether a final header was taken up.
+    pub fn is_headed(&self) -> bool
+        ensures { result ≡ self.now.reply.headed }
+    {
+        self.reply.headed
+    }
+
+    /// The flag of the final header that was taken up.
+    pub fn reply_keeps(&self) -> bool
+        ensures { result ≡ self.now.reply.keep }
+    {
+        self.reply.keep
+    }
+
+    /// How many bytes of the reply were written; it stops at 2^64 - 1.
+    pub fn written_bytes(&self) -> u64
+        ensures { result ≡ self.now.reply.sent }
+    {
+        self.reply.sent
+    }
+
+    /// What is set on the session.
+    pub fn settings(&self) -> Settings
+        ensures { result ≡ self.now.settings }
+    {
+        self.settings
+    }
+
+    /// The refusal that each later read of the body answers.
+    pub fn body_error(&self) -> Option<Error>
+        ensures { result ≡ self.now.body.refused }
+    {
+        self.body.refused
+    }
+
+    /// Whether the request's body was read to its end.
+    pub fn is_body_read(&self) -> bool
+        ensures { result ≡ is_whole (reads self.now.body.reader []) }
+    {
+        is_at_end(&self.body.reader)
+    }
+
+    /// Closes the link for both sides.
+    pub fn shutdown(&mut self)
+        ensures state { L.state self.new.link ≡ after_shutdown (L.state self.old.link) }
+        ensures rest { self.new ≡ record self.old { link = self.new.link } }
+        ensures plan { L.same_plan self.old.link self.new.link }
+    {
+        self.link.shutdown();
+    }
+
+    pub fn into_inner(self) -> L
+        ensures { result ≡ self.link }
+    {
+        self.link
+    }
+
+    pub fn link(&self) -> &L
+        ensures { result.now ≡ self.now.link }
+    {
+        &self.link
+    }
+
+    /// Calls a function on the link, which may move none of its bytes.
+    pub fn with_link<T, F: FnOnce(&mut L) -> T>(&mut self, f: F) -> T
+        requires may { FnOnceTakesAtMut F.FnOnce f self.old.link }
+        requires keeps { (answer : T) (link : L) → FnOnceReturnsAtMut F.FnOnce f self.old.link answer link → KeepsBytes (L.state self.old.link) (L.state link) }
+        ensures called { FnOnceReturnsAtMut F.FnOnce f self.old.link result self.new.link }
+        ensures rest { self.new ≡ record self.old { link = self.new.link } }
+        ensures keeps { KeepsBytes (L.state self.old.link) (L.state self.new.link) }
+    {
+        call_on(&mut self.link, f)
+    }
+}
+
+fn call_on<L, T, F: FnOnce(&mut L) -> T>(link: &mut L, f: F) -> T
+    requires { FnOnceTakesAtMut F.FnOnce f link.old }
+    ensures { FnOnceReturnsAtMut F.FnOnce f link.old result link.new }
+{
+    f(link)
+}

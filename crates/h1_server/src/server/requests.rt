@@ -1,0 +1,127 @@
+//! Reading a request: its head and its body.
+ghost use Rattle.std.specs.Prelude.{◌≡◌, ◌<◌, ◌^◌, length, IsSome, IfSome, IfNone, None, Some};
+ghost use Rattle.futures.specs.declared.task.Poll.TheVariants.{Ready};
+ghost use Rattle.h1_error.specs.declared.error.ErrorType.{ErrorType};
+
+use super::HttpSession;
+use crate::budget::{allowance_of, budget_left};
+use crate::reading_body::{BodyRead, read_body};
+use crate::reading_head::{HeadRead, read_head};
+use crate::request::request_of;
+use crate::{NoRequest, ReadRequest};
+use bytes::Bytes;
+use futures::task::Poll;
+use h1_body::BodyReader;
+use h1_error::{Error, ErrorType};
+use h1_link::Link;
+
+impl<L: Link + Drop, C: Drop> HttpSession<L, C> {
+    ghost use Rattle.h1_server.specs.Requests.{ReadsRequest};
+    ghost use Rattle.h1_server.specs.Payload.{ReadsPayload};
+
+    /// Reads the head of the request (RFC 9112, sections 2.2 and 3). Bytes that were received
+    /// before are parsed before any read.
+    pub fn poll_read_request(&mut self, now: u64) -> Poll<Result<ReadRequest, Error>>
+        requires { self.old.request ≡ None }
+        ensures again { IfSome self.old.refused (λ error. (result ≡ Ready (Err error)) × (self.new ≡ self.old)) }
+        ensures reads { IfNone self.old.refused (ReadsRequest L.state self.old self.new result) }
+        ensures plan { L.same_plan self.old.link self.new.link }
+    {
+        if let Some(error) = self.refused {
+            return Poll::Ready(Err(error));
+        }
+        let mut left = allowance_of(self.budget);
+        let read = read_head(
+            self.alloc,
+            &mut self.link,
+            &mut self.received,
+            &mut self.search,
+            &mut left,
+        );
+        self.budget = budget_left(self.budget, left);
+        match read {
+            HeadRead::Whole(head, used) => {
+                let request = request_of(head);
+                let len = request.raw.len();
+                self.received.advance(used);
+                self.body.reader = BodyReader::new(request.framing);
+                self.body.refused = None;
+                self.settings.keep_off = !request.wish;
+                self.request = Some(request);
+                Poll::Ready(Ok(ReadRequest::Head(len)))
+            }
+            HeadRead::Refused(fault) => {
+                let error = Error::from(ErrorType::InvalidHTTPHeader(fault));
+                self.refused = Some(error);
+                Poll::Ready(Err(error))
+            }
+            HeadRead::Closed => Poll::Ready(Ok(ReadRequest::None(NoRequest::Closed))),
+            HeadRead::Cut => {
+                let error = Error::from(ErrorType::ConnectionClosed);
+                self.refused = Some(error);
+                Poll::Ready(Err(error))
+            }
+            HeadRead::NotReady => Poll::Pending,
+            HeadRead::Spent => Poll::Pending,
+            HeadRead::Failed => {
+                let error = Error::from(ErrorType::ReadError);
+                self.refused = Some(error);
+                Poll::Ready(Err(error))
+            }
+            HeadRead::NoMemory => Poll::Ready(Err(Error::from(ErrorType::NoMemory))),
+        }
+    }
+
+    /// Reads payload of the request's body; None is its end (RFC 9112, section 6).
+    pub fn poll_read_body_bytes(&mut self, now: u64) -> Poll<Result<Option<Bytes>, Error>>
+        requires { IsSome self.old.request }
+        ensures again { IfSome self.old.body.refused (λ error. (result ≡ Ready (Err error)) × (self.new ≡ self.old)) }
+        ensures reads { IfNone self.old.body.refused (ReadsPayload L.state self.old self.new result) }
+        ensures plan { L.same_plan self.old.link self.new.link }
+        ensures bound { length self.new.received < 2 ^ 63 }
+    {
+        let _received = self.received.len();
+        if let Some(error) = self.body.refused {
+            return Poll::Ready(Err(error));
+        }
+        let mut left = allowance_of(self.budget);
+        let read = read_body(
+            self.alloc,
+            &mut self.link,
+            &mut self.received,
+            &mut self.body.reader,
+            &mut self.body.kept,
+            &mut left,
+        );
+        let _left_over = self.received.len();
+        self.budget = budget_left(self.budget, left);
+        match read {
+            BodyRead::Piece(bytes) => Poll::Ready(Ok(Some(bytes))),
+            BodyRead::Done => Poll::Ready(Ok(None)),
+            BodyRead::Broken => {
+                let error = Error::from(ErrorType::InvalidBody);
+                self.body.refused = Some(error);
+                Poll::Ready(Err(error))
+            }
+            BodyRead::Cut => {
+                let error = Error::from(ErrorType::ConnectionClosed);
+                self.body.refused = Some(error);
+                Poll::Ready(Err(error))
+            }
+            BodyRead::NotReady => {
+                self.body.waits = true;
+                Poll::Pending
+            }
+            BodyRead::Spent => {
+                self.body.waits = true;
+                Poll::Pending
+            }
+            BodyRead::Failed => {
+                let error = Error::from(ErrorType::ReadError);
+                self.body.refused = Some(error);
+                Poll::Ready(Err(error))
+            }
+            BodyRead::NoMemory => Poll::Ready(Err(Error::from(ErrorType::NoMemory))),
+        }
+    }
+}

@@ -1,0 +1,47 @@
+//! What a caller sets on a session.
+ghost use Rattle.std.specs.Prelude.{◌≡◌, true, false};
+ghost use Rattle.h1_server.specs.Keepalive.{keepalive_set};
+
+/// How a session treats its connection. Times are in seconds.
+#[derive(Clone, Copy, Debug, PartialEq, Eq)]
+pub struct Settings {
+    /// Nothing may follow the reply.
+    pub keep_off: bool,
+    /// The deadline of the next head where keep-alive is on; 0 is none.
+    pub keepalive: u64,
+    /// A header that is taken up before the request's body ends closes the connection.
+    pub closing: bool,
+    /// Bytes behind the request begin the next one.
+    pub pipelining: bool,
+}
+
+/// The settings with keep-alive off, or on with a deadline.
+pub(crate) fn with_keepalive(settings: Settings, seconds: Option<u64>) -> Settings
+    ensures { result ≡ keepalive_set settings seconds }
+{
+    match seconds {
+        None => Settings {
+            keep_off: true,
+            ..settings
+        },
+        Some(seconds) => Settings {
+            keep_off: false,
+            keepalive: seconds,
+            ..settings
+        },
+    }
+}
+
+impl Settings {
+    /// Keep-alive is off, a reply in front of the request's end closes, and nothing is pipelined.
+    pub(crate) fn new() -> Self
+        ensures { result ≡ record { keep_off = true; keepalive = 0; closing = true; pipelining = false } }
+    {
+        Settings {
+            keep_off: true,
+            keepalive: 0,
+            closing: true,
+            pipelining: false,
+        }
+    }
+}
