@@ -1,0 +1,4 @@
+mod LineLemmas
+mod TextLemmas
+mod NumberLemmas
+mod FrontLemmas

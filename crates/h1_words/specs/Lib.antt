@@ -1,0 +1,8 @@
+pub mod Memory
+pub mod ByteText
+pub mod Report
+pub mod Number
+pub mod Command
+pub mod Script
+pub mod Words
+pub mod Reader

@@ -1,0 +1,63 @@
+//! The lines of a script, each by itself.
+ghost use Rattle.std.specs.Prelude.{◌≡◌, IfOk};
+ghost use Rattle.std.specs.Option.{option_copied};
+ghost use Rattle.h1_words.specs.Command.{behind_words, give_command, poll_command, give_line, command_of};
+
+use crate::unescape::bytes_of_text;
+use crate::{Text, number_up_to};
+use h1_error::Error;
+use std::alloc::Global;
+
+/// The last millisecond of the year 9999, counted from the first of 1970.
+pub const LAST_MOMENT: u64 = 253_402_300_799_999;
+
+/// What a line of a script asks for.
+#[derive(Debug, Drop)]
+pub enum Command {
+    /// These bytes are ahead on the link.
+    Give(Text),
+    /// The link ends behind what is ahead.
+    End,
+    /// One poll at this moment, in milliseconds.
+    Poll(u64),
+}
+
+/// The command of a nonempty line, or nothing where the line is outside of the grammar.
+pub(crate) fn command_of(alloc: Global, line: &[u8]) -> Result<Option<Command>, Error>
+    ensures { IfOk result (λ command. command ≡ command_of line.now) }
+{
+    if line == b"end".as_slice() {
+        return Ok(Some(Command::End));
+    }
+    if let Some(text) = behind_words(b"give ", line) {
+        return give_command(alloc, text);
+    }
+    if let Some(digits) = behind_words(b"poll ", line) {
+        return Ok(poll_command(digits));
+    }
+    Ok(None)
+}
+
+fn behind_words<'a>(words: &[u8], line: &'a [u8]) -> Option<&'a [u8]>
+    ensures { option_copied result ≡ behind_words words.now line.now }
+{
+    line.strip_prefix(words)
+}
+
+fn give_command(alloc: Global, text: &[u8]) -> Result<Option<Command>, Error>
+    ensures { IfOk result (λ command. command ≡ give_command text.now) }
+{
+    match bytes_of_text(alloc, text)? {
+        Some(bytes) => Ok(Some(Command::Give(bytes))),
+        None => Ok(None),
+    }
+}
+
+fn poll_command(digits: &[u8]) -> Option<Command>
+    ensures { result ≡ poll_command digits.now }
+{
+    match number_up_to(LAST_MOMENT, digits) {
+        Some(moment) => Some(Command::Poll(moment)),
+        None => None,
+    }
+}

@@ -1,0 +1,41 @@
+//! What stands before a line of a script.
+ghost use Rattle.std.specs.Prelude.{◌≡◌};
+ghost use Rattle.h1_words.specs.Script.{may_follow, place_after};
+
+use crate::Command;
+
+/// What stands before a line of a script, as far as it decides what the line may be.
+#[derive(Clone, Copy, Debug)]
+pub struct Place {
+    /// Whether `end` stands before.
+    pub ended: bool,
+    /// The moment of the poll before, or 0.
+    pub last_poll: u64,
+}
+
+impl Place {
+    pub(crate) fn may_come_before(self, command: &Command) -> bool
+        ensures { result ≡ may_follow self command.now }
+    {
+        match command {
+            Command::Give(_) | Command::End => !self.ended,
+            Command::Poll(moment) => self.last_poll <= *moment,
+        }
+    }
+
+    pub(crate) fn after(self, command: &Command) -> Place
+        ensures { result ≡ place_after self command.now }
+    {
+        match command {
+            Command::Give(_) => self,
+            Command::End => Place {
+                ended: true,
+                last_poll: self.last_poll,
+            },
+            Command::Poll(moment) => Place {
+                ended: self.ended,
+                last_poll: *moment,
+            },
+        }
+    }
+}

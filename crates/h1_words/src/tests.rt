@@ -1,0 +1,117 @@
+use super::*;
+use h1_error::{End, Error, ErrorType, HeadFault, Progress, Waiting};
+use std::alloc::Global;
+use std::test::Fail;
+
+fn line_of_fault(alloc: Global, script: &str) -> Option<u64> {
+    match parse_script(alloc, script.as_bytes()) {
+        Ok(_) => None,
+        Err(ScriptFault::Line(number)) => Some(number),
+        Err(ScriptFault::NoMemory) => Some(0),
+    }
+}
+
+#[test]
+fn a_script_is_faulty_at_its_first_line_outside_of_the_grammar(rt: HostRuntime) {
+    let cases = [
+        ("", None),
+        ("\n\nend", None),
+        ("give a\nend\npoll 0\npoll 0\n", None),
+        ("give \npoll 007", None),
+        ("give", Some(1)),
+        ("give a\\", Some(1)),
+        ("give \\x4", Some(1)),
+        ("give \\x4g", Some(1)),
+        ("give \\t", Some(1)),
+        ("give \u{e9}", Some(1)),
+        ("\n\nGIVE a", Some(3)),
+        ("end\ngive a", Some(2)),
+        ("end\nend\n", Some(2)),
+        ("end \n", Some(1)),
+        ("poll 5\npoll 4", Some(2)),
+        ("poll", Some(1)),
+        ("poll ", Some(1)),
+        ("poll +1", Some(1)),
+        ("poll 00000000000000000001", None),
+        ("poll 000000000000000000001", Some(1)),
+        ("poll 253402300799999", None),
+        ("poll 253402300800000", Some(1)),
+        ("poll 99999999999999999999", Some(1)),
+    ];
+    for (script, expected) in cases {
+        assert_eq!(rt; line_of_fault(rt.alloc(), script), expected, "{script}");
+    }
+}
+
+#[test]
+fn a_script_that_is_too_long_is_faulty_at_the_line_of_the_byte_beyond(
+    rt: HostRuntime,
+) -> Result<(), Fail> {
+    let script = vec![in rt.alloc(); b'\n'; MAX_SCRIPT + 1]?;
+    let expected = Some(ScriptFault::Line(8_388_609));
+    assert_eq!(rt; parse_script(rt.alloc(), &script).err(), expected);
+    Ok(())
+}
+
+#[test]
+fn a_script_gives_its_commands_in_order(rt: HostRuntime) -> Result<(), Fail> {
+    let text = b"give GET /\\r\\n\\\\\\x00\\xfF~\npoll 7\n\nend";
+    let script = parse_script(rt.alloc(), text).ok().ok_or("a script")?;
+    match script.commands() {
+        [Command::Give(bytes), Command::Poll(7), Command::End] => {
+            assert_eq!(rt; bytes.as_slice(), b"GET /\r\n\\\x00\xff~".as_slice());
+        }
+        _ => assert!(rt; false, "three commands"),
+    }
+    Ok(())
+}
+
+#[test]
+fn bytes_are_reported_as_printable_text(rt: HostRuntime) -> Result<(), Fail> {
+    let mut text = Text::new(rt.alloc());
+    text.push_counted(rt.alloc(), b"")?;
+    text.push(b"|")?;
+    text.push_counted(rt.alloc(), b"a\r\n\\\x00\x7f\xff ~")?;
+    let expected = b"0|9 a\\r\\n\\\\\\x00\\x7f\\xff ~";
+    assert_eq!(rt; text.as_slice(), expected.as_slice());
+    Ok(())
+}
+
+#[test]
+fn an_answer_is_reported_by_its_words(rt: HostRuntime) -> Result<(), Fail> {
+    let kind = ErrorType::InvalidHTTPHeader(HeadFault::NotAHead);
+    let error = Error { kind, retry: false };
+    let cases = [
+        (Progress::Pending(Waiting::Read), "pending read"),
+        (Progress::Pending(Waiting::Write), "pending write"),
+        (Progress::Pending(Waiting::App), "pending application"),
+        (Progress::Pending(Waiting::Budget), "pending budget"),
+        (Progress::Ready(End::Finished), "finished"),
+        (Progress::Ready(End::NotKept), "not kept"),
+        (Progress::Ready(End::Overread), "overread"),
+        (
+            Progress::Ready(End::Failed(error)),
+            "failed 1 InvalidHTTPHeader NotAHead",
+        ),
+    ];
+    for (answer, expected) in cases {
+        let mut text = Text::new(rt.alloc());
+        text.push_answer(rt.alloc(), answer)?;
+        assert_eq!(rt; text.as_slice(), expected.as_bytes());
+    }
+    Ok(())
+}
+
+#[test]
+fn the_one_word_script_is_a_task(rt: HostRuntime) -> Result<(), Fail> {
+    let words = vec![in rt.alloc();
+        "script".to_string(rt.alloc())?,
+        "gen".to_string(rt.alloc())?,
+    ]?;
+    assert_eq!(rt; words.len(), 2);
+    assert_eq!(rt; parse_words(&words[..1]), Some(Task::Script));
+    assert_eq!(rt; parse_words(&words[1..]), None);
+    assert_eq!(rt; parse_words(&words), None);
+    assert_eq!(rt; parse_words(&words[..0]), None);
+    Ok(())
+}
