@@ -1,0 +1,149 @@
+-- Steps in which the application goes on.
+use Rattle.std.proofs.Common.{◌≡◌, ◌≢◌, ℕ, ◌-◌, ◌^◌, min, List, [], ◌++◌, length, drop, false, Option, Some, None, IfSome, unwrap_or, refl, sym, ◌∙◌, ap, subst, append_assoc, append-nil, length-append}
+use Rattle.std.proofs.lemmas.List.{drop-append-le}
+use Rattle.h1_error.specs.declared.error.Error.{Error}
+use Rattle.h1_error.specs.declared.error.ErrorType.{ErrorType}
+use Rattle.h1_error.specs.declared.error.ErrorType.TheVariants as kind
+use Rattle.h1_error.specs.declared.error.ErrorType.TheVariants.{NoMemory}
+use Rattle.h1_server.specs.Payload.{BodyRefusal}
+use Rattle.h1_link.specs.LinkState.{LinkState}
+use Rattle.h1_link.proofs.Laters.{later_on}
+use Rattle.h1_head.specs.Views.{RequestView}
+use Rattle.h1_head.proofs.RequestHeadLemmas.{HeadAt-append}
+use Rattle.h1_body.specs.Body.{unfinished, ahead}
+use Rattle.h1_body.specs.Reader.{body, reads}
+use Rattle.h1_body.specs.Read.{HasRead}
+use Rattle.h1_body.specs.Framing.{framing}
+use Rattle.h1_body.specs.declared.framing.Framing.{Framing}
+use Rattle.h1_body.specs.declared.reader.BodyReader.{BodyReader}
+use Rattle.h1_body.proofs.ReadLemmas.{read_is}
+use Rattle.h1_body.proofs.RunLemmas.{ahead-ahead}
+use Rattle.h1_server.specs.Decoding.{Decoded, Lacks}
+use Rattle.h1_server.specs.SessionView.{SessionView}
+use Rattle.h1_server.specs.declared.settings.Settings.{Settings}
+use Rattle.h1_app.specs.declared.transcript.Entry.{Entry}
+use Rattle.h1_app.specs.declared.exchange.Stage.{Stage}
+use Rattle.h1_app.specs.declared.exchange.Stage.TheVariants as stage
+use Rattle.h1_app.specs.declared.steps.answering.Asked.{Asked}
+use Rattle.h1_app.specs.Application.{ReadsOnly, RefusedBy, payload_of}
+use Rattle.h1_app.specs.Asking.{AsksAs, noted}
+use Rattle.h1_app.specs.Causes.{LacksSo}
+use Rattle.h1_app.specs.Since.{Since, ReadEntry, WroteSo, StopsBody}
+use Rattle.h1_app.specs.Sound.{SoundStage, IsAnswering, lent}
+use Rattle.h1_app.proofs.SinceLemmas.{told_on, told_same, rose_later}
+
+-- what is read behind what was read
+read_decoded : (f : Framing) (used more payload later : List ℕ) (old new : BodyReader) → HasRead f used payload old → Decoded old new more later → HasRead f (used ++ more) (payload ++ later) new
+read_decoded f used more payload later old new h d = record {
+  read = (λ xs. ap (body f) (append_assoc used more xs) ∙ h.read (more ++ xs) ∙ ap (ahead payload (length used)) (d.reads xs)
+      ∙ ahead-ahead payload later (length used) (length more) (reads new xs) ∙ ap (λ n. ahead (payload ++ later) n (reads new xs)) (sym (length-append used more)));
+}
+
+-- the application's stage, taken apart
+pub at_answer : {L J : Type 0} (runs : J → RequestView → Settings → Settings → List ℕ → Type 0) (session : SessionView L) (last : Option Entry) (at : Stage J) (e : Entry) (job : J)
+    → SoundStage runs session last at → at ≡ stage.Answer job → last ≡ Some e → IsAnswering e session × runs job e.head e.began session.settings e.body
+at_answer {L} {J} runs session last at e job sound is some =
+    let s = rw is at sound in
+    let same : s.0 ≡ e = same_entry s.0 e (sym s.1 ∙ some) in
+    subst (λ (x : Entry). IsAnswering x session × runs job x.head x.began session.settings x.body) same (s.2, s.3)
+  where
+    same_entry : (a b : Entry) → Some a ≡ Some b → a ≡ b
+    same_entry a b e = cc
+
+-- what was handed out joins the payload
+pub payload_is : {L : Type 0} (state : L → LinkState) (old behind : SessionView L) (body : List ℕ) (r : ReadsOnly state (lent old body) behind) → payload_of behind ≡ body ++ r.payload
+payload_is state old behind body r = ap (λ x. unwrap_or x []) r.kept
+
+-- a refusal in the call says why the body can't be read on
+refusal_stops : {L : Type 0} (state : L → LinkState) (old behind : SessionView L) (k : ErrorType) → BodyRefusal state old behind k → k ≢ NoMemory → StopsBody state behind k
+refusal_stops state old behind kind.InvalidBody h n = h
+refusal_stops state old behind kind.ConnectionClosed h n = h
+refusal_stops state old behind kind.ReadError h n = tt
+refusal_stops state old behind kind.NoMemory h n = absurd (n refl)
+refusal_stops state old behind _ h n = absurd h
+
+-- and an earlier one still does
+stops_on : {L : Type 0} (state : L → LinkState) (old behind : SessionView L) (k : ErrorType) → behind.body.reader ≡ old.body.reader → behind.received ≡ old.received
+    → (state behind.link).ended ≡ (state old.link).ended → StopsBody state old k → StopsBody state behind k
+stops_on state old behind kind.InvalidBody reader received ended h = rw reader h
+stops_on state old behind kind.ConnectionClosed reader received ended h = rw (reader, received, ended) h
+stops_on state old behind kind.ReadError reader received ended h = tt
+stops_on state old behind _ reader received ended h = absurd h
+
+-- why the body can't be read on, where it can't
+stopped_by : {L : Type 0} (state : L → LinkState) (old behind : SessionView L) (was : Option Error) → RefusedBy state old behind was
+    → IfSome was (λ error. StopsBody state old error.kind) → IfSome behind.body.refused (λ error. StopsBody state behind error.kind)
+stopped_by state old behind None h s = each behind.body.refused h
+  where
+    each : (now : Option Error) → IfSome now (λ error. BodyRefusal state old behind error.kind × (error.kind ≢ NoMemory)) → IfSome now (λ error. StopsBody state behind error.kind)
+    each None h = tt
+    each (Some error) h = refusal_stops state old behind error.kind h.0 h.1
+stopped_by state old behind (Some error) h s =
+    rw h.0 (stops_on state old behind error.kind h.1 h.2 h.3 s)
+
+-- what was given and taken goes on as the application reads
+pub asked_since : {L : Type 0} (state : L → LinkState) (old behind new : SessionView L) (e e2 : Entry) (before : LinkState)
+    → ReadsOnly state (lent old e.body) behind → new ≡ record behind { body = record behind.body { kept = None; waits = false } }
+    → e2.head ≡ e.head → e2.both ≡ e.both → e2.body ≡ payload_of behind → e.body_error ≡ old.body.refused → e2.body_error ≡ behind.body.refused → e.sent_head ≡ None → e.sent_body ≡ None → e2.sent_head ≡ None → e2.sent_body ≡ None
+    → Since state before old (Some e) → Since state before new (Some e2)
+asked_since {L} state old behind new e e2 before r is head both body error0 error2 h0 b0 h2 b2 s =
+    subst (λ (x : SessionView L). Since state before x (Some e2)) (sym is) (record {
+      later = later_on before (state old.link) (state behind.link) s.later r.moved.later;
+      read = told_on before.given (state old.link).given (state behind.link).given r.piece (λ since. ReadEntry since e old) (λ since. ReadEntry since e2 (record behind { body = record behind.body { kept = None; waits = false } })) r.moved.given
+          (λ since p. record {
+            n = p.n;
+            used = p.used ++ r.used;
+            head = rw (head, both) (HeadAt-append since r.piece p.n e.head e.both p.head);
+            bytes = drop-append-le p.n since r.piece p.head.cuts.within ∙ ap (λ xs. xs ++ r.piece) p.bytes ∙ append_assoc p.used old.received r.piece ∙ ap (λ xs. p.used ++ xs) r.bytes ∙ sym (append_assoc p.used r.used behind.received);
+            decoded = rw (head, body ∙ payload_is state old behind e.body r) (read_decoded (framing e.head) p.used r.used e.body r.payload old.body.reader behind.body.reader p.decoded r.decoded);
+          }) s.read;
+      wrote = told_same before.written (state old.link).written (state behind.link).written (λ since. WroteSo since old (Some e) × (old.reply.sent ≡ min (length since) (2 ^ 64 - 1)))
+          (λ since. WroteSo since (record behind { body = record behind.body { kept = None; waits = false } }) (Some e2) × (behind.reply.sent ≡ min (length since) (2 ^ 64 - 1))) r.moved.written
+          (λ since h. rw (r.reply, h2, b2) (let w = rw (h0, b0) at h.0 in w, h.1)) s.wrote;
+      stopped = rw error2 (stopped_by state (lent old e.body) behind old.body.refused r.refused (let was = s.stopped in rw error0 at was));
+      out = rw r.reply (rose_later old.reply.sent before.bytes_out _ _ r.moved.later.counts.bytes_out s.out);
+    })
+
+-- the exchange still awaits its reply
+pub still_answers : {L : Type 0} (state : L → LinkState) (old new : SessionView L) (e e2 : Entry) (answer : Asked)
+    → IsAnswering e old → AsksAs state old new e e2 answer → IsAnswering e2 new
+still_answers {L} state old new e e2 answer a h =
+    let r = h.reads in
+    subst (λ (x : Entry). IsAnswering x new) (sym h.entry) (subst (λ (x : SessionView L). IsAnswering (noted e h.behind) x) (sym h.session) (record {
+      request = a.request;
+      asked = record {
+        is = r.request ∙ a.asked.is;
+        header = a.asked.header;
+        both = a.asked.both;
+        wish = a.asked.wish;
+        denied = a.asked.denied;
+        body_error = refl;
+        handed = refl;
+        filtered = a.asked.filtered;
+        kept = refl;
+        waits = refl;
+        written = rw r.reply a.asked.written;
+        limit = a.asked.limit;
+      };
+      unwritten = rw r.reply a.unwritten;
+      reply = a.reply;
+      sent_head = a.sent_head;
+      sent_body = a.sent_body;
+    }))
+
+-- the body isn't whole, and nothing of it is left among the received bytes
+pub lacks_body : {L : Type 0} (session : SessionView L) (e : Entry) (since : List ℕ) → Lacks session.body.reader session.received → e.reply ≡ None → ReadEntry since e session → LacksSo since (Some e)
+lacks_body session e since lacks none p =
+    let all : drop p.n since ≡ p.used = p.bytes ∙ ap (λ xs. p.used ++ xs) lacks.0 ∙ append-nil p.used in
+    let so : body (framing e.head) (drop p.n since) ≡ unfinished e.body = ap (body (framing e.head)) all ∙ read_is (framing e.head) p.used e.body session.body.reader p.decoded ∙ ap (ahead e.body (length p.used)) lacks.1 ∙ ap unfinished (append-nil e.body) in
+    (record { n = p.n; head = p.head; body = so }, none)
+
+-- the step goes on with what was given and taken; a reply that joins the exchange changes nothing of it
+pub asked_on : {L : Type 0} (state : L → LinkState) (old new : SessionView L) (last : Option Entry) (e e2 e3 : Entry) (answer : Asked)
+    → last ≡ Some e → e3 ≡ record e2 { reply = e3.reply } → IsAnswering e old → AsksAs state old new e e2 answer
+    → (before : LinkState) → Since state before old last → Since state before new (Some e3)
+asked_on {L} state old new last e e2 e3 answer some like a h before s =
+    let start : Since state before old (Some e) = subst (λ x. Since state before old x) some s in
+    let noted_so : e3 ≡ record (noted e h.behind) { reply = e3.reply } = like ∙ ap (λ (x : Entry). record x { reply = e3.reply }) h.entry in
+    asked_since state old h.behind new e e3 before h.reads h.session (ap (λ (x : Entry). x.head) noted_so) (ap (λ (x : Entry). x.both) noted_so) (ap (λ (x : Entry). x.body) noted_so) a.asked.body_error (ap (λ (x : Entry). x.body_error) noted_so)
+    a.sent_head a.sent_body (ap (λ (x : Entry). x.sent_head) noted_so ∙ a.sent_head) (ap (λ (x : Entry). x.sent_body) noted_so ∙ a.sent_body) start

@@ -1,0 +1,332 @@
+-- How a connection stands once its reply is written: why it ends, and that the link's shutdown keeps it.
+use Rattle.std.proofs.Common.{◌≡◌, ℕ, ◌+◌, ◌-◌, ◌^◌, ◌<◌, ◌≤◌, ◌⊎◌, inr, min, List, [], ◌∷◌, ◌++◌, length, take, Bool, true, false, cond, nat_lt, nat_le, Option, Some, None, IfSome, refl, sym, ◌∙◌, ap, subst, append-nil, length-take, arith, codes}
+use Rattle.std.proofs.lemmas.Bool.{false≢true, ltb-true, lt-ltb}
+use Rattle.std.proofs.lemmas.Option.{none-some}
+use Rattle.std.specs.List.{AllByRecursion}
+use Rattle.h1_error.specs.declared.error.Error.{Error}
+use Rattle.h1_error.specs.declared.error.ErrorType.{ErrorType}
+use Rattle.h1_error.specs.declared.error.ErrorType.TheVariants as kind
+use Rattle.h1_link.specs.LinkState.{LinkState}
+use Rattle.h1_link.specs.Counts.{RoseBy}
+use Rattle.h1_link.specs.Steps.{after_shutdown}
+use Rattle.h1_link.specs.Later.{Later}
+use Rattle.h1_link.proofs.Laters.{later_on, later_shutdown}
+use Rattle.h1_fields.specs.Lines.{Line}
+use Rattle.h1_fields.specs.ListParts.{parts_of}
+use Rattle.h1_fields.specs.Codings.{is_chunked_last}
+use Rattle.h1_fields.specs.ContentLength.{content_length, IsNumber}
+use Rattle.h1_fields.specs.declared.content_length.ContentLength.{ContentLength}
+use Rattle.h1_fields.specs.declared.content_length.ContentLength.TheVariants as stated
+use Rattle.h1_fields.proofs.LengthLemmas.{length_only}
+use Rattle.h1_head.specs.Views.{ResponseView}
+use Rattle.h1_body.specs.Body.{whole, unfinished, broken, ahead}
+use Rattle.h1_body.specs.Chunks.{chunked}
+use Rattle.h1_body.specs.Reader.{body, reads, read_as}
+use Rattle.h1_body.specs.Framing.{framing, out, by_length, by_fields, has_no_body}
+use Rattle.h1_body.specs.Writer.{begun, after_piece, end_bytes, lacks}
+use Rattle.h1_body.specs.declared.framing.Framing.{Framing}
+use Rattle.h1_body.specs.declared.framing.Framing.TheVariants.{Counted, Chunked, UntilClose}
+use Rattle.h1_body.specs.declared.chunking.Chunking.{Chunking}
+use Rattle.h1_body.specs.declared.chunking.Chunking.TheVariants as place
+use Rattle.h1_body.specs.declared.reader.Reading.{Reading}
+use Rattle.h1_body.specs.declared.reader.Reading.TheVariants as reading
+use Rattle.h1_server.specs.Moved.{Moved}
+use Rattle.h1_server.specs.SessionView.{SessionView}
+use Rattle.h1_app.specs.declared.application.Reply.{Reply}
+use Rattle.h1_app.specs.declared.transcript.Entry.{Entry}
+use Rattle.h1_app.specs.Causes.{FailureCause, IsComplete, IsWrittenShort, EndsBody, LastStands}
+use Rattle.h1_app.specs.Exchange.{render, is_short, shown}
+use Rattle.h1_app.specs.Since.{Since, IfTold, ReadEntry, WroteSo, coming, StopsBody}
+use Rattle.h1_app.specs.Sound.{IsKept}
+use Rattle.h1_app.specs.Turns.{Went}
+use Rattle.h1_app.proofs.SinceLemmas.{told_map}
+
+-- a chunked body that is broken stays so
+chunks_broken : (s : Chunking) (bytes : List ℕ) → chunked s [] ≡ broken []
+    → chunked s bytes ≡ broken []
+chunks_broken place.Broken [] h = refl
+chunks_broken place.Broken (b ∷ bytes) h = refl
+chunks_broken s bytes h = absurd (cc)
+
+not_broken : (test : Bool) (n : ℕ) → cond test (whole [] n) (unfinished []) ≡ broken [] → ⊥
+not_broken true n h = cc
+not_broken false n h = cc
+
+-- a body that is broken stays so
+reading_broken : (r : Reading) (bytes : List ℕ) → read_as r [] ≡ broken []
+    → read_as r bytes ≡ broken []
+reading_broken (reading.Counted left) bytes h = absurd (counted left h)
+  where
+    counted : (left : ℕ) → read_as (reading.Counted left) [] ≡ broken [] → ⊥
+    counted left h = elim (nat_le left 0) as
+        (λ t. cond t (whole (take left []) left) (unfinished []) ≡ broken [] → ⊥) [
+          | true ↦ λ e. cc
+          | false ↦ λ e. cc
+        ] h
+reading_broken (reading.Chunked s) bytes h = chunks_broken s bytes h
+reading_broken reading.UntilClose bytes h = absurd (cc)
+reading_broken reading.Ended bytes h = absurd (cc)
+
+-- how the last request's body stands
+stands_broken : {L : Type 0} (since : List ℕ) (e : Entry) (session : SessionView L)
+    → ReadEntry since e session
+    → reads session.body.reader [] ≡ broken [] → LastStands since e (broken e.body)
+stands_broken since e session r h = record {
+  n = r.n;
+  head = r.head;
+  body = ap (λ xs. body (framing e.head) xs) r.bytes ∙ r.decoded.read session.received
+      ∙ ap (λ b. ahead e.body (length r.used) b)
+      (reading_broken session.body.reader.reading session.received h)
+      ∙ ap (λ xs. broken xs) (append-nil e.body);
+}
+
+stands_unfinished : {L : Type 0} (since : List ℕ) (e : Entry) (session : SessionView L)
+    → ReadEntry since e session
+    → session.received ≡ [] → reads session.body.reader [] ≡ unfinished []
+    → LastStands since e (unfinished e.body)
+stands_unfinished since e session r none h = record {
+  n = r.n;
+  head = r.head;
+  body = ap (λ xs. body (framing e.head) xs) r.bytes ∙ r.decoded.read session.received
+      ∙ ap (λ b. ahead e.body (length r.used) b) (ap (λ xs. reads session.body.reader xs) none ∙ h)
+      ∙ ap (λ xs. unfinished xs) (append-nil e.body);
+}
+
+-- an error of the request's body ends the connection for its own cause
+stop_cause : {L : Type 0} (state : L → LinkState) (before old : LinkState) (session : SessionView L)
+    (e : Entry) (error : Error) (k : ErrorType)
+    → Since state before session (Some e) → EndsBody before (state session.link) e error
+    → StopsBody state session k
+    → FailureCause before old (state session.link) (Some e) error k
+stop_cause state before old session e error kind.InvalidBody s ends h = (
+  ends,
+  told_map before.given (state session.link).given (λ since. ReadEntry since e session)
+      (λ since. LastStands since e (broken e.body))
+      (λ since r. stands_broken since e session r h) s.read,
+)
+stop_cause state before old session e error kind.ConnectionClosed s ends h = (
+  h.0,
+  inr (
+    ends,
+    told_map before.given (state session.link).given
+        (λ since. ReadEntry since e session) (λ since. LastStands since e (unfinished e.body))
+        (λ since r. stands_unfinished since e session r h.1.0 h.1.1) s.read,
+  ),
+)
+stop_cause state before old session e error kind.ReadError s ends h = inr ends
+stop_cause state before old session e error _ s ends h = absurd h
+
+pub stopped_cause : {L : Type 0} (state : L → LinkState) (before old : LinkState)
+    (session : SessionView L) (e : Entry) (error : Error)
+    → Since state before session (Some e) → e.body_error ≡ Some error
+    → IsComplete before (state session.link) e ⊎ IsWrittenShort before (state session.link) e
+    → FailureCause before old (state session.link) (Some e) error error.kind
+stopped_cause state before old session e error s is replied =
+    let stops : IfSome (Some error) (λ error. StopsBody state session error.kind) =
+    subst (λ (x : Option Error). IfSome x (λ error. StopsBody state session error.kind)) is
+    s.stopped in
+    stop_cause state before old session e error error.kind s (record { is = is; replied = replied })
+    stops
+
+-- all of the reply is written
+written_whole : {L : Type 0} (since : List ℕ) (session : SessionView L) (e : Entry) (sent : List ℕ)
+    → session.reply.owed ≡ [] → e.sent_body ≡ Some sent → end_bytes session.reply.writer ≡ []
+    → WroteSo since session (Some e) → since ≡ render e
+written_whole since session e sent none is ended h =
+    sym (ap (λ x. since ++ session.reply.owed ++ coming x session.reply.writer) is ∙ ap
+    (λ xs. since ++ session.reply.owed ++ xs) ended
+    ∙ append-nil (since ++ session.reply.owed) ∙ ap (λ xs. since ++ xs) none ∙ append-nil since) ∙ h
+
+pub told_whole : {L : Type 0} (state : L → LinkState) (before : LinkState) (session : SessionView L)
+    (e : Entry) (sent : List ℕ)
+    → Since state before session (Some e) → session.reply.owed ≡ [] → e.sent_body ≡ Some sent
+    → end_bytes session.reply.writer ≡ []
+    → IfTold before.written (state session.link).written (λ since. since ≡ render e)
+told_whole state before session e sent s none is ended =
+    told_map before.written (state session.link).written
+    (λ since. WroteSo since session (Some e) ×
+    (session.reply.sent ≡ min (length since) (2 ^ 64 - 1))) (λ since. since ≡ render e)
+    (λ since h. written_whole since session e sent none is ended h.0) s.wrote
+
+pub complete : {L : Type 0} (state : L → LinkState) (before : LinkState) (session : SessionView L)
+    (e : Entry) (head : ResponseView) (sent : List ℕ)
+    → Since state before session (Some e) → session.reply.owed ≡ []
+    → end_bytes session.reply.writer ≡ []
+    → e.sent_head ≡ Some head → e.sent_body ≡ Some sent → e.written ≡ session.reply.sent
+    → (state session.link).bytes_out ≤ (state session.link).flushed
+    → IsComplete before (state session.link) e
+complete state before session e head sent s none ended headed is count flushed = record {
+  sent_head = λ p. none-some head (sym p ∙ headed);
+  sent_body = λ p. none-some sent (sym p ∙ is);
+  written = told_whole state before session e sent s none is ended;
+  flushed = omega (arith, s.out, count, flushed);
+}
+
+-- a shutdown moves no byte
+moved_shutdown : (before now later : LinkState) (read wrote : List ℕ) (spent : ℕ)
+    → later ≡ after_shutdown now
+    → Moved before now read wrote spent → Moved before later read wrote spent
+moved_shutdown before now later read wrote spent e m =
+    let at_end : Moved before (after_shutdown now) read wrote spent = record {
+      given = m.given;
+      written = m.written;
+      rose = m.rose;
+      most = m.most;
+      enough = m.enough;
+      out = m.out;
+      later = later_on before now (after_shutdown now) m.later (later_shutdown now);
+    } in
+    subst (λ s. Moved before s read wrote spent) (sym e) at_end
+
+pub went_shutdown : {L : Type 0} (state : L → LinkState) (old now new : SessionView L)
+    → state new.link ≡ after_shutdown (state now.link)
+    → new ≡ record now { link = new.link } → Went state old now → Went state old new
+went_shutdown {L} state old now new e rest w = record {
+  read = w.read;
+  wrote = w.wrote;
+  spent = w.spent;
+  moved = moved_shutdown (state old.link) (state now.link) (state new.link) w.read w.wrote w.spent e
+      w.moved;
+  budget = ap (λ (x : SessionView L). x.budget) rest ∙ w.budget;
+  within = w.within;
+}
+
+kept_linked : {L : Type 0} (now : SessionView L) (link : L) (e : Entry) → IsKept now e
+    → IsKept (record now { link = link }) e
+kept_linked now link e k = record { written = k.written; body_error = k.body_error; how = k.how }
+
+pub kept_shutdown : {L : Type 0} (now new : SessionView L) (e : Entry)
+    → new ≡ record now { link = new.link } → IsKept now e → IsKept new e
+kept_shutdown now new e rest k = subst (λ x. IsKept x e) (sym rest) (kept_linked now new.link e k)
+
+stops_shutdown : {L : Type 0} (state : L → LinkState) (now : SessionView L) (link : L)
+    (k : ErrorType) → state link ≡ after_shutdown (state now.link)
+    → StopsBody state now k → StopsBody state (record now { link = link }) k
+stops_shutdown state now link kind.InvalidBody e h = h
+stops_shutdown state now link kind.ConnectionClosed e h =
+    (ap (λ (s : LinkState). s.ended) e ∙ h.0, h.1)
+stops_shutdown state now link kind.ReadError e h = tt
+stops_shutdown state now link _ e h = absurd h
+
+stopped_shutdown : {L : Type 0} (state : L → LinkState) (now : SessionView L) (link : L)
+    (error : Option Error) → state link ≡ after_shutdown (state now.link)
+    → IfSome error (λ error. StopsBody state now error.kind)
+    → IfSome error (λ error. StopsBody state (record now { link = link }) error.kind)
+stopped_shutdown state now link None e h = tt
+stopped_shutdown state now link (Some error) e h = stops_shutdown state now link error.kind e h
+
+since_linked : {L : Type 0} (state : L → LinkState) (before : LinkState) (now : SessionView L)
+    (link : L) (e : Entry) → state link ≡ after_shutdown (state now.link)
+    → Since state before now (Some e) → Since state before (record now { link = link }) (Some e)
+since_linked state before now link e same s = record {
+  later = subst (λ x. Later before x) (sym same)
+      (later_on before (state now.link) (after_shutdown (state now.link)) s.later
+      (later_shutdown (state now.link)));
+  read = subst (λ x. IfTold before.given x
+      (λ since. ReadEntry since e (record now { link = link })))
+      (sym (ap (λ (s : LinkState). s.given) same))
+      (told_map before.given (state now.link).given (λ since. ReadEntry since e now)
+      (λ since. ReadEntry since e (record now { link = link }))
+      (λ since h. record {
+        n = h.n;
+        used = h.used;
+        head = h.head;
+        bytes = h.bytes;
+        decoded = h.decoded;
+      }) s.read);
+  wrote = subst (λ x. IfTold before.written x
+      (λ since. WroteSo since now (Some e) × (now.reply.sent ≡ min (length since) (2 ^ 64 - 1))))
+      (sym (ap (λ (s : LinkState). s.written) same)) s.wrote;
+  stopped = stopped_shutdown state now link e.body_error same s.stopped;
+  out = subst (λ n. RoseBy now.reply.sent before.bytes_out n)
+      (sym (ap (λ (s : LinkState). s.bytes_out) same)) s.out;
+}
+
+pub since_shutdown : {L : Type 0} (state : L → LinkState) (before : LinkState)
+    (now new : SessionView L) (e : Entry)
+    → state new.link ≡ after_shutdown (state now.link) → new ≡ record now { link = new.link }
+    → Since state before now (Some e) → Since state before new (Some e)
+since_shutdown state before now new e same rest s =
+    subst (λ x. Since state before x (Some e)) (sym rest)
+    (since_linked state before now new.link e same s)
+
+-- a stated length is below 2 ^ 64
+length_limit : (lines : List Line) (n : ℕ) → content_length lines ≡ stated.Number n → n < 2 ^ 64
+length_limit lines n h =
+    let all : (0 < length (parts_of (codes "Content-Length") lines)) × AllByRecursion (IsNumber n)
+    (parts_of (codes "Content-Length") lines) =
+    length_only n (parts_of (codes "Content-Length") lines) h in
+    first (parts_of (codes "Content-Length") lines) all.0 all.1
+  where
+    first : (parts : List (List ℕ)) → 0 < length parts → AllByRecursion (IsNumber n) parts
+        → n < 2 ^ 64
+    first [] some all = omega arith
+    first (part ∷ parts) some all = all.0.2
+
+counted_same : (m n : ℕ) → Counted m ≡ Counted n → m ≡ n
+counted_same m n h = cc
+
+by_length_limit : (lines : List Line) (stands : ContentLength) (n : ℕ)
+    → content_length lines ≡ stands → by_length UntilClose stands ≡ Counted n → n < 2 ^ 64
+by_length_limit lines (stated.Number m) n is h = let same : m ≡ n = counted_same m n h in subst
+    (λ k. k < 2 ^ 64) same (length_limit lines m is)
+by_length_limit lines stated.Absent n is h = absurd (cc)
+by_length_limit lines stated.Bad n is h = absurd (cc)
+
+one_of : (test : Bool) (x y : Framing) (n : ℕ) → (x ≡ Counted n → n < 2 ^ 64)
+    → (y ≡ Counted n → n < 2 ^ 64) → cond test x y ≡ Counted n → n < 2 ^ 64
+one_of true x y n a b h = a h
+one_of false x y n a b h = b h
+
+pub out_limit : (method : List ℕ) (head : ResponseView) (n : ℕ) → out method head ≡ Counted n
+    → n < 2 ^ 64
+out_limit method head n h =
+    one_of (has_no_body method head.status) (Counted 0) (by_fields UntilClose head.fields) n
+    (λ e. let none : 0 ≡ n = counted_same 0 n e in omega arith)
+    (λ e. one_of (is_chunked_last head.fields) Chunked
+    (by_length UntilClose (content_length head.fields)) n
+    (λ x. absurd (chunked_is x)) (λ x. by_length_limit head.fields (content_length head.fields) n
+    refl x) e) h
+  where
+    chunked_is : Chunked ≡ Counted n → ⊥
+    chunked_is x = cc
+
+-- a writer that lacks payload has a body that is shorter than its head states
+short_body : (f : Framing) (payload : List ℕ)
+    → lacks (Some f) (after_piece (begun f) payload).written ≡ true
+    → (n : ℕ) × (f ≡ Counted n) × (n < 2 ^ 64 → length payload < n)
+short_body (Counted n) payload h = (
+  n,
+  refl,
+  λ limit. let less = ltb-true (min (0 + length (take (n - 0) payload)) (2 ^ 64 - 1)) n
+      h in omega (arith, less, length-take (n - 0) payload),
+)
+short_body Chunked payload h = absurd (false≢true h)
+short_body UntilClose payload h = absurd (false≢true h)
+
+short_entry : (e : Entry) (head : ResponseView) (sent : List ℕ) (n : ℕ) → e.sent_head ≡ Some head
+    → e.sent_body ≡ Some sent
+    → out e.head.method head ≡ Counted n → nat_lt (length (shown e.reply sent)) n ≡ true
+    → is_short e ≡ true
+short_entry e head sent n headed is counted less = rw (headed, is, counted) less
+
+shown_length : (header : ResponseView) (body sent : List ℕ) → sent ≡ body
+    → shown (Some (record { header = header; body = body })) sent ≡ body
+shown_length header [] sent e = refl
+shown_length header (b ∷ body) sent e = e
+
+-- the exchange is short where its writer is
+pub short_where_writer : (e : Entry) (reply : Reply) → e.reply ≡ Some reply
+    → e.sent_head ≡ Some reply.header → e.sent_body ≡ Some reply.body
+    → lacks (Some (out e.head.method reply.header))
+    (after_piece (begun (out e.head.method reply.header)) reply.body).written ≡ true
+    → is_short e ≡ true
+short_where_writer e reply is headed bodied h =
+    let short = short_body (out e.head.method reply.header) reply.body h in
+    let less : length reply.body < short.0 = short.2
+    (out_limit e.head.method reply.header short.0 short.1) in
+    let same : length (shown e.reply reply.body) ≡ length reply.body =
+    ap (λ r. length (shown r reply.body)) is ∙ ap length
+    (shown_length reply.header reply.body reply.body refl) in
+    short_entry e reply.header reply.body short.0 headed bodied short.1
+    (lt-ltb (length (shown e.reply reply.body)) short.0 (omega (arith, same, less)))

@@ -1,0 +1,116 @@
+-- Steps that read a head.
+use Rattle.std.proofs.Common.{◌≡◌, ℕ, inl, inr, List, [], true, Option, Some, None, IfNone, IsSome, option_map, Result, Ok, Err, sym, ◌∙◌, ap, subst}
+use Rattle.futures.specs.declared.task.Poll.{Poll}
+use Rattle.futures.specs.declared.task.Poll.TheVariants.{Ready, Pending}
+use Rattle.h1_error.specs.declared.error.Error.{Error}
+use Rattle.h1_error.specs.declared.progress.Waiting.TheVariants as waiting
+use Rattle.h1_error.specs.declared.progress.End.TheVariants as end
+use Rattle.h1_link.specs.LinkState.{LinkState}
+use Rattle.h1_head.specs.Views.{RequestView}
+use Rattle.h1_server.specs.Requests.{ReadsRequest, HeadAnswer, BeginsNone}
+use Rattle.h1_server.specs.SessionView.{SessionView, allowance}
+use Rattle.h1_server.specs.declared.request.ReadRequest.{ReadRequest}
+use Rattle.h1_server.specs.declared.request.ReadRequest.TheVariants as read
+use Rattle.h1_server.specs.declared.request.NoRequest.{NoRequest}
+use Rattle.h1_server.specs.declared.request.NoRequest.TheVariants.{Closed, IdleTimeout}
+use Rattle.h1_server.specs.declared.settings.Settings.{Settings}
+use Rattle.h1_app.specs.declared.transcript.Entry.{Entry}
+use Rattle.h1_app.specs.declared.exchange.Stage.{Stage}
+use Rattle.h1_app.specs.declared.exchange.Stage.TheVariants as stage
+use Rattle.h1_app.specs.declared.exchange.Outcome.TheVariants as outcome
+use Rattle.h1_app.specs.Causes.{LacksSo, FailureCause, EndCause}
+use Rattle.h1_app.specs.Since.{Since, IfTold}
+use Rattle.h1_app.specs.Sound.{SoundStage, IsAwaiting}
+use Rattle.h1_app.specs.Turns.{OutcomeCause}
+use Rattle.h1_app.proofs.SinceLemmas.{told_map, told_ahead, since_received, lacks_head, head_failed}
+
+-- the step's call, at a stage that awaits a head
+pub record AtHead {L : Type 0} (state : L → LinkState) (old new : SessionView L) (last : Option Entry) (answer : Poll (Result ReadRequest Error)) : Type 0 where
+  pub alone : last ≡ None
+  pub awaiting : IsAwaiting old
+  pub reads : ReadsRequest state old new answer
+
+pub at_head : {L J : Type 0} (state : L → LinkState) (runs : J → RequestView → Settings → Settings → List ℕ → Type 0) (old new : SessionView L) (last : Option Entry) (from : Stage J) (answer : Poll (Result ReadRequest Error))
+    → SoundStage runs old last from → from ≡ stage.Head → IfNone old.refused (ReadsRequest state old new answer) → AtHead state old new last answer
+at_head state runs old new last from answer sound at read =
+    let s = rw at at sound in
+    record { alone = s.0; awaiting = s.1; reads = subst (λ x. IfNone x (ReadsRequest state old new answer)) s.1.refused read }
+
+-- a session that kept its bytes
+pub none_since : {L : Type 0} (state : L → LinkState) (old new : SessionView L) (last : Option Entry) (answer : Poll (Result ReadRequest Error))
+    → (h : AtHead state old new last answer) → BeginsNone old new h.reads.bytes
+    → (before : LinkState) → Since state before old last → Since state before new last
+none_since state old new last answer h got before s =
+    let start : Since state before old None = subst (λ x. Since state before old x) h.alone s in
+    subst (λ x. Since state before new x) (sym h.alone)
+    (since_received state old new h.reads.bytes (allowance old.budget) h.reads.left before h.reads.received got.received h.reads.reply h.awaiting.request got.request start)
+
+-- the session still awaits a head
+pub still_awaits : {L : Type 0} (state : L → LinkState) (old new : SessionView L) (last : Option Entry) (answer : Poll (Result ReadRequest Error))
+    → (h : AtHead state old new last answer) → BeginsNone old new h.reads.bytes → new.refused ≡ None → IsAwaiting new
+still_awaits state old new last answer h none kept =
+    let a = h.awaiting in
+    record {
+      request = none.request;
+      refused = kept;
+      unwritten = rw h.reads.reply a.unwritten;
+      kept = rw none.body a.kept;
+      body_refused = rw none.body a.body_refused;
+      waits = rw none.body a.waits;
+    }
+
+left_none : (budget : Option ℕ) (left : ℕ) (new : Option ℕ) → IsSome budget → new ≡ option_map (λ _. left) budget → left ≡ 0 → new ≡ Some 0
+left_none None left new some e z = cc
+left_none (Some b) left new some e z = e ∙ ap (λ n. Some n) z
+
+-- what a pending read of a head waits for
+pub head_waits : {L J : Type 0} (state : L → LinkState) (pends : J → ℕ) (runs : J → RequestView → Settings → Settings → List ℕ → Type 0) (old new : SessionView L) (last : Option Entry) (from : Stage J)
+    → IsSome old.budget → from ≡ stage.Head → (h : AtHead state old new last Pending) → OutcomeCause state pends runs old new last from from (outcome.Waits waiting.Read)
+head_waits state pends runs old new last from some at h =
+    let a = h.reads.answer in
+    let awaits : IsAwaiting new = still_awaits state old new last Pending h a.0 a.1 in (
+      subst (λ x. SoundStage runs new last x) (sym at) (h.alone, awaits),
+      (
+        elim a.3 [ inl rose ↦ inl rose | inr z ↦ inr (left_none old.budget h.reads.left new.budget some h.reads.budget z) ],
+        (λ before s. subst (λ x. IfTold before.given (state new.link).given (λ since. LacksSo since x)) (sym h.alone)
+            (let start : Since state before new None = subst (λ x. Since state before new x) h.alone s in
+            told_map before.given (state new.link).given (λ since. since ≡ new.received) (λ since. LacksSo since None)
+            (λ since e. subst (λ x. LacksSo x None) (sym (e ∙ a.0.received)) (lacks_head h.reads.bytes a.2)) (told_ahead new before.given (state new.link).given awaits.request start.read))),
+      ),
+    )
+
+none_parts : {L : Type 0} (state : L → LinkState) (old new : SessionView L) (bytes : List ℕ) (left : ℕ) (why : NoRequest)
+    → HeadAnswer state old new bytes left (Ready (Ok (read.None why))) → BeginsNone old new bytes × (new.refused ≡ None) × ((state new.link).ended ≡ true) × (bytes ≡ [])
+none_parts state old new bytes left Closed a = a
+none_parts state old new bytes left IdleTimeout a = absurd a
+
+-- no request comes: the link ended, and no byte was received
+pub closed_since : {L : Type 0} (state : L → LinkState) (old new : SessionView L) (last : Option Entry) (why : NoRequest)
+    → AtHead state old new last (Ready (Ok (read.None why))) → (before : LinkState) → Since state before old last → Since state before new last
+closed_since state old new last why h =
+    let a = none_parts state old new h.reads.bytes h.reads.left why h.reads.answer in
+    none_since state old new last (Ready (Ok (read.None why))) h a.0
+
+pub closed_ends : {L : Type 0} (state : L → LinkState) (old new : SessionView L) (last : Option Entry) (why : NoRequest)
+    → AtHead state old new last (Ready (Ok (read.None why))) → (before : LinkState) → Since state before new last
+    → EndCause before (state old.link) (state new.link) last end.Finished
+closed_ends state old new last why h before s =
+    let a = none_parts state old new h.reads.bytes h.reads.left why h.reads.answer in
+    let start : Since state before new None = subst (λ x. Since state before new x) h.alone s in (
+      h.alone,
+      a.2,
+      told_map before.given (state new.link).given (λ since. since ≡ new.received) (λ since. since ≡ [])
+          (λ since e. e ∙ a.0.received ∙ a.3) (told_ahead new before.given (state new.link).given a.0.request start.read),
+    )
+
+-- a head read that failed
+pub failed_ends : {L : Type 0} (state : L → LinkState) (old new : SessionView L) (last : Option Entry) (error : Error)
+    → AtHead state old new last (Ready (Err error)) → (before : LinkState) → Since state before new last
+    → FailureCause before (state old.link) (state new.link) last error error.kind
+failed_ends state old new last error h before s =
+    let a = h.reads.answer in
+    let start : Since state before new None = subst (λ x. Since state before new x) h.alone s in
+    subst (λ x. FailureCause before (state old.link) (state new.link) x error error.kind) (sym h.alone)
+    (head_failed before (state old.link) (state new.link) h.reads.bytes error error.kind
+    (told_map before.given (state new.link).given (λ since. since ≡ new.received) (λ since. since ≡ h.reads.bytes) (λ since e. e ∙ a.0.received)
+    (told_ahead new before.given (state new.link).given a.0.request start.read)) a.2)

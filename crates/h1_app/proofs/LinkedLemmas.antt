@@ -1,0 +1,73 @@
+-- What was read and written since, where a connection is new or its link was used by others.
+use Rattle.std.proofs.Common.{◌≡◌, ℕ, ◌-◌, ◌^◌, min, List, [], ◌++◌, length, Option, Some, None, refl, sym, ◌∙◌, ap, append-nil, arith}
+use Rattle.h1_link.specs.LinkState.{LinkState}
+use Rattle.h1_link.specs.Later.{KeepsBytes}
+use Rattle.h1_link.proofs.Laters.{keeps_itself, later_itself, later_on, later_keeps, append_known-nil}
+use Rattle.h1_server.specs.SessionView.{SessionView, IsNewSession}
+use Rattle.h1_app.specs.declared.transcript.Entry.{Entry}
+use Rattle.h1_app.specs.Since.{Since, IfTold, ReadSo, WroteSo, StoppedSo}
+use Rattle.h1_app.proofs.SinceLemmas.{told_same, rose_later}
+use Rattle.h1_app.proofs.ReplyLemmas.{stopped_on}
+
+told_new : (known : Option (List ℕ)) (P : List ℕ → Type 0) → P [] → IfTold known known P
+told_new None P p = tt
+told_new (Some bytes) P p = ([], sym (append-nil bytes), p)
+
+-- nothing was read or written over a link since the session over it was made
+pub since_made : {L : Type 0} (state : L → LinkState) (link : L) (session : SessionView L) (last : Option Entry)
+    → IsNewSession link session → last ≡ None → Since state (state link) session last
+since_made state link session last is none = rw (none, is.link) (record {
+  later = later_itself (state link);
+  read = told_new (state link).given (λ since. ReadSo since session None) (rw (is.request, is.received) refl);
+  wrote = told_new (state link).written (λ since. WroteSo since session None × (session.reply.sent ≡ min (length since) (2 ^ 64 - 1)))
+      ((refl, is.reply.0), rw is.reply.4 refl);
+  stopped = tt;
+  out = omega (arith, is.reply.4);
+})
+
+read_as : {L : Type 0} (old new : SessionView L) (last : Option Entry) (since : List ℕ)
+    → new.received ≡ old.received → new.request ≡ old.request → new.body ≡ old.body
+    → ReadSo since old last → ReadSo since new last
+read_as old new None since received request body h = rw (received, request) h
+read_as old new (Some e) since received request body h = record {
+  n = h.n;
+  used = h.used;
+  head = h.head;
+  bytes = h.bytes ∙ ap (λ xs. h.used ++ xs) (sym received);
+  decoded = rw body h.decoded;
+}
+
+wrote_as : {L : Type 0} (old new : SessionView L) (last : Option Entry) (since : List ℕ)
+    → new.reply ≡ old.reply → WroteSo since old last → WroteSo since new last
+wrote_as old new None since reply h = rw reply h
+wrote_as old new (Some e) since reply h = rw reply h
+
+-- the link was used, and no byte of it moved
+pub since_linked : {L : Type 0} (state : L → LinkState) (old new : SessionView L) (last : Option Entry) (before : LinkState)
+    → KeepsBytes (state old.link) (state new.link) → new.received ≡ old.received → new.request ≡ old.request
+    → new.body ≡ old.body → new.reply ≡ old.reply → Since state before old last → Since state before new last
+since_linked {L} state old new last before kept received request body reply s =
+    let later = later_keeps (state old.link) (state new.link) kept in
+    record {
+      later = later_on before (state old.link) (state new.link) s.later later;
+      read = told_same before.given (state old.link).given (state new.link).given
+          (λ since. ReadSo since old last) (λ since. ReadSo since new last)
+          (kept.given ∙ sym (append_known-nil _)) (λ since h. read_as old new last since received request body h) s.read;
+      wrote = told_same before.written (state old.link).written (state new.link).written
+          (λ since. WroteSo since old last × (old.reply.sent ≡ min (length since) (2 ^ 64 - 1)))
+          (λ since. WroteSo since new last × (new.reply.sent ≡ min (length since) (2 ^ 64 - 1)))
+          (kept.written ∙ sym (append_known-nil _)) (λ since h. (wrote_as old new last since reply h.0, rw reply h.1)) s.wrote;
+      stopped = stays last s.stopped;
+      out = rw reply (rose_later old.reply.sent before.bytes_out _ _ kept.counts.bytes_out s.out);
+    }
+  where
+    stays : (last : Option Entry) → StoppedSo state old last → StoppedSo state new last
+    stays None h = tt
+    stays (Some e) h = stopped_on state old new e.body_error body received (later_keeps (state old.link) (state new.link) kept) h
+
+-- a poll's budget is no part of it
+pub since_budget : {L : Type 0} (state : L → LinkState) (old new : SessionView L) (budget : Option ℕ) (last : Option Entry) (before : LinkState)
+    → new ≡ record old { budget = budget } → Since state before old last → Since state before new last
+since_budget {L} state old new budget last before is s =
+    let set : SessionView L = record old { budget = budget } in
+    rw is (since_linked state old set last before (keeps_itself (state old.link)) refl refl refl refl s)

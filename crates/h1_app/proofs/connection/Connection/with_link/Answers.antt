@@ -1,0 +1,13 @@
+use Rattle.std.proofs.Common.{ap}
+use Rattle.h1_app.proofs.LinkedLemmas.{since_linked}
+use Rattle.h1_app.proofs.connection.Connection.with_link.Goals as goal
+
+pub with_link-requires-clause-keeps : goal.with_link-requires-clause-keeps
+with_link-requires-clause-keeps g c = λ answer link h. rw (← c.self.view_is) at c.requires.keeps answer link h
+
+pub returns-clause-since : goal.returns-clause-since
+returns-clause-since g c = λ before s.
+    let rest = c.with_link.ensures.rest in
+    since_linked g.L.Link.state c.self.inside.session c.with_link.new.self c.self.inside.transcript.last before
+    c.with_link.ensures.keeps (ap (λ v. v.received) rest) (ap (λ v. v.request) rest) (ap (λ v. v.body) rest) (ap (λ v. v.reply) rest)
+    (rw (← c.self.view_is) at s)

@@ -1,0 +1,23 @@
+use Rattle.std.proofs.Common.{refl}
+use Rattle.h1_app.proofs.AnswerLemmas.{at_answer, asked_on}
+use Rattle.h1_app.proofs.steps.answering.answer.Goals as goal
+
+pub returns-in-Reads-clause-since : goal.returns-in-Reads-clause-since
+returns-in-Reads-clause-since g c =
+    let s = at_answer (g.SV.ServeHttp.runs c.args.server.now.app) _ _ _ _ _ c.requires.sound c.in-Answer.is c.in-Some.is in
+    asked_on g.L.Link.state _ _ _ _ _ _ _ c.in-Some.is refl s.0 c.ask.ensures.asks
+
+pub returns-in-Pends-clause-since : goal.returns-in-Pends-clause-since
+returns-in-Pends-clause-since g c =
+    let s = at_answer (g.SV.ServeHttp.runs c.args.server.now.app) _ _ _ _ _ c.requires.sound c.in-Answer.is c.in-Some.is in
+    asked_on g.L.Link.state _ _ _ _ _ _ _ c.in-Some.is refl s.0 c.ask.ensures.asks
+
+pub returns-in-Failed-clause-since : goal.returns-in-Failed-clause-since
+returns-in-Failed-clause-since g c =
+    let s = at_answer (g.SV.ServeHttp.runs c.args.server.now.app) _ _ _ _ _ c.requires.sound c.in-Answer.is c.in-Some.is in
+    asked_on g.L.Link.state _ _ _ _ _ _ _ c.in-Some.is refl s.0 c.ask.ensures.asks
+
+pub returns-in-Replied-clause-since : goal.returns-in-Replied-clause-since
+returns-in-Replied-clause-since g c =
+    let s = at_answer (g.SV.ServeHttp.runs c.args.server.now.app) _ _ _ _ _ c.requires.sound c.in-Answer.is c.in-Some.is in
+    asked_on g.L.Link.state _ _ _ _ _ _ _ c.in-Some.is refl s.0 c.ask.ensures.asks

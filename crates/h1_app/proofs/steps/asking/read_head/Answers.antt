@@ -1,0 +1,48 @@
+use Rattle.h1_app.proofs.HeadLemmas.{at_head, none_since, head_waits, closed_since, failed_ends}
+use Rattle.h1_app.proofs.SinceLemmas.{went_received}
+use Rattle.h1_app.proofs.BeginLemmas.{headed_by, begun_since, begun_outcome}
+use Rattle.h1_app.proofs.steps.asking.read_head.Goals as goal
+
+pub returns-in-Pending-clause-since : goal.returns-in-Pending-clause-since
+returns-in-Pending-clause-since g c =
+    let h = at_head g.L.Link.state (g.SV.ServeHttp.runs c.args.server.now.app) _ _ _ _ _ c.requires.sound c.requires.at c.in-Pending.ensures.reads in
+    none_since _ _ _ _ _ h h.reads.answer.0
+
+pub returns-in-Pending-clause-outcome : goal.returns-in-Pending-clause-outcome
+returns-in-Pending-clause-outcome g c =
+    let h = at_head g.L.Link.state (g.SV.ServeHttp.runs c.args.server.now.app) _ _ _ _ _ c.requires.sound c.requires.at c.in-Pending.ensures.reads in
+    head_waits g.L.Link.state g.SV.ServeHttp.pends (g.SV.ServeHttp.runs c.args.server.now.app) _ _ _ _ c.requires.budget c.requires.at h
+
+pub returns-in-Ready-Ok-None-clause-since : goal.returns-in-Ready-Ok-None-clause-since
+returns-in-Ready-Ok-None-clause-since g c =
+    let reads = rw (c.in-Ready-Ok-None.is, c.in-Ready-Ok-None.field-0-is, c.in-Ready-Ok-None.field-0-0-is) at c.poll_read_request.ensures.reads in
+    closed_since _ _ _ _ _ (at_head g.L.Link.state (g.SV.ServeHttp.runs c.args.server.now.app) _ _ _ _ _ c.requires.sound c.requires.at reads)
+
+pub returns-in-Ready-Err-clause-since : goal.returns-in-Ready-Err-clause-since
+returns-in-Ready-Err-clause-since g c =
+    let reads = rw (c.in-Ready-Err.is, c.in-Ready-Err.field-0-is) at c.poll_read_request.ensures.reads in
+    let h = at_head g.L.Link.state (g.SV.ServeHttp.runs c.args.server.now.app) _ _ _ _ _ c.requires.sound c.requires.at reads in
+    none_since _ _ _ _ _ h h.reads.answer.0
+
+pub returns-in-Ready-Err-clause-outcome : goal.returns-in-Ready-Err-clause-outcome
+returns-in-Ready-Err-clause-outcome g c =
+    let reads = rw (c.in-Ready-Err.is, c.in-Ready-Err.field-0-is) at c.poll_read_request.ensures.reads in
+    failed_ends _ _ _ _ _ (at_head g.L.Link.state (g.SV.ServeHttp.runs c.args.server.now.app) _ _ _ _ _ c.requires.sound c.requires.at reads)
+
+pub returns-in-Ready-Ok-Head-clause-since : goal.returns-in-Ready-Ok-Head-clause-since
+returns-in-Ready-Ok-Head-clause-since g c =
+    let reads = rw (c.in-Ready-Ok-Head.is, c.in-Ready-Ok-Head.field-0-is, c.in-Ready-Ok-Head.field-0-0-is) at c.poll_read_request.ensures.reads in
+    let h = at_head g.L.Link.state (g.SV.ServeHttp.runs c.args.server.now.app) _ _ _ _ _ c.requires.sound c.requires.at reads in
+    begun_since g.L.Link.state g.SV.ServeHttp.begins (g.SV.ServeHttp.runs c.args.server.now.app) _ _ _ _ _ _ (headed_by _ _ _ _ _ _ _ h c.begin.ensures.session) c.begin.ensures.begun
+
+pub returns-in-Ready-Ok-Head-clause-outcome : goal.returns-in-Ready-Ok-Head-clause-outcome
+returns-in-Ready-Ok-Head-clause-outcome g c =
+    let reads = rw (c.in-Ready-Ok-Head.is, c.in-Ready-Ok-Head.field-0-is, c.in-Ready-Ok-Head.field-0-0-is) at c.poll_read_request.ensures.reads in
+    let h = at_head g.L.Link.state (g.SV.ServeHttp.runs c.args.server.now.app) _ _ _ _ _ c.requires.sound c.requires.at reads in
+    begun_outcome g.L.Link.state g.SV.ServeHttp.begins g.SV.ServeHttp.pends (g.SV.ServeHttp.runs c.args.server.now.app) _ _ _ _ _ _ _ c.requires.at (headed_by _ _ _ _ _ _ _ h c.begin.ensures.session) c.begin.ensures.begun
+
+pub returns-in-Ready-Ok-Head-clause-went : goal.returns-in-Ready-Ok-Head-clause-went
+returns-in-Ready-Ok-Head-clause-went g c =
+    let reads = rw (c.in-Ready-Ok-Head.is, c.in-Ready-Ok-Head.field-0-is, c.in-Ready-Ok-Head.field-0-0-is) at c.poll_read_request.ensures.reads in
+    let h = at_head g.L.Link.state (g.SV.ServeHttp.runs c.args.server.now.app) _ _ _ _ _ c.requires.sound c.requires.at reads in
+    rw c.begin.ensures.session (went_received g.L.Link.state _ _ _ _ h.reads.received h.reads.budget)

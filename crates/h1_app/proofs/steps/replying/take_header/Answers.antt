@@ -1,0 +1,405 @@
+-- The header is taken up.
+use Rattle.std.proofs.Common.{◌≡◌, ◌/◌, Some, Ok, Err, arith}
+use Rattle.h1_app.specs.Exchange.{IsAllowed}
+use Rattle.h1_app.proofs.ReplyLemmas.{at_some, ready_is, went_wrote, went_itself, went_same, grows_itself}
+use Rattle.h1_server.proofs.MovedLemmas.{moved_itself}
+use Rattle.h1_app.proofs.HeaderTaken.{at_take_header, taking_header, out_where_pending, out_where_done, out_where_none, same_where_kept, writes_header, headed_since, headed_grows, headed_allowed, headed_waits, headed_done, headed_fails}
+use Rattle.h1_app.proofs.steps.replying.take_header.Goals as goal
+
+pub returns-in-Err-clause-went : goal.returns-in-Err-clause-went
+returns-in-Err-clause-went g c =
+    went_itself g.L.Link.state c.args.session.now
+    (moved_itself (g.L.Link.state c.args.session.now.link)) c.requires.budget
+
+pub returns-in-Pending-clause-went : goal.returns-in-Pending-clause-went
+returns-in-Pending-clause-went g c =
+    let h = at_take_header (g.SV.ServeHttp.runs c.args.server.now.app) c.args.session.now
+    c.args.last.now c.args.stage.now c.in-Some.entry c.requires.at c.in-Some.is
+    c.requires.sound in
+    let b = at_some (λ reply. (c.in-Ok.headers.0 ≡ reply.header) ×
+    (c.in-Ok.headers.1 ≡ Some reply.header)) c.in-Some.entry.reply h.reply h.replied.is
+    c.in-Ok.ensures.ok in
+    let t = taking_header g.L.Link.state c.args.session.now c.poll_write_response_header.new.self
+    c.in-Some.entry c.in-Ok.headers.1 c.poll_write_response_header.new.header c.args.now
+    c.poll_write_response_header.result h b.1 c.poll_write_response_header.ensures.writes in
+    let none = out_where_pending g.L.Link.state c.args.session.now
+    c.poll_write_response_header.new.self h.request (Some h.reply.header)
+    c.poll_write_response_header.new.header c.args.now c.poll_write_response_header.result t
+    c.in-Pending.is in
+    let w = writes_header g.L.Link.state c.args.session.now c.poll_write_response_header.new.self
+    h.request (Some h.reply.header) c.poll_write_response_header.new.header c.args.now
+    c.poll_write_response_header.result t none in
+    went_wrote g.L.Link.state c.args.session.now c.poll_write_response_header.new.self w.taking
+    w.left c.requires.budget w.writes
+
+pub returns-in-Pending-clause-since : goal.returns-in-Pending-clause-since
+returns-in-Pending-clause-since g c =
+    let h = at_take_header (g.SV.ServeHttp.runs c.args.server.now.app) c.args.session.now
+    c.args.last.now c.args.stage.now c.in-Some.entry c.requires.at c.in-Some.is
+    c.requires.sound in
+    let b = at_some (λ reply. (c.in-Ok.headers.0 ≡ reply.header) ×
+    (c.in-Ok.headers.1 ≡ Some reply.header)) c.in-Some.entry.reply h.reply h.replied.is
+    c.in-Ok.ensures.ok in
+    let t = taking_header g.L.Link.state c.args.session.now c.poll_write_response_header.new.self
+    c.in-Some.entry c.in-Ok.headers.1 c.poll_write_response_header.new.header c.args.now
+    c.poll_write_response_header.result h b.1 c.poll_write_response_header.ensures.writes in
+    let none = out_where_pending g.L.Link.state c.args.session.now
+    c.poll_write_response_header.new.self h.request (Some h.reply.header)
+    c.poll_write_response_header.new.header c.args.now c.poll_write_response_header.result t
+    c.in-Pending.is in
+    let w = writes_header g.L.Link.state c.args.session.now c.poll_write_response_header.new.self
+    h.request (Some h.reply.header) c.poll_write_response_header.new.header c.args.now
+    c.poll_write_response_header.result t none in
+    λ before s. rw c.note_header.ensures.rest
+    (headed_since g.L.Link.state before c.args.session.now c.poll_write_response_header.new.self
+    c.in-Some.entry c.args.now c.poll_write_response_header.result c.in-Ok.headers.0
+    c.note_header.new.entry.date_text c.reply_keeps.result c.written_bytes.result h w b.0
+    c.note_header.ensures.date c.reply_keeps.ensures (rw c.in-Some.is at s))
+
+pub returns-in-Pending-clause-allowed : goal.returns-in-Pending-clause-allowed
+returns-in-Pending-clause-allowed g c =
+    let h = at_take_header (g.SV.ServeHttp.runs c.args.server.now.app) c.args.session.now
+    c.args.last.now c.args.stage.now c.in-Some.entry c.requires.at c.in-Some.is
+    c.requires.sound in
+    let b = at_some (λ reply. (c.in-Ok.headers.0 ≡ reply.header) ×
+    (c.in-Ok.headers.1 ≡ Some reply.header)) c.in-Some.entry.reply h.reply h.replied.is
+    c.in-Ok.ensures.ok in
+    let t = taking_header g.L.Link.state c.args.session.now c.poll_write_response_header.new.self
+    c.in-Some.entry c.in-Ok.headers.1 c.poll_write_response_header.new.header c.args.now
+    c.poll_write_response_header.result h b.1 c.poll_write_response_header.ensures.writes in
+    let none = out_where_pending g.L.Link.state c.args.session.now
+    c.poll_write_response_header.new.self h.request (Some h.reply.header)
+    c.poll_write_response_header.new.header c.args.now c.poll_write_response_header.result t
+    c.in-Pending.is in
+    let w = writes_header g.L.Link.state c.args.session.now c.poll_write_response_header.new.self
+    h.request (Some h.reply.header) c.poll_write_response_header.new.header c.args.now
+    c.poll_write_response_header.result t none in
+    let a = at_some (IsAllowed (g.SV.ServeHttp.gives c.args.server.now.app)) c.args.last.now
+    c.in-Some.entry c.in-Some.is c.requires.allowed in
+    rw c.note_header.ensures.rest (headed_allowed (g.SV.ServeHttp.gives c.args.server.now.app)
+    g.L.Link.state c.args.session.now c.poll_write_response_header.new.self c.in-Some.entry
+    c.args.now c.poll_write_response_header.result c.in-Ok.headers.0
+    c.note_header.new.entry.date_text c.reply_keeps.result c.written_bytes.result h w b.0
+    c.note_header.ensures.date c.requires.moment c.reply_keeps.ensures c.requires.lawful a)
+
+pub returns-in-Pending-clause-extends : goal.returns-in-Pending-clause-extends
+returns-in-Pending-clause-extends g c =
+    let h = at_take_header (g.SV.ServeHttp.runs c.args.server.now.app) c.args.session.now
+    c.args.last.now c.args.stage.now c.in-Some.entry c.requires.at c.in-Some.is
+    c.requires.sound in
+    let b = at_some (λ reply. (c.in-Ok.headers.0 ≡ reply.header) ×
+    (c.in-Ok.headers.1 ≡ Some reply.header)) c.in-Some.entry.reply h.reply h.replied.is
+    c.in-Ok.ensures.ok in
+    let t = taking_header g.L.Link.state c.args.session.now c.poll_write_response_header.new.self
+    c.in-Some.entry c.in-Ok.headers.1 c.poll_write_response_header.new.header c.args.now
+    c.poll_write_response_header.result h b.1 c.poll_write_response_header.ensures.writes in
+    let none = out_where_pending g.L.Link.state c.args.session.now
+    c.poll_write_response_header.new.self h.request (Some h.reply.header)
+    c.poll_write_response_header.new.header c.args.now c.poll_write_response_header.result t
+    c.in-Pending.is in
+    let w = writes_header g.L.Link.state c.args.session.now c.poll_write_response_header.new.self
+    h.request (Some h.reply.header) c.poll_write_response_header.new.header c.args.now
+    c.poll_write_response_header.result t none in
+    rw (c.in-Some.is, c.note_header.ensures.rest)
+    (headed_grows g.L.Link.state c.args.session.now c.poll_write_response_header.new.self
+    c.in-Some.entry c.args.now c.poll_write_response_header.result c.in-Ok.headers.0
+    (c.args.now / 1000) c.note_header.new.entry.date_text c.reply_keeps.result
+    c.written_bytes.result h w c.written_bytes.ensures)
+
+pub returns-in-Pending-clause-outcome : goal.returns-in-Pending-clause-outcome
+returns-in-Pending-clause-outcome g c =
+    let h = at_take_header (g.SV.ServeHttp.runs c.args.server.now.app) c.args.session.now
+    c.args.last.now c.args.stage.now c.in-Some.entry c.requires.at c.in-Some.is
+    c.requires.sound in
+    let b = at_some (λ reply. (c.in-Ok.headers.0 ≡ reply.header) ×
+    (c.in-Ok.headers.1 ≡ Some reply.header)) c.in-Some.entry.reply h.reply h.replied.is
+    c.in-Ok.ensures.ok in
+    let t = taking_header g.L.Link.state c.args.session.now c.poll_write_response_header.new.self
+    c.in-Some.entry c.in-Ok.headers.1 c.poll_write_response_header.new.header c.args.now
+    c.poll_write_response_header.result h b.1 c.poll_write_response_header.ensures.writes in
+    let none = out_where_pending g.L.Link.state c.args.session.now
+    c.poll_write_response_header.new.self h.request (Some h.reply.header)
+    c.poll_write_response_header.new.header c.args.now c.poll_write_response_header.result t
+    c.in-Pending.is in
+    let w = writes_header g.L.Link.state c.args.session.now c.poll_write_response_header.new.self
+    h.request (Some h.reply.header) c.poll_write_response_header.new.header c.args.now
+    c.poll_write_response_header.result t none in
+    rw c.note_header.ensures.rest (headed_waits (g.SV.ServeHttp.runs c.args.server.now.app)
+    g.L.Link.state c.args.session.now c.poll_write_response_header.new.self c.in-Some.entry
+    c.args.now c.poll_write_response_header.result c.in-Ok.headers.0 (c.args.now / 1000)
+    c.note_header.new.entry.date_text c.reply_keeps.result c.written_bytes.result h w b.0
+    c.reply_keeps.ensures c.written_bytes.ensures c.in-Pending.is c.requires.budget)
+
+pub returns-in-Ready-Ok-clause-went : goal.returns-in-Ready-Ok-clause-went
+returns-in-Ready-Ok-clause-went g c =
+    let h = at_take_header (g.SV.ServeHttp.runs c.args.server.now.app) c.args.session.now
+    c.args.last.now c.args.stage.now c.in-Some.entry c.requires.at c.in-Some.is
+    c.requires.sound in
+    let b = at_some (λ reply. (c.in-Ok.headers.0 ≡ reply.header) ×
+    (c.in-Ok.headers.1 ≡ Some reply.header)) c.in-Some.entry.reply h.reply h.replied.is
+    c.in-Ok.ensures.ok in
+    let t = taking_header g.L.Link.state c.args.session.now c.poll_write_response_header.new.self
+    c.in-Some.entry c.in-Ok.headers.1 c.poll_write_response_header.new.header c.args.now
+    c.poll_write_response_header.result h b.1 c.poll_write_response_header.ensures.writes in
+    let ready = ready_is _ c.in-Ready-Ok.field-0 (Ok c.in-Ready-Ok.field-0-0) c.in-Ready-Ok.is
+    c.in-Ready-Ok.field-0-is in
+    let none = out_where_done g.L.Link.state c.args.session.now
+    c.poll_write_response_header.new.self h.request (Some h.reply.header)
+    c.poll_write_response_header.new.header c.args.now c.poll_write_response_header.result
+    c.in-Ready-Ok.field-0-0 t ready in
+    let w = writes_header g.L.Link.state c.args.session.now c.poll_write_response_header.new.self
+    h.request (Some h.reply.header) c.poll_write_response_header.new.header c.args.now
+    c.poll_write_response_header.result t none in
+    went_wrote g.L.Link.state c.args.session.now c.poll_write_response_header.new.self w.taking
+    w.left c.requires.budget w.writes
+
+pub returns-in-Ready-Ok-clause-since : goal.returns-in-Ready-Ok-clause-since
+returns-in-Ready-Ok-clause-since g c =
+    let h = at_take_header (g.SV.ServeHttp.runs c.args.server.now.app) c.args.session.now
+    c.args.last.now c.args.stage.now c.in-Some.entry c.requires.at c.in-Some.is
+    c.requires.sound in
+    let b = at_some (λ reply. (c.in-Ok.headers.0 ≡ reply.header) ×
+    (c.in-Ok.headers.1 ≡ Some reply.header)) c.in-Some.entry.reply h.reply h.replied.is
+    c.in-Ok.ensures.ok in
+    let t = taking_header g.L.Link.state c.args.session.now c.poll_write_response_header.new.self
+    c.in-Some.entry c.in-Ok.headers.1 c.poll_write_response_header.new.header c.args.now
+    c.poll_write_response_header.result h b.1 c.poll_write_response_header.ensures.writes in
+    let ready = ready_is _ c.in-Ready-Ok.field-0 (Ok c.in-Ready-Ok.field-0-0) c.in-Ready-Ok.is
+    c.in-Ready-Ok.field-0-is in
+    let none = out_where_done g.L.Link.state c.args.session.now
+    c.poll_write_response_header.new.self h.request (Some h.reply.header)
+    c.poll_write_response_header.new.header c.args.now c.poll_write_response_header.result
+    c.in-Ready-Ok.field-0-0 t ready in
+    let w = writes_header g.L.Link.state c.args.session.now c.poll_write_response_header.new.self
+    h.request (Some h.reply.header) c.poll_write_response_header.new.header c.args.now
+    c.poll_write_response_header.result t none in
+    λ before s. rw c.note_header-in-Ready-Ok.ensures.rest
+    (headed_since g.L.Link.state before c.args.session.now c.poll_write_response_header.new.self
+    c.in-Some.entry c.args.now c.poll_write_response_header.result c.in-Ok.headers.0
+    c.note_header-in-Ready-Ok.new.entry.date_text c.reply_keeps-in-Ready-Ok.result
+    c.written_bytes-in-Ready-Ok.result h w b.0 c.note_header-in-Ready-Ok.ensures.date
+    c.reply_keeps-in-Ready-Ok.ensures (rw c.in-Some.is at s))
+
+pub returns-in-Ready-Ok-clause-allowed : goal.returns-in-Ready-Ok-clause-allowed
+returns-in-Ready-Ok-clause-allowed g c =
+    let h = at_take_header (g.SV.ServeHttp.runs c.args.server.now.app) c.args.session.now
+    c.args.last.now c.args.stage.now c.in-Some.entry c.requires.at c.in-Some.is
+    c.requires.sound in
+    let b = at_some (λ reply. (c.in-Ok.headers.0 ≡ reply.header) ×
+    (c.in-Ok.headers.1 ≡ Some reply.header)) c.in-Some.entry.reply h.reply h.replied.is
+    c.in-Ok.ensures.ok in
+    let t = taking_header g.L.Link.state c.args.session.now c.poll_write_response_header.new.self
+    c.in-Some.entry c.in-Ok.headers.1 c.poll_write_response_header.new.header c.args.now
+    c.poll_write_response_header.result h b.1 c.poll_write_response_header.ensures.writes in
+    let ready = ready_is _ c.in-Ready-Ok.field-0 (Ok c.in-Ready-Ok.field-0-0) c.in-Ready-Ok.is
+    c.in-Ready-Ok.field-0-is in
+    let none = out_where_done g.L.Link.state c.args.session.now
+    c.poll_write_response_header.new.self h.request (Some h.reply.header)
+    c.poll_write_response_header.new.header c.args.now c.poll_write_response_header.result
+    c.in-Ready-Ok.field-0-0 t ready in
+    let w = writes_header g.L.Link.state c.args.session.now c.poll_write_response_header.new.self
+    h.request (Some h.reply.header) c.poll_write_response_header.new.header c.args.now
+    c.poll_write_response_header.result t none in
+    let a = at_some (IsAllowed (g.SV.ServeHttp.gives c.args.server.now.app)) c.args.last.now
+    c.in-Some.entry c.in-Some.is c.requires.allowed in
+    rw c.note_header-in-Ready-Ok.ensures.rest
+    (headed_allowed (g.SV.ServeHttp.gives c.args.server.now.app) g.L.Link.state
+    c.args.session.now c.poll_write_response_header.new.self c.in-Some.entry c.args.now
+    c.poll_write_response_header.result c.in-Ok.headers.0
+    c.note_header-in-Ready-Ok.new.entry.date_text c.reply_keeps-in-Ready-Ok.result
+    c.written_bytes-in-Ready-Ok.result h w b.0 c.note_header-in-Ready-Ok.ensures.date
+    c.requires.moment c.reply_keeps-in-Ready-Ok.ensures c.requires.lawful a)
+
+pub returns-in-Ready-Ok-clause-extends : goal.returns-in-Ready-Ok-clause-extends
+returns-in-Ready-Ok-clause-extends g c =
+    let h = at_take_header (g.SV.ServeHttp.runs c.args.server.now.app) c.args.session.now
+    c.args.last.now c.args.stage.now c.in-Some.entry c.requires.at c.in-Some.is
+    c.requires.sound in
+    let b = at_some (λ reply. (c.in-Ok.headers.0 ≡ reply.header) ×
+    (c.in-Ok.headers.1 ≡ Some reply.header)) c.in-Some.entry.reply h.reply h.replied.is
+    c.in-Ok.ensures.ok in
+    let t = taking_header g.L.Link.state c.args.session.now c.poll_write_response_header.new.self
+    c.in-Some.entry c.in-Ok.headers.1 c.poll_write_response_header.new.header c.args.now
+    c.poll_write_response_header.result h b.1 c.poll_write_response_header.ensures.writes in
+    let ready = ready_is _ c.in-Ready-Ok.field-0 (Ok c.in-Ready-Ok.field-0-0) c.in-Ready-Ok.is
+    c.in-Ready-Ok.field-0-is in
+    let none = out_where_done g.L.Link.state c.args.session.now
+    c.poll_write_response_header.new.self h.request (Some h.reply.header)
+    c.poll_write_response_header.new.header c.args.now c.poll_write_response_header.result
+    c.in-Ready-Ok.field-0-0 t ready in
+    let w = writes_header g.L.Link.state c.args.session.now c.poll_write_response_header.new.self
+    h.request (Some h.reply.header) c.poll_write_response_header.new.header c.args.now
+    c.poll_write_response_header.result t none in
+    rw (c.in-Some.is, c.note_header-in-Ready-Ok.ensures.rest)
+    (headed_grows g.L.Link.state c.args.session.now c.poll_write_response_header.new.self
+    c.in-Some.entry c.args.now c.poll_write_response_header.result c.in-Ok.headers.0
+    (c.args.now / 1000) c.note_header-in-Ready-Ok.new.entry.date_text
+    c.reply_keeps-in-Ready-Ok.result c.written_bytes-in-Ready-Ok.result h w
+    c.written_bytes-in-Ready-Ok.ensures)
+
+pub returns-in-Ready-Ok-clause-outcome : goal.returns-in-Ready-Ok-clause-outcome
+returns-in-Ready-Ok-clause-outcome g c =
+    let h = at_take_header (g.SV.ServeHttp.runs c.args.server.now.app) c.args.session.now
+    c.args.last.now c.args.stage.now c.in-Some.entry c.requires.at c.in-Some.is
+    c.requires.sound in
+    let b = at_some (λ reply. (c.in-Ok.headers.0 ≡ reply.header) ×
+    (c.in-Ok.headers.1 ≡ Some reply.header)) c.in-Some.entry.reply h.reply h.replied.is
+    c.in-Ok.ensures.ok in
+    let t = taking_header g.L.Link.state c.args.session.now c.poll_write_response_header.new.self
+    c.in-Some.entry c.in-Ok.headers.1 c.poll_write_response_header.new.header c.args.now
+    c.poll_write_response_header.result h b.1 c.poll_write_response_header.ensures.writes in
+    let ready = ready_is _ c.in-Ready-Ok.field-0 (Ok c.in-Ready-Ok.field-0-0) c.in-Ready-Ok.is
+    c.in-Ready-Ok.field-0-is in
+    let none = out_where_done g.L.Link.state c.args.session.now
+    c.poll_write_response_header.new.self h.request (Some h.reply.header)
+    c.poll_write_response_header.new.header c.args.now c.poll_write_response_header.result
+    c.in-Ready-Ok.field-0-0 t ready in
+    let w = writes_header g.L.Link.state c.args.session.now c.poll_write_response_header.new.self
+    h.request (Some h.reply.header) c.poll_write_response_header.new.header c.args.now
+    c.poll_write_response_header.result t none in
+    rw c.note_header-in-Ready-Ok.ensures.rest (
+      headed_done (g.SV.ServeHttp.runs c.args.server.now.app) g.L.Link.state c.args.session.now
+          c.poll_write_response_header.new.self c.in-Some.entry c.args.now
+          c.poll_write_response_header.result c.in-Ready-Ok.field-0-0 c.in-Ok.headers.0
+          (c.args.now / 1000) c.note_header-in-Ready-Ok.new.entry.date_text
+          c.reply_keeps-in-Ready-Ok.result c.written_bytes-in-Ready-Ok.result h w b.0
+          c.reply_keeps-in-Ready-Ok.ensures c.written_bytes-in-Ready-Ok.ensures ready,
+      rw
+          c.requires.at (omega arith),
+      tt,
+    )
+
+pub returns-then-is_none-clause-went : goal.returns-then-is_none-clause-went
+returns-then-is_none-clause-went g c =
+    let h = at_take_header (g.SV.ServeHttp.runs c.args.server.now.app) c.args.session.now
+    c.args.last.now c.args.stage.now c.in-Some.entry c.requires.at c.in-Some.is
+    c.requires.sound in
+    let b = at_some (λ reply. (c.in-Ok.headers.0 ≡ reply.header) ×
+    (c.in-Ok.headers.1 ≡ Some reply.header)) c.in-Some.entry.reply h.reply h.replied.is
+    c.in-Ok.ensures.ok in
+    let t = taking_header g.L.Link.state c.args.session.now c.poll_write_response_header.new.self
+    c.in-Some.entry c.in-Ok.headers.1 c.poll_write_response_header.new.header c.args.now
+    c.poll_write_response_header.result h b.1 c.poll_write_response_header.ensures.writes in
+    let none = out_where_none c.poll_write_response_header.new.header c.is_none.result
+    c.is_none.ensures c.if-is_none.true in
+    let w = writes_header g.L.Link.state c.args.session.now c.poll_write_response_header.new.self
+    h.request (Some h.reply.header) c.poll_write_response_header.new.header c.args.now
+    c.poll_write_response_header.result t none in
+    went_wrote g.L.Link.state c.args.session.now c.poll_write_response_header.new.self w.taking
+    w.left c.requires.budget w.writes
+
+pub returns-then-is_none-clause-since : goal.returns-then-is_none-clause-since
+returns-then-is_none-clause-since g c =
+    let h = at_take_header (g.SV.ServeHttp.runs c.args.server.now.app) c.args.session.now
+    c.args.last.now c.args.stage.now c.in-Some.entry c.requires.at c.in-Some.is
+    c.requires.sound in
+    let b = at_some (λ reply. (c.in-Ok.headers.0 ≡ reply.header) ×
+    (c.in-Ok.headers.1 ≡ Some reply.header)) c.in-Some.entry.reply h.reply h.replied.is
+    c.in-Ok.ensures.ok in
+    let t = taking_header g.L.Link.state c.args.session.now c.poll_write_response_header.new.self
+    c.in-Some.entry c.in-Ok.headers.1 c.poll_write_response_header.new.header c.args.now
+    c.poll_write_response_header.result h b.1 c.poll_write_response_header.ensures.writes in
+    let none = out_where_none c.poll_write_response_header.new.header c.is_none.result
+    c.is_none.ensures c.if-is_none.true in
+    let w = writes_header g.L.Link.state c.args.session.now c.poll_write_response_header.new.self
+    h.request (Some h.reply.header) c.poll_write_response_header.new.header c.args.now
+    c.poll_write_response_header.result t none in
+    λ before s. rw c.note_header-then-is_none.ensures.rest
+    (headed_since g.L.Link.state before c.args.session.now c.poll_write_response_header.new.self
+    c.in-Some.entry c.args.now c.poll_write_response_header.result c.in-Ok.headers.0
+    c.note_header-then-is_none.new.entry.date_text c.reply_keeps-then-is_none.result
+    c.written_bytes-then-is_none.result h w b.0 c.note_header-then-is_none.ensures.date
+    c.reply_keeps-then-is_none.ensures (rw c.in-Some.is at s))
+
+pub returns-then-is_none-clause-allowed : goal.returns-then-is_none-clause-allowed
+returns-then-is_none-clause-allowed g c =
+    let h = at_take_header (g.SV.ServeHttp.runs c.args.server.now.app) c.args.session.now
+    c.args.last.now c.args.stage.now c.in-Some.entry c.requires.at c.in-Some.is
+    c.requires.sound in
+    let b = at_some (λ reply. (c.in-Ok.headers.0 ≡ reply.header) ×
+    (c.in-Ok.headers.1 ≡ Some reply.header)) c.in-Some.entry.reply h.reply h.replied.is
+    c.in-Ok.ensures.ok in
+    let t = taking_header g.L.Link.state c.args.session.now c.poll_write_response_header.new.self
+    c.in-Some.entry c.in-Ok.headers.1 c.poll_write_response_header.new.header c.args.now
+    c.poll_write_response_header.result h b.1 c.poll_write_response_header.ensures.writes in
+    let none = out_where_none c.poll_write_response_header.new.header c.is_none.result
+    c.is_none.ensures c.if-is_none.true in
+    let w = writes_header g.L.Link.state c.args.session.now c.poll_write_response_header.new.self
+    h.request (Some h.reply.header) c.poll_write_response_header.new.header c.args.now
+    c.poll_write_response_header.result t none in
+    let a = at_some (IsAllowed (g.SV.ServeHttp.gives c.args.server.now.app)) c.args.last.now
+    c.in-Some.entry c.in-Some.is c.requires.allowed in
+    rw c.note_header-then-is_none.ensures.rest
+    (headed_allowed (g.SV.ServeHttp.gives c.args.server.now.app) g.L.Link.state
+    c.args.session.now c.poll_write_response_header.new.self c.in-Some.entry c.args.now
+    c.poll_write_response_header.result c.in-Ok.headers.0
+    c.note_header-then-is_none.new.entry.date_text c.reply_keeps-then-is_none.result
+    c.written_bytes-then-is_none.result h w b.0 c.note_header-then-is_none.ensures.date
+    c.requires.moment c.reply_keeps-then-is_none.ensures c.requires.lawful a)
+
+pub returns-then-is_none-clause-extends : goal.returns-then-is_none-clause-extends
+returns-then-is_none-clause-extends g c =
+    let h = at_take_header (g.SV.ServeHttp.runs c.args.server.now.app) c.args.session.now
+    c.args.last.now c.args.stage.now c.in-Some.entry c.requires.at c.in-Some.is
+    c.requires.sound in
+    let b = at_some (λ reply. (c.in-Ok.headers.0 ≡ reply.header) ×
+    (c.in-Ok.headers.1 ≡ Some reply.header)) c.in-Some.entry.reply h.reply h.replied.is
+    c.in-Ok.ensures.ok in
+    let t = taking_header g.L.Link.state c.args.session.now c.poll_write_response_header.new.self
+    c.in-Some.entry c.in-Ok.headers.1 c.poll_write_response_header.new.header c.args.now
+    c.poll_write_response_header.result h b.1 c.poll_write_response_header.ensures.writes in
+    let none = out_where_none c.poll_write_response_header.new.header c.is_none.result
+    c.is_none.ensures c.if-is_none.true in
+    let w = writes_header g.L.Link.state c.args.session.now c.poll_write_response_header.new.self
+    h.request (Some h.reply.header) c.poll_write_response_header.new.header c.args.now
+    c.poll_write_response_header.result t none in
+    rw (c.in-Some.is, c.note_header-then-is_none.ensures.rest)
+    (headed_grows g.L.Link.state c.args.session.now c.poll_write_response_header.new.self
+    c.in-Some.entry c.args.now c.poll_write_response_header.result c.in-Ok.headers.0
+    (c.args.now / 1000) c.note_header-then-is_none.new.entry.date_text
+    c.reply_keeps-then-is_none.result c.written_bytes-then-is_none.result h w
+    c.written_bytes-then-is_none.ensures)
+
+pub returns-then-is_none-clause-outcome : goal.returns-then-is_none-clause-outcome
+returns-then-is_none-clause-outcome g c =
+    let h = at_take_header (g.SV.ServeHttp.runs c.args.server.now.app) c.args.session.now
+    c.args.last.now c.args.stage.now c.in-Some.entry c.requires.at c.in-Some.is
+    c.requires.sound in
+    let b = at_some (λ reply. (c.in-Ok.headers.0 ≡ reply.header) ×
+    (c.in-Ok.headers.1 ≡ Some reply.header)) c.in-Some.entry.reply h.reply h.replied.is
+    c.in-Ok.ensures.ok in
+    let t = taking_header g.L.Link.state c.args.session.now c.poll_write_response_header.new.self
+    c.in-Some.entry c.in-Ok.headers.1 c.poll_write_response_header.new.header c.args.now
+    c.poll_write_response_header.result h b.1 c.poll_write_response_header.ensures.writes in
+    let none = out_where_none c.poll_write_response_header.new.header c.is_none.result
+    c.is_none.ensures c.if-is_none.true in
+    let w = writes_header g.L.Link.state c.args.session.now c.poll_write_response_header.new.self
+    h.request (Some h.reply.header) c.poll_write_response_header.new.header c.args.now
+    c.poll_write_response_header.result t none in
+    λ before s. headed_fails g.L.Link.state before c.args.session.now
+    c.poll_write_response_header.new.self _ h.request (Some h.reply.header) c.args.now
+    c.poll_write_response_header.result c.in-Ready-Err.error w
+    (ready_is _ c.in-Ready-Err.field-0 (Err c.in-Ready-Err.error) c.in-Ready-Err.is
+    c.in-Ready-Err.field-0-is)
+
+pub returns-else-is_none-clause-went : goal.returns-else-is_none-clause-went
+returns-else-is_none-clause-went g c =
+    let h = at_take_header (g.SV.ServeHttp.runs c.args.server.now.app) c.args.session.now
+    c.args.last.now c.args.stage.now c.in-Some.entry c.requires.at c.in-Some.is
+    c.requires.sound in
+    let b = at_some (λ reply. (c.in-Ok.headers.0 ≡ reply.header) ×
+    (c.in-Ok.headers.1 ≡ Some reply.header)) c.in-Some.entry.reply h.reply h.replied.is
+    c.in-Ok.ensures.ok in
+    let t = taking_header g.L.Link.state c.args.session.now c.poll_write_response_header.new.self
+    c.in-Some.entry c.in-Ok.headers.1 c.poll_write_response_header.new.header c.args.now
+    c.poll_write_response_header.result h b.1 c.poll_write_response_header.ensures.writes in
+    let same = same_where_kept g.L.Link.state c.args.session.now
+    c.poll_write_response_header.new.self h.request (Some h.reply.header)
+    c.poll_write_response_header.new.header c.args.now c.poll_write_response_header.result
+    c.is_none.result t c.is_none.ensures c.if-is_none.false in
+    went_same g.L.Link.state c.args.session.now c.poll_write_response_header.new.self same
+    (moved_itself (g.L.Link.state c.args.session.now.link)) c.requires.budget
+
+pub returns-else-is_none-clause-extends : goal.returns-else-is_none-clause-extends
+returns-else-is_none-clause-extends g c =
+    rw c.in-Some.is (grows_itself c.in-Some.entry)

@@ -1,0 +1,124 @@
+-- When each answer of a poll comes.
+use Rattle.std.specs.Prelude.{◌≡◌, ◌≢◌, ℕ, ◌+◌, ◌≤◌, ◌⊎◌, List, [], ◌∷◌, length, drop, Bool, true, false, Option, Some, None}
+use Rattle.h1_error.specs.declared.error.Error.{Error}
+use Rattle.h1_error.specs.declared.error.ErrorType.{ErrorType}
+use Rattle.h1_error.specs.declared.error.ErrorType.TheVariants as kind
+use Rattle.h1_error.specs.declared.progress.End.{End}
+use Rattle.h1_error.specs.declared.progress.End.TheVariants as end
+use Rattle.h1_error.specs.declared.progress.Waiting.{Waiting}
+use Rattle.h1_error.specs.declared.progress.Waiting.TheVariants as waiting
+use Rattle.h1_error.specs.declared.progress.Progress.{Progress}
+use Rattle.h1_error.specs.declared.progress.Progress.TheVariants as progress
+use Rattle.h1_link.specs.LinkState.{LinkState}
+use Rattle.h1_link.specs.Counts.{Rose, RoseBy}
+use Rattle.h1_head.specs.Views.{RequestView}
+use Rattle.h1_head.specs.RequestHead.{HeadAt}
+use Rattle.h1_head.specs.Wish.{wish}
+use Rattle.h1_body.specs.Body.{Body, whole, unfinished, broken}
+use Rattle.h1_body.specs.Reader.{body}
+use Rattle.h1_body.specs.Framing.{framing}
+use Rattle.h1_app.specs.declared.transcript.Entry.{Entry}
+use Rattle.h1_app.specs.declared.exchange.Stage.{Stage}
+use Rattle.h1_app.specs.declared.exchange.Stage.TheVariants as stage
+use Rattle.h1_app.specs.Stream.{Tail, empty, begun, refused, Parses}
+use Rattle.h1_app.specs.Exchange.{render, is_short}
+use Rattle.h1_app.specs.Since.{IfTold}
+use Rattle.h1_app.specs.View.{View}
+
+-- the requests of these exchanges, each with a body that was read whole; and what stands behind them
+abbrev pub ReadAll : List ℕ → List Entry → Tail → Type 0
+ReadAll since [] tail = Parses since [] tail
+ReadAll since (e ∷ more) tail =
+    (n : ℕ) × HeadAt since n e.head e.both × (k : ℕ) × (body (framing e.head) (drop n since) ≡ whole e.body k)
+    × ReadAll (drop k (drop n since)) more tail
+
+-- The last request's body is not whole: it is cut, or broken, behind the payload that was read.
+pub record LastStands (since : List ℕ) (e : Entry) (stands : Body) : Type 0 where
+  pub n : ℕ
+  pub head : HeadAt since n e.head e.both
+  pub body : body (framing e.head) (drop n since) ≡ stands
+
+-- the reply was written whole, and flushed
+pub record IsComplete (before now : LinkState) (e : Entry) : Type 0 where
+  pub sent_head : (e.sent_head ≢ None)
+  pub sent_body : (e.sent_body ≢ None)
+  pub written : IfTold before.written now.written (λ since. since ≡ render e)
+  pub flushed : RoseBy e.written before.bytes_out now.flushed
+
+-- the render of a short reply was written whole
+pub record IsWrittenShort (before now : LinkState) (e : Entry) : Type 0 where
+  pub short : is_short e ≡ true
+  pub written : IfTold before.written now.written (λ since. since ≡ render e)
+
+-- an error of the request's body ends the connection once the reply is written
+pub record EndsBody (before now : LinkState) (e : Entry) (error : Error) : Type 0 where
+  pub is : e.body_error ≡ Some error
+  pub replied : IsComplete before now e ⊎ IsWrittenShort before now e
+
+abbrev pub OfLast : Option Entry → (Entry → Type 0) → Type 0
+OfLast None P = ⊥
+OfLast (Some e) P = P e
+
+-- when a connection fails with an error of this kind
+abbrev pub FailureCause : LinkState → LinkState → LinkState → Option Entry → Error → ErrorType → Type 0
+FailureCause before old now last error (kind.InvalidHTTPHeader fault) =
+    (last ≡ None) × IfTold before.given now.given (λ since. ReadAll since [] (refused fault))
+FailureCause before old now last error kind.ConnectionClosed = (now.ended ≡ true)
+    × (((last ≡ None) × IfTold before.given now.given (λ since. ReadAll since [] begun))
+    ⊎ OfLast last (λ e. EndsBody before now e error × IfTold before.given now.given (λ since. LastStands since e (unfinished e.body))))
+FailureCause before old now last error kind.InvalidBody =
+    OfLast last (λ e. EndsBody before now e error × IfTold before.given now.given (λ since. LastStands since e (broken e.body)))
+FailureCause before old now last error kind.ReadError =
+    ((last ≡ None) × Rose old.read_faults now.read_faults) ⊎ OfLast last (λ e. EndsBody before now e error)
+FailureCause before old now last error kind.WriteError = Rose old.write_faults now.write_faults
+FailureCause before old now last error kind.PrematureBodyEnd = OfLast last (IsWrittenShort before now)
+FailureCause before old now last error kind.NotBuilt =
+    (last ≡ None) × IfTold before.given now.given (λ since.
+    (n : ℕ) × (head : RequestView) × (both : Bool) × HeadAt since n head both × (wish head both ≡ true))
+FailureCause before old now last error kind.NoMemory = Unit {0}
+FailureCause before old now last error _ = ⊥
+
+-- when a connection ends; `old` is the link's state before the poll that gave the end
+abbrev pub EndCause : LinkState → LinkState → LinkState → Option Entry → End → Type 0
+EndCause before old now last end.Finished = (last ≡ None) × (now.ended ≡ true)
+    × IfTold before.given now.given (λ since. ReadAll since [] empty)
+EndCause before old now last end.NotKept =
+    OfLast last (λ e. IsComplete before now e × (e.keep ≡ false))
+EndCause before old now last end.Overread = ⊥
+EndCause before old now last (end.Failed error) = FailureCause before old now last error error.kind
+
+-- what is awaited is not among the bytes given: a head, or more of the last request's body
+abbrev pub LacksSo : List ℕ → Option Entry → Type 0
+LacksSo since None = ReadAll since [] empty ⊎ ReadAll since [] begun
+LacksSo since (Some e) = LastStands since e (unfinished e.body) × (e.reply ≡ None)
+
+-- the application was not ready by itself: its job's count rose since the job that was there before
+-- the poll, or since one that began in it
+abbrev pub PendedBy : {J : Type 0} → (J → Type 0) → (J → ℕ) → Stage J → Stage J → Type 0
+PendedBy {J} begins pends from (stage.Answer job) =
+    (before : J) × ((from ≡ stage.Answer before) ⊎ begins before) × Rose (pends before) (pends job)
+PendedBy begins pends from _ = ⊥
+
+-- where the link tells its bytes, so many more were given and written
+abbrev pub ToldGrowth : Option (List ℕ) → Option (List ℕ) → Option (List ℕ) → Option (List ℕ) → ℕ → Type 0
+ToldGrowth (Some given) (Some more) (Some written) (Some further) count =
+    length given + length written + count ≤ length more + length further
+ToldGrowth given more written further count = Unit {0}
+
+-- when a poll waits
+abbrev pub WaitCause : {L A J : Type 0} → (J → Type 0) → (J → ℕ) → LinkState → LinkState → LinkState → View L A J → View L A J → Waiting → Type 0
+WaitCause begins pends before old now from to waiting.Read = Rose old.read_waits now.read_waits
+    × IfTold before.given now.given (λ since. LacksSo since to.last)
+WaitCause begins pends before old now from to waiting.Write = Rose old.write_waits now.write_waits
+    × OfLast to.last (λ e. e.owed ≡ true)
+WaitCause begins pends before old now from to waiting.App = (now.read_waits ≡ old.read_waits)
+    × PendedBy begins pends from.stage to.stage
+WaitCause begins pends before old now from to waiting.Budget = RoseBy 64 old.moves now.moves
+    × ToldGrowth old.given now.given old.written now.written 64
+
+-- when each answer of a poll comes; `before` is the link's state since which bytes count
+abbrev pub Cause : {L A J : Type 0} → (L → LinkState) → (J → Type 0) → (J → ℕ) → LinkState → View L A J → View L A J → Progress → Type 0
+Cause state begins pends before from to (progress.Pending what) =
+    (to.end ≡ None) × WaitCause begins pends before (state from.session.link) (state to.session.link) from to what
+Cause state begins pends before from to (progress.Ready reason) =
+    (to.end ≡ Some reason) × EndCause before (state from.session.link) (state to.session.link) to.last reason

@@ -1,0 +1,14 @@
+pub mod Application
+pub mod Stream
+pub mod Exchange
+pub mod View
+pub mod Since
+pub mod Sound
+pub mod Agrees
+pub mod Causes
+pub mod Turns
+pub mod Asking
+pub mod Echo
+pub mod EchoRun
+pub mod EchoLaw
+pub mod Gone

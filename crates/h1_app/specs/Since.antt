@@ -1,0 +1,81 @@
+-- What a connection read and wrote since its link had a state: the bytes of the link, taken apart
+-- into the exchanges and what is still to be used or written.
+use Rattle.std.specs.Prelude.{◌≡◌, ℕ, ◌-◌, ◌^◌, List, [], ◌++◌, length, drop, min, true, Option, Some, None, IfSome}
+use Rattle.h1_error.specs.declared.error.ErrorType.{ErrorType}
+use Rattle.h1_error.specs.declared.error.ErrorType.TheVariants as kind
+use Rattle.h1_link.specs.LinkState.{LinkState}
+use Rattle.h1_link.specs.Counts.{RoseBy}
+use Rattle.h1_link.specs.Later.{Later}
+use Rattle.h1_head.specs.RequestHead.{HeadAt}
+use Rattle.h1_body.specs.Body.{broken}
+use Rattle.h1_body.specs.Reader.{reads}
+use Rattle.h1_head.specs.Wish.{wish}
+use Rattle.h1_body.specs.Read.{HasRead}
+use Rattle.h1_body.specs.Writer.{WriterView, end_bytes}
+use Rattle.h1_body.specs.Framing.{framing}
+use Rattle.h1_server.specs.Decoding.{Lacks}
+use Rattle.h1_server.specs.SessionView.{SessionView}
+use Rattle.h1_server.specs.declared.request.Request.{Request}
+use Rattle.h1_app.specs.declared.transcript.Entry.{Entry}
+use Rattle.h1_app.specs.Exchange.{render}
+
+-- what holds of the bytes that came since, where the link tells its bytes
+abbrev pub IfTold : Option (List ℕ) → Option (List ℕ) → (List ℕ → Type 0) → Type 0
+IfTold (Some before) (Some now) P = (since : List ℕ) × (now ≡ before ++ since) × P since
+IfTold (Some before) None P = Unit {0}
+IfTold None now P = Unit {0}
+
+-- the head of the request is used, and a part of its body became the payload
+pub record ReadEntry {L : Type 0} (since : List ℕ) (e : Entry) (session : SessionView L) : Type 0 where
+  pub n : ℕ
+  pub used : List ℕ
+  pub head : HeadAt since n e.head e.both
+  pub bytes : drop n since ≡ used ++ session.received
+  pub decoded : HasRead (framing e.head) used e.body session.body.reader
+
+-- a head that no exchange was begun for: it is used, and its wish is the request's
+pub record ReadHead (since received : List ℕ) (request : Request) : Type 0 where
+  pub n : ℕ
+  pub head : HeadAt since n request.header request.both
+  pub bytes : drop n since ≡ received
+  pub wish : request.wish ≡ wish request.header request.both
+
+-- with no exchange begun, the bytes are all received and not used, but for a head that was read
+abbrev pub ReadAhead : List ℕ → List ℕ → Option Request → Type 0
+ReadAhead since received None = since ≡ received
+ReadAhead since received (Some request) = ReadHead since received request
+
+abbrev pub ReadSo : {L : Type 0} → List ℕ → SessionView L → Option Entry → Type 0
+ReadSo since session None = ReadAhead since session.received session.request
+ReadSo since session (Some e) = ReadEntry since e session
+
+-- what is still to be taken up of a reply whose body is known
+abbrev pub coming : Option (List ℕ) → WriterView → List ℕ
+coming None writer = []
+coming (Some sent) writer = end_bytes writer
+
+abbrev pub WroteSo : {L : Type 0} → List ℕ → SessionView L → Option Entry → Type 0
+WroteSo since session None = (since ≡ []) × (session.reply.owed ≡ [])
+WroteSo since session (Some e) = since ++ session.reply.owed ++ coming e.sent_body session.reply.writer ≡ render e
+
+-- the body can't be read on: it is broken, the link ended inside it, or a read failed
+abbrev pub StopsBody : {L : Type 0} → (L → LinkState) → SessionView L → ErrorType → Type 0
+StopsBody state session kind.InvalidBody = reads session.body.reader [] ≡ broken []
+StopsBody state session kind.ConnectionClosed =
+    ((state session.link).ended ≡ true) × Lacks session.body.reader session.received
+StopsBody state session kind.ReadError = Unit {0}
+StopsBody state session _ = ⊥
+
+-- the error of the request's body has its cause
+abbrev pub StoppedSo : {L : Type 0} → (L → LinkState) → SessionView L → Option Entry → Type 0
+StoppedSo state session None = Unit {0}
+StoppedSo state session (Some e) = IfSome e.body_error (λ error. StopsBody state session error.kind)
+
+-- the bytes given are the request and what is received behind it; the bytes written, what is owed
+-- and what is to be taken up are the reply
+pub record Since {L : Type 0} (state : L → LinkState) (before : LinkState) (session : SessionView L) (last : Option Entry) : Type 0 where
+  pub later : Later before (state session.link)
+  pub read : IfTold before.given (state session.link).given (λ since. ReadSo since session last)
+  pub wrote : IfTold before.written (state session.link).written (λ since. WroteSo since session last × (session.reply.sent ≡ min (length since) (2 ^ 64 - 1)))
+  pub stopped : StoppedSo state session last
+  pub out : RoseBy session.reply.sent before.bytes_out (state session.link).bytes_out

@@ -1,0 +1,81 @@
+-- One step of a connection: what it moved, what stays, and why it stops.
+use Rattle.std.specs.Prelude.{◌≡◌, ℕ, ◌-◌, ◌<◌, ◌≤◌, ◌⊎◌, List, true, Option, Some, None, option_map, IfSome}
+use Rattle.h1_error.specs.declared.progress.Waiting.{Waiting}
+use Rattle.h1_error.specs.declared.progress.Waiting.TheVariants as waiting
+use Rattle.h1_link.specs.LinkState.{LinkState}
+use Rattle.h1_link.specs.Counts.{Rose}
+use Rattle.h1_head.specs.Views.{RequestView}
+use Rattle.h1_server.specs.Moved.{Moved}
+use Rattle.h1_server.specs.SessionView.{SessionView}
+use Rattle.h1_server.specs.declared.settings.Settings.{Settings}
+use Rattle.h1_app.specs.declared.transcript.Entry.{Entry}
+use Rattle.h1_app.specs.declared.exchange.Stage.{Stage}
+use Rattle.h1_app.specs.declared.exchange.Stage.TheVariants as stage
+use Rattle.h1_app.specs.declared.exchange.Outcome.{Outcome}
+use Rattle.h1_app.specs.declared.exchange.Outcome.TheVariants as outcome
+use Rattle.h1_app.specs.Agrees.{Grows}
+use Rattle.h1_app.specs.Causes.{EndCause, LacksSo, OfLast}
+use Rattle.h1_app.specs.Since.{Since, IfTold}
+use Rattle.h1_app.specs.Sound.{SoundStage}
+
+-- the exchange that is last grows, or begins
+abbrev pub ExtendsLast : Option Entry → Option Entry → Type 0
+ExtendsLast None new = Unit {0}
+ExtendsLast (Some old) None = ⊥
+ExtendsLast (Some old) (Some new) = Grows old new
+
+-- what was moved over the link, within the budget
+pub record Went {L : Type 0} (state : L → LinkState) (old new : SessionView L) : Type 0 where
+  pub read : List ℕ
+  pub wrote : List ℕ
+  pub spent : ℕ
+  pub moved : Moved (state old.link) (state new.link) read wrote spent
+  pub budget : new.budget ≡ option_map (λ left. left - spent) old.budget
+  pub within : IfSome old.budget (λ left. spent ≤ left)
+
+-- how far an exchange is from its end
+abbrev pub rank : {J : Type 0} → Stage J → ℕ
+rank stage.Head = 6
+rank (stage.Answer job) = 5
+rank stage.TakeHeader = 4
+rank stage.Header = 3
+rank stage.TakeBody = 2
+rank stage.Body = 1
+rank stage.Finish = 0
+
+-- where the job of the stage comes from: it was there, or it began in this step
+abbrev pub JobFrom : {J : Type 0} → (J → Type 0) → (J → ℕ) → Stage J → Stage J → Type 0
+JobFrom {J} begins pends from (stage.Answer job) =
+    (before : J) × ((from ≡ stage.Answer before) ⊎ begins before) × (pends before ≤ pends job)
+JobFrom begins pends from _ = Unit {0}
+
+-- the application's job was not ready by itself in this step
+abbrev pub JobPends : {J : Type 0} → (J → ℕ) → Stage J → Stage J → Type 0
+JobPends pends (stage.Answer before) (stage.Answer job) = Rose (pends before) (pends job)
+JobPends pends _ _ = ⊥
+
+-- why a step stops; `before` is the link's state since which bytes count
+abbrev pub WaitsOn : {L J : Type 0} → (L → LinkState) → (J → ℕ) → SessionView L → SessionView L → Option Entry → Stage J → Stage J → Waiting → Type 0
+WaitsOn state pends old new last from to waiting.Read =
+    (Rose (state old.link).read_waits (state new.link).read_waits ⊎ (new.budget ≡ Some 0))
+    × ((before : LinkState) → Since state before new last → IfTold before.given (state new.link).given (λ since. LacksSo since last))
+WaitsOn state pends old new last from to waiting.Write =
+    (Rose (state old.link).write_waits (state new.link).write_waits ⊎ (new.budget ≡ Some 0))
+    × OfLast last (λ e. e.owed ≡ true)
+WaitsOn state pends old new last from to waiting.App =
+    ((state new.link).read_waits ≡ (state old.link).read_waits) × JobPends pends from to
+WaitsOn state pends old new last from to waiting.Budget = ⊥
+
+-- what holds where the application is asked next
+abbrev pub IfAnswering : {J : Type 0} → Stage J → Type 0 → Type 0
+IfAnswering (stage.Answer job) P = P
+IfAnswering _ P = Unit {0}
+
+abbrev pub OutcomeCause : {L J : Type 0} → (L → LinkState) → (J → ℕ) → (J → RequestView → Settings → Settings → List ℕ → Type 0) → SessionView L → SessionView L → Option Entry → Stage J → Stage J → Outcome → Type 0
+OutcomeCause state pends runs old new last from to outcome.Done =
+    SoundStage runs new last to × (rank to < rank from)
+    × IfAnswering to ((state new.link).read_waits ≡ (state old.link).read_waits)
+OutcomeCause state pends runs old new last from to (outcome.Waits what) =
+    SoundStage runs new last to × WaitsOn state pends old new last from to what
+OutcomeCause state pends runs old new last from to (outcome.Ends reason) =
+    (before : LinkState) → Since state before new last → EndCause before (state old.link) (state new.link) last reason

@@ -1,0 +1,206 @@
+//! The connection: it moves an exchange on, step by step.
+ghost use Rattle.std.specs.Prelude.{[], ◌≡◌, ◌<◌, ◌≤◌, ◌+◌, IfOk, IfSome, IfNone, IsSome, IsOkAnd, None, Some};
+ghost use Rattle.h1_error.specs.declared.progress.Progress.TheVariants as answer;
+ghost use Rattle.h1_app.specs.Gone.{outcome_end};
+
+use crate::exchange::{Outcome, Stage};
+use crate::steps::step;
+use crate::{HttpServer, ServeHttp, Transcript};
+use h1_error::{End, Error, Progress, Waiting};
+use h1_link::Link;
+use h1_server::HttpSession;
+use std::alloc::Global;
+use std::marker::Model;
+use std::sync::Arc;
+
+/// How many link calls of one poll may move bytes.
+pub const POLL_BUDGET: u32 = 64;
+
+/// A connection: a link, the application behind it, and what was read and written so far.
+#[derive(Drop)]
+pub struct Connection<L: Link + Drop, SV: ServeHttp<L, C> + Drop, B: Drop, C: Drop> {
+    alloc: Global,
+    server: Arc<HttpServer<SV, B>>,
+    session: HttpSession<L, C>,
+    transcript: Transcript,
+    stage: Stage<SV::Job>,
+    end: Option<End>,
+}
+
+impl<L: Link + Drop, SV: ServeHttp<L, C> + Drop, B: Drop, C: Drop> Model
+    for Connection<L, SV, B, C> {
+    ghost use Rattle.std.specs.Arc.{arc_value};
+    ghost use Rattle.h1_app.specs.View.{View};
+
+    ghost Value = { View L SV SV.Job };
+
+    ghost use Rattle.h1_app.specs.Sound.{Sound};
+
+    ghost view = { λ c. record { session = c.session; app = (arc_value c.server).app; done = c.transcript.done.items; last = c.transcript.last; stage = c.stage; end = c.end } };
+
+    ghost invariant = { λ c. Sound (SV.gives (arc_value c.server).app) (SV.runs (arc_value c.server).app) c.session c.transcript.done.items c.transcript.last c.stage c.end };
+}
+
+impl<L: Link + Drop, SV: ServeHttp<L, C> + Drop, B: Drop, C: Drop> Connection<L, SV, B, C> {
+    ghost use Rattle.std.specs.Arc.{arc_value};
+    ghost use Rattle.std.specs.Fn.{FnOnceTakesAtMut, FnOnceReturnsAtMut};
+    ghost use Rattle.h1_link.specs.LinkState.{LinkState};
+    ghost use Rattle.h1_link.specs.Later.{Later, KeepsBytes};
+    ghost use Rattle.h1_app.specs.View.{View, entries, transcript_entries, IsNewConnection};
+    ghost use Rattle.h1_app.specs.Since.{Since};
+    ghost use Rattle.h1_app.specs.Agrees.{Agrees, Extends};
+    ghost use Rattle.h1_app.specs.Causes.{Cause};
+    ghost use Rattle.h1_app.specs.Sound.{Sound};
+    ghost use Rattle.h1_app.specs.Gone.{Gone, TurnCause, outcome_end, waiting_for};
+
+    /// A connection of this server over a link.
+    pub fn new(alloc: Global, server: Arc<HttpServer<SV, B>>, link: L) -> Result<Self, Error>
+        ensures fresh { IsOkAnd result (IsNewConnection (arc_value server).app link) }
+        ensures since { IfOk result (λ made. Since L.state (L.state link) made.session made.last) }
+    {
+        Ok(Connection {
+            alloc,
+            server,
+            session: HttpSession::new(alloc, link)?,
+            transcript: Transcript::new(alloc),
+            stage: Stage::Head,
+            end: None,
+        })
+    }
+
+    /// Moves the connection on, until it has ended or has to wait. `now` is milliseconds since the
+    /// epoch and never falls; with `shutdown` a reply to a head that becomes whole in this poll
+    /// closes the connection.
+    pub fn poll(&mut self, now: u64, shutdown: bool) -> Progress
+        requires { now < 253_402_300_800_000 }
+        ensures app { self.new.app ≡ self.old.app }
+        ensures later { Later (L.state self.old.session.link) (L.state self.new.session.link) }
+        ensures plan { L.same_plan self.old.session.link self.new.session.link }
+        ensures since { (before : LinkState) → Since L.state before self.old.session self.old.last
+            → Since L.state before self.new.session self.new.last }
+        ensures agrees { (before : LinkState) → Since L.state before self.old.session self.old.last
+            → Agrees (SV.gives self.new.app) before (L.state self.new.session.link) (entries self.new) }
+        ensures extends { Extends (entries self.old) (entries self.new) }
+        ensures most { (L.state self.new.session.link).moves ≤ (L.state self.old.session.link).moves + 64 }
+        ensures ended { IfSome self.old.end (λ reason. (result ≡ answer.Ready reason) × (self.new ≡ self.old)) }
+        ensures cause { IfNone self.old.end ((before : LinkState) → Since L.state before self.old.session self.old.last
+            → Cause L.state SV.begins SV.pends before self.old self.new result) }
+    {
+        if let Some(end) = self.end {
+            return Progress::Ready(end);
+        }
+        self.session.set_poll_budget(Some(POLL_BUDGET));
+        self.go_on(now, shutdown)
+    }
+
+    // Makes steps until one of them waits or ends the connection.
+    fn go_on(&mut self, now: u64, shutdown: bool) -> Progress
+        requires alive { self.old.end ≡ None }
+        requires alone { self.old.done ≡ [] }
+        requires budget { self.old.session.budget ≡ Some 64 }
+        requires moment { now < 253_402_300_800_000 }
+        ensures gone { Gone L.state SV.begins SV.pends L.same_plan self.old self.new }
+        ensures sound { Sound (SV.gives self.new.app) (SV.runs self.new.app) self.new.session self.new.done self.new.last self.new.stage self.new.end }
+        ensures cause { (before : LinkState) → Since L.state before self.old.session self.old.last
+            → Cause L.state SV.begins SV.pends before self.old self.new result }
+    {
+        loop {
+            match self.turn(now, shutdown) {
+                Outcome::Done => {}
+                Outcome::Waits(what) => return Progress::Pending(self.waits_for(what)),
+                Outcome::Ends(end) => return Progress::Ready(end),
+            }
+        }
+    }
+
+    // One step. Where it ends the connection, the connection keeps the end.
+    fn turn(&mut self, now: u64, shutdown: bool) -> Outcome
+        requires alive { self.old.end ≡ None }
+        requires budget { IsSome self.old.session.budget }
+        requires moment { now < 253_402_300_800_000 }
+        ensures gone { Gone L.state SV.begins SV.pends L.same_plan self.old self.new }
+        ensures sound { Sound (SV.gives self.new.app) (SV.runs self.new.app) self.new.session self.new.done self.new.last self.new.stage self.new.end }
+        ensures end { self.new.end ≡ outcome_end result }
+        ensures outcome { TurnCause L.state SV.pends self.old.session self.new.session self.new.last self.old.stage self.new.stage result }
+    {
+        let outcome = step(
+            self.alloc,
+            &self.server,
+            &mut self.session,
+            &mut self.transcript.last,
+            &mut self.stage,
+            now,
+            shutdown,
+        );
+        self.end = end_of(outcome);
+        outcome
+    }
+
+    // A step that waits while no link call may move bytes any more waits for the next poll.
+    fn waits_for(&self, what: Waiting) -> Waiting
+        ensures { result ≡ waiting_for self.now.session.budget what }
+    {
+        if self.session.poll_budget() == Some(0) {
+            Waiting::Budget
+        } else {
+            what
+        }
+    }
+
+    /// What was read and written so far.
+    pub fn transcript(&self) -> &Transcript
+        ensures { transcript_entries result.now ≡ entries self.now }
+    {
+        &self.transcript
+    }
+
+    /// Why the connection ended.
+    pub fn end(&self) -> Option<End>
+        ensures { result ≡ self.now.end }
+    {
+        self.end
+    }
+
+    pub fn link(&self) -> &L
+        ensures { result.now ≡ self.now.session.link }
+    {
+        self.session.link()
+    }
+
+    /// Calls a function on the link, which may move none of its bytes.
+    pub fn with_link<T, F: FnOnce(&mut L) -> T>(&mut self, f: F) -> T
+        requires may { FnOnceTakesAtMut F.FnOnce f self.old.session.link }
+        requires keeps { (answer : T) (link : L) → FnOnceReturnsAtMut F.FnOnce f self.old.session.link answer link
+            → KeepsBytes (L.state self.old.session.link) (L.state link) }
+        ensures called { FnOnceReturnsAtMut F.FnOnce f self.old.session.link result self.new.session.link }
+        ensures rest { self.new ≡ record self.old { session = record self.old.session { link = self.new.session.link } } }
+        ensures keeps { KeepsBytes (L.state self.old.session.link) (L.state self.new.session.link) }
+        ensures since { (before : LinkState) → Since L.state before self.old.session self.old.last
+            → Since L.state before self.new.session self.new.last }
+    {
+        self.session.with_link(f)
+    }
+
+    pub fn into_link(self) -> L
+        ensures { result ≡ self.session.link }
+    {
+        let Connection {
+            alloc: _,
+            server,
+            session,
+            transcript,
+            stage,
+            end: _,
+        } = self;
+        session.into_inner()
+    }
+}
+
+fn end_of(outcome: Outcome) -> Option<End>
+    ensures { result ≡ outcome_end outcome }
+{
+    match outcome {
+        Outcome::Ends(end) => Some(end),
+        Outcome::Done | Outcome::Waits(_) => None,
+    }
+}

@@ -1,0 +1,30 @@
+//! Where an exchange stands, and what one step of it comes to.
+use h1_error::{End, Error, Waiting};
+
+/// Where the exchange of a connection stands. `J` is the application's job.
+#[derive(Drop)]
+pub enum Stage<J> {
+    /// A head is awaited.
+    Head,
+    /// The application runs.
+    Answer(J),
+    /// The reply is there, and its header is to be taken up.
+    TakeHeader,
+    /// The header is being written.
+    Header,
+    /// The header is written, and the body is to be taken up.
+    TakeBody,
+    /// The body is being written.
+    Body,
+    /// The end of the body is to be written and flushed.
+    Finish,
+}
+
+/// What one step of an exchange comes to.
+#[derive(Clone, Copy, Debug, PartialEq, Eq)]
+pub enum Outcome {
+    /// The next stage goes on at once.
+    Done,
+    Waits(Waiting),
+    Ends(End),
+}

@@ -1,0 +1,24 @@
+//! The connection: an application behind a link, one exchange after the other (RFC 9112).
+//!
+//! A [`Connection`] reads a request, lets the application read its body and reply, and writes the
+//! reply. It keeps a transcript of what it read and wrote, and its contracts tie the transcript to
+//! the bytes of the link.
+#![tactic(auto)]
+
+mod application;
+mod connection;
+mod echo;
+mod exchange;
+mod server;
+mod steps;
+mod transcript;
+
+pub use application::{Reply, ServeHttp};
+pub use connection::{Connection, POLL_BUDGET};
+pub use echo::{EchoApp, EchoJob};
+pub use exchange::{Outcome, Stage};
+pub use h1_body::BodyBytes;
+pub use h1_error::{End, Error, ErrorType, HeadFault, Progress, Waiting};
+pub use h1_server::HttpSession;
+pub use server::{HttpServer, NoModules};
+pub use transcript::{Entry, How, Transcript};

@@ -1,0 +1,149 @@
+//! The application runs, until it has replied.
+ghost use Rattle.std.specs.Prelude.{◌≡◌, ◌<◌, ◌≤◌, IsSome, IfSome, None, Some};
+ghost use Rattle.h1_link.specs.LinkState.{LinkState};
+ghost use Rattle.h1_app.specs.Exchange.{IsAllowed};
+ghost use Rattle.h1_app.specs.Since.{Since};
+ghost use Rattle.h1_head.specs.Views.{RequestView};
+ghost use Rattle.h1_server.specs.declared.settings.Settings.{Settings};
+ghost use Rattle.h1_app.specs.Application.{how_of, IsAskedFor};
+ghost use Rattle.h1_app.specs.Exchange.{given_to};
+ghost use Rattle.h1_app.specs.Sound.{SoundStage, IsKept, IsAnswerStage};
+ghost use Rattle.h1_app.specs.Asking.{AsksAs, RunsOn, GivesAsked, PendsAsked, IsAskedOf, noted};
+ghost use Rattle.h1_app.specs.Turns.{Went, JobFrom, OutcomeCause, ExtendsLast};
+
+use crate::exchange::{Outcome, Stage};
+use crate::{Entry, How, HttpServer, Reply, ServeHttp};
+use futures::task::Poll;
+use h1_body::BodyBytes;
+use h1_error::{End, Error, Waiting};
+use h1_link::Link;
+use h1_server::{HttpSession, Settings};
+use std::alloc::Global;
+use std::mem;
+
+/// Lets the application go on. What it reads of the body joins the exchange.
+pub(super) fn answer<L, SV, B, C>(
+    alloc: Global,
+    server: &HttpServer<SV, B>,
+    session: &mut HttpSession<L, C>,
+    last: &mut Option<Entry>,
+    stage: &mut Stage<SV::Job>,
+    now: u64,
+) -> Outcome
+where
+    L: Link + Drop,
+    SV: ServeHttp<L, C> + Drop,
+    B: Drop,
+    C: Drop,
+    requires sound { SoundStage (SV.runs server.now.app) session.old last.old stage.old }
+    requires at { IsAnswerStage stage.old }
+    requires allowed { IfSome last.old (IsAllowed (SV.gives server.now.app)) }
+    requires kept { IfSome last.old (IsKept session.old) }
+    requires budget { IsSome session.old.budget }
+    requires moment { now < 253_402_300_800_000 }
+    ensures went { Went L.state session.old session.new }
+    ensures plan { L.same_plan session.old.link session.new.link }
+    ensures since { (before : LinkState) → Since L.state before session.old last.old → Since L.state before session.new last.new }
+    ensures allowed { IfSome last.new (IsAllowed (SV.gives server.now.app)) }
+    ensures kept { IfSome last.new (IsKept session.new) }
+    ensures extends { ExtendsLast last.old last.new }
+    ensures job { JobFrom SV.begins SV.pends stage.old stage.new }
+    ensures outcome { OutcomeCause L.state SV.pends (SV.runs server.now.app) session.old session.new last.new stage.old stage.new result }
+{
+    let Some(entry) = last else { unreachable!() };
+    let Stage::Answer(job) = stage else {
+        unreachable!()
+    };
+    match ask(alloc, &server.app, job, session, entry, now) {
+        Asked::Reads => Outcome::Waits(Waiting::Read),
+        Asked::Pends => Outcome::Waits(Waiting::App),
+        Asked::Failed(error) => Outcome::Ends(End::Failed(error)),
+        Asked::Replied(reply) => {
+            entry.reply = Some(reply);
+            *stage = Stage::TakeHeader;
+            Outcome::Done
+        }
+    }
+}
+
+/// What the application answered.
+#[derive(Drop)]
+pub enum Asked {
+    Replied(Reply),
+    /// It waits for the body.
+    Reads,
+    /// It waits for something of its own.
+    Pends,
+    Failed(Error),
+}
+
+/// Asks the application. The payload that the exchange has is lent to the session meanwhile.
+fn ask<L, SV, C>(
+    alloc: Global,
+    app: &SV,
+    job: &mut SV::Job,
+    session: &mut HttpSession<L, C>,
+    entry: &mut Entry,
+    now: u64,
+) -> Asked
+where
+    L: Link + Drop,
+    SV: ServeHttp<L, C> + Drop,
+    C: Drop,
+    requires request { IsSome session.old.request }
+    requires budget { IsSome session.old.budget }
+    requires moment { now < 253_402_300_800_000 }
+    ensures asks { AsksAs L.state session.old session.new entry.old entry.new result }
+    ensures plan { L.same_plan session.old.link session.new.link }
+    ensures runs { (head : RequestView) (began : Settings) → IsAskedFor head session.old
+        → SV.runs app.now job.old head began session.old.settings entry.old.body
+        → RunsOn (SV.runs app.now job.new head began session.new.settings entry.new.body) result }
+    ensures gives { (head : RequestView) (began : Settings) → IsAskedFor head session.old
+        → SV.runs app.now job.old head began session.old.settings entry.old.body
+        → GivesAsked (SV.gives app.now) (record (given_to entry.new head) { began = began }) result }
+    ensures never_falls { SV.pends job.old ≤ SV.pends job.new }
+    ensures pends { PendsAsked (SV.pends job.old) (SV.pends job.new) result }
+{
+    session.keep_payload(mem::replace(&mut entry.body, BodyBytes::new(alloc)));
+    let answer = app.poll_response(job, session, now);
+    let waits = session.take_waits();
+    take_back(session, entry);
+    seen_as(answer, waits)
+}
+
+fn seen_as(answer: Poll<Result<Reply, Error>>, waits: bool) -> Asked
+    ensures { IsAskedOf answer waits result }
+{
+    match answer {
+        Poll::Ready(Ok(reply)) => Asked::Replied(reply),
+        Poll::Ready(Err(error)) => Asked::Failed(error),
+        Poll::Pending => { if waits { Asked::Reads } else { Asked::Pends } }
+    }
+}
+
+/// The payload goes back to the exchange, with how the body stands.
+fn take_back<L: Link + Drop, C: Drop>(session: &mut HttpSession<L, C>, entry: &mut Entry)
+    requires { IsSome session.old.body.kept }
+    ensures session { session.new ≡ record session.old { body = record session.old.body { kept = None } } }
+    ensures entry { entry.new ≡ noted entry.old session.old }
+{
+    if let Some(body) = session.take_payload() {
+        entry.handed = body.len() as u64;
+        entry.body = body;
+    }
+    entry.body_error = session.body_error();
+    entry.how = how_it_stands(session);
+    entry.left = session.settings();
+}
+
+fn how_it_stands<L: Link + Drop, C: Drop>(session: &HttpSession<L, C>) -> How
+    ensures { result ≡ how_of session.now.body }
+{
+    if session.body_error().is_some() {
+        How::Failed
+    } else if session.is_body_read() {
+        How::Whole
+    } else {
+        How::Open
+    }
+}

@@ -1,0 +1,92 @@
+//! What a connection read and wrote, exchange by exchange.
+ghost use Rattle.std.specs.Prelude.{◌≡◌, ◌<◌, [], None, length, slice_get};
+ghost use Rattle.std.specs.Option.{option_copied};
+
+use crate::Reply;
+use h1_body::BodyBytes;
+use h1_error::Error;
+use h1_head::{RequestHeader, ResponseHeader};
+use h1_server::Settings;
+use std::alloc::Global;
+
+/// How a request's body stood when its reply was made.
+#[derive(Clone, Copy, Debug, PartialEq, Eq)]
+pub enum How {
+    /// It was not read to its end.
+    Open,
+    Whole,
+    Failed,
+}
+
+/// One exchange.
+#[derive(Drop)]
+pub struct Entry {
+    /// The head as it was read.
+    pub head: RequestHeader,
+    /// Content-Length stood beside Transfer-Encoding and was dropped (RFC 9112, section 6.1).
+    pub both: bool,
+    /// The head behind the request filters.
+    pub filtered: Option<RequestHeader>,
+    /// All payload that was read.
+    pub body: BodyBytes,
+    /// How many bytes of the payload the application was handed.
+    pub handed: u64,
+    /// Why the body couldn't be read on.
+    pub body_error: Option<Error>,
+    /// What the application replied.
+    pub reply: Option<Reply>,
+    /// The reply's header behind the response filters.
+    pub sent_head: Option<ResponseHeader>,
+    /// The reply's body behind the response filters.
+    pub sent_body: Option<BodyBytes>,
+    /// The second of the reply's Date since the epoch.
+    pub date: u64,
+    /// Whether the reply said that the connection is kept.
+    pub keep: bool,
+    /// How many bytes of the reply were written.
+    pub written: u64,
+    pub(crate) how: How,
+    pub(crate) began: Settings,
+    pub(crate) left: Settings,
+    pub(crate) owed: bool,
+    pub(crate) date_text: [u8; 29],
+}
+
+/// The exchanges of a connection, in order.
+#[derive(Drop)]
+pub struct Transcript {
+    pub(crate) done: Vec<Entry>,
+    pub(crate) last: Option<Entry>,
+}
+
+impl Transcript {
+    ghost use Rattle.h1_app.specs.View.{transcript_entries};
+
+    pub(crate) fn new(alloc: Global) -> Self
+        ensures done { result.done.items ≡ [] }
+        ensures last { result.last ≡ None }
+    {
+        Transcript {
+            done: Vec::new(alloc),
+            last: None,
+        }
+    }
+
+    /// How many exchanges there are.
+    pub fn len(&self) -> usize
+        ensures { result ≡ length (transcript_entries self.now) }
+    {
+        self.done.len() + usize::from(self.last.is_some())
+    }
+
+    /// The exchange with this index, counted from 0.
+    pub fn get(&self, i: usize) -> Option<&Entry>
+        ensures { option_copied result ≡ slice_get (transcript_entries self.now) i }
+    {
+        if i == self.done.len() {
+            self.last.as_ref()
+        } else {
+            self.done.get(i)
+        }
+    }
+}
