@@ -1,0 +1,20 @@
+use Rattle.h1_serve.proofs.CauseLemmas.{zero_is_done, two_is_words, three_is_script, no_task_leaves, faulty_leaves, lawful_leaves}
+use Rattle.h1_serve.proofs.laws.statuses_have_causes.Goals as goal
+
+pub returns-clause-done : goal.returns-clause-done
+returns-clause-done c = zero_is_done
+
+pub returns-clause-words : goal.returns-clause-words
+returns-clause-words c = two_is_words
+
+pub returns-clause-script : goal.returns-clause-script
+returns-clause-script c = three_is_script
+
+pub returns-clause-no_task : goal.returns-clause-no_task
+returns-clause-no_task c = no_task_leaves
+
+pub returns-clause-faulty : goal.returns-clause-faulty
+returns-clause-faulty c = faulty_leaves
+
+pub returns-clause-lawful : goal.returns-clause-lawful
+returns-clause-lawful c = lawful_leaves

@@ -1,0 +1,16 @@
+use Rattle.std.proofs.Common.{ap, sym, ◌∙◌}
+use Rattle.h1_words.specs.declared.command.Command.TheVariants as command
+use Rattle.h1_serve.proofs.LineLemmas.{on_ok, gives_line, ends_line}
+use Rattle.h1_serve.proofs.scripted.obey.Goals as goal
+
+pub returns-in-Give : goal.returns-in-Give
+returns-in-Give c =
+    on_ok c.give.result _ _ (λ link place may running.
+    gives_line place c.args.connection.now c.give.new.connection c.args.command.now c.as_slice.result.now c.args.text.now
+    (c.in-Give.is ∙ ap command.Give (sym c.as_slice.ensures))
+    c.give.ensures.rest link c.give.ensures.since may running) c.give.ensures.link
+
+pub returns-in-End : goal.returns-in-End
+returns-in-End c = λ place may running.
+    ends_line place c.args.connection.now c.say_end.new.connection c.args.command.now c.args.text.now
+    c.in-End.is c.say_end.ensures.rest c.say_end.ensures.link c.say_end.ensures.since may running

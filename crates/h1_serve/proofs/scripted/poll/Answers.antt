@@ -1,0 +1,27 @@
+use Rattle.std.proofs.Common.{◌≡◌, ◌++◌, [], ap, ◌∙◌, subst}
+use Rattle.h1_link.specs.MemState.{new_mem_state}
+use Rattle.h1_link.specs.MemRule.{Rule}
+use Rattle.h1_serve.specs.PollLine.{poll_line}
+use Rattle.h1_serve.proofs.LineLemmas.{on_ok}
+use Rattle.h1_serve.proofs.PollLemmas.{if_none, polls_once}
+use Rattle.h1_serve.proofs.scripted.poll.Goals as goal
+
+pub returns : goal.returns
+returns c =
+    on_ok c.push.result _ _ (λ text place running.
+    let polled = c.poll-answer.ensures in
+    let before = subst Rule c.link.ensures c.rule.ensures in
+    let behind = subst Rule c.link-2.ensures c.rule-2.ensures in
+    let words : c.as_slice.result.now ≡ poll_line c.args.moment c.poll-answer.result = c.as_slice.ensures ∙ c.in_ok-line.ensures in
+    let is : c.push.new.self ≡ c.args.text.now ++ poll_line c.args.moment c.poll-answer.result = text ∙ ap (λ line. c.args.text.now ++ line) words in
+    polls_once (λ job. job.body ≡ []) place _ _ c.args.moment c.poll-answer.result c.args.text.now c.push.new.self running
+    (record {
+      later = polled.later;
+      plan = polled.plan;
+      since = polled.since new_mem_state.state running.since;
+      agrees = polled.agrees new_mem_state.state running.since;
+      extends = polled.extends;
+      most = polled.most;
+      ended = polled.ended;
+      cause = if_none c.args.connection.now.end _ _ (λ cause. cause new_mem_state.state running.since) polled.cause;
+    }) before behind c.in_ok-check_memory.ensures is) c.push.ensures.ok

@@ -1,0 +1,9 @@
+pub mod Input
+pub mod Output
+pub mod ExchangeText
+pub mod State
+pub mod PollLine
+pub mod Report
+pub mod Status
+pub mod Running
+pub mod Done

@@ -1,0 +1,27 @@
+-- What a run writes to its sink.
+use Rattle.std.specs.Prelude.{◌≡◌, ℕ, List, ◌∷◌, [], ◌++◌, codes}
+use Rattle.std.specs.Io.KnownBytes.{append_known}
+use Rattle.std.specs.Fmt.{decimal}
+use Rattle.h1_link.specs.Counts.{Rose}
+use Rattle.h1_link.specs.SinkState.{SinkState}
+use Rattle.h1_serve.specs.declared.output.Written.{Written}
+use Rattle.h1_serve.specs.declared.output.Written.TheVariants as written
+
+-- between two moments the sink took this text, and no call of it failed
+pub record Took (before now : SinkState) (text : List ℕ) : Type 0 where
+  pub taken : now.taken ≡ append_known before.taken text
+  pub faults : now.faults ≡ before.faults
+
+-- what writing a text comes to; want of memory has no other cause
+abbrev pub WriteCause : SinkState → SinkState → List ℕ → Written → Type 0
+WriteCause before now text written.Whole = Took before now text
+WriteCause before now text written.Failed = Rose before.faults now.faults
+WriteCause before now text written.NoMemory = Unit {0}
+
+-- what is written where the words are no task
+abbrev pub usage_line : List ℕ
+usage_line = codes "usage: h1_serve script | gen N | sub | listen PORT COUNT" ++ (10 ∷ [])
+
+-- what is written where a line of the script is outside of the grammar
+abbrev pub fault_line : ℕ → List ℕ
+fault_line number = codes "line " ++ decimal number ++ (10 ∷ [])

@@ -1,0 +1,76 @@
+-- One poll of a script's connection: the states before and behind it, and its answer.
+use Rattle.std.specs.Prelude.{◌≡◌, ◌≢◌, ℕ, ◌+◌, ◌<◌, ◌≤◌, List, [], ◌∷◌, ◌++◌, take, true, false, Some, None, IsTrue, IfSome, IfNone, codes}
+use Rattle.std.specs.Fmt.{decimal}
+use Rattle.h1_error.specs.declared.error.ErrorType.TheVariants.{NoMemory}
+use Rattle.h1_error.specs.declared.progress.End.{End}
+use Rattle.h1_error.specs.declared.progress.End.TheVariants as end
+use Rattle.h1_error.specs.declared.progress.Waiting.{Waiting}
+use Rattle.h1_error.specs.declared.progress.Waiting.TheVariants as waiting
+use Rattle.h1_error.specs.declared.progress.Progress.{Progress}
+use Rattle.h1_error.specs.declared.progress.Progress.TheVariants as progress
+use Rattle.h1_link.specs.LinkState.{LinkState}
+use Rattle.h1_link.specs.Counts.{Rose, RoseBy}
+use Rattle.h1_link.specs.Later.{Later}
+use Rattle.h1_words.specs.Report.{answer_text}
+use Rattle.h1_app.specs.Agrees.{Agrees, Extends}
+use Rattle.h1_app.specs.Causes.{EndCause, LacksSo, ToldGrowth}
+use Rattle.h1_app.specs.Echo.{EchoGives}
+use Rattle.h1_app.specs.Since.{IfTold}
+use Rattle.h1_serve.specs.State.{State, start, transcript}
+
+-- no call of the link failed, and no write or flush was not ready
+pub record NothingFailed (link : LinkState) : Type 0 where
+  pub reads : link.read_faults ≡ 0
+  pub writes : link.write_faults ≡ 0
+  pub stalls : link.write_waits ≡ 0
+
+-- when a poll answers that it waits: never for a write or for the application
+abbrev pub PendsFor : State → State → Waiting → Type 0
+PendsFor s t waiting.Read = Rose s.link.read_waits t.link.read_waits
+    × IfTold start.link.given t.link.given (λ since. LacksSo since t.last)
+PendsFor s t waiting.Write = ⊥
+PendsFor s t waiting.App = ⊥
+PendsFor s t waiting.Budget = RoseBy 64 s.link.moves t.link.moves
+    × ToldGrowth s.link.given t.link.given s.link.written t.link.written 64
+
+-- a connection that ended for want of memory is not reported
+abbrev pub HasMemory : End → Type 0
+HasMemory end.Finished = Unit {0}
+HasMemory end.NotKept = Unit {0}
+HasMemory end.Overread = Unit {0}
+HasMemory (end.Failed error) = error.kind ≢ NoMemory
+
+-- the answer is no want of memory
+abbrev pub IsAnswered : Progress → Type 0
+IsAnswered (progress.Pending what) = Unit {0}
+IsAnswered (progress.Ready reason) = HasMemory reason
+
+-- why a poll of a connection that had not ended gives this answer
+abbrev pub AnswerCause : State → State → Progress → Type 0
+AnswerCause s t (progress.Pending what) = (t.end ≡ None) × PendsFor s t what
+AnswerCause s t (progress.Ready reason) = (t.end ≡ Some reason) × HasMemory reason
+    × EndCause start.link s.link t.link t.last reason
+
+-- One poll, between two states: what was read and written agrees with the transcript, and goes on
+-- from the state before; the link gave only what was put ahead, and the answer has its cause.
+pub record Polls (s : State) (answer : Progress) (t : State) : Type 0 where
+  pub put : t.put ≡ s.put
+  pub said : t.said ≡ s.said
+  pub later : Later s.link t.link
+  pub agrees : Agrees EchoGives start.link t.link (transcript t)
+  pub extends : Extends (transcript s) (transcript t)
+  pub given : t.link.given ≡ Some (take t.link.bytes_in t.put)
+  -- the end was met only where it was said, behind all that was put ahead
+  pub ended : IsTrue t.link.ended → (t.said ≡ true) × (t.link.given ≡ Some t.put)
+  -- a read was not ready only where all that was put ahead was given, and no end was said
+  pub waits : s.link.read_waits < t.link.read_waits → (t.link.given ≡ Some t.put) × (t.said ≡ false)
+  pub faultless : NothingFailed t.link
+  pub most : t.link.moves ≤ s.link.moves + 64
+  -- behind an end nothing more comes
+  pub again : IfSome s.end (λ reason. (answer ≡ progress.Ready reason) × (t ≡ s))
+  pub cause : IfNone s.end (AnswerCause s t answer)
+
+-- poll N: ANSWER
+abbrev pub poll_line : ℕ → Progress → List ℕ
+poll_line moment answer =
+    codes "poll " ++ decimal moment ++ codes ": " ++ answer_text answer ++ (10 ∷ [])

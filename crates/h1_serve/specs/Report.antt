@@ -1,0 +1,38 @@
+-- What a script is reported as: a line for each poll, then what was read and written in the end.
+use Rattle.std.specs.Prelude.{◌≡◌, ℕ, List, [], ◌∷◌, ◌++◌, true, Some}
+use Rattle.h1_error.specs.declared.progress.Progress.{Progress}
+use Rattle.h1_words.specs.declared.command.Command.{Command}
+use Rattle.h1_words.specs.declared.command.Command.TheVariants as command
+use Rattle.h1_words.specs.Script.{script_of, commands}
+use Rattle.h1_serve.specs.State.{State, start, transcript}
+use Rattle.h1_serve.specs.PollLine.{Polls, poll_line}
+use Rattle.h1_serve.specs.ExchangeText.{exchanges_lines, wrote_line}
+
+-- what a command makes of the state before it, and what it writes
+abbrev pub Obeys : State → Command → List ℕ → State → Type 0
+Obeys s (command.Give bytes) text t = (text ≡ []) × (t ≡ record s { put = s.put ++ bytes })
+Obeys s command.End text t = (text ≡ []) × (t ≡ record s { said = true })
+Obeys s (command.Poll moment) text t =
+    (answer : Progress) × (text ≡ poll_line moment answer) × Polls s answer t
+
+-- the commands one after the other, and what each writes
+abbrev pub Lines : State → List Command → List ℕ → State → Type 0
+Lines s [] text t = (text ≡ []) × (t ≡ s)
+Lines s (c ∷ more) text t =
+    (line : List ℕ) × (next : State) × (rest : List ℕ) × (text ≡ line ++ rest) × Obeys s c line next × Lines next more rest t
+
+-- the text of these commands: their polls, and then the exchanges and the bytes written of the last
+-- state
+pub record IsTextOf (asked : List Command) (text : List ℕ) : Type 0 where
+  pub last : State
+  pub polls : List ℕ
+  pub written : List ℕ
+  pub lines : Lines start asked polls last
+  pub told : last.link.written ≡ Some written
+  pub is : text ≡ polls ++ exchanges_lines (transcript last) ++ wrote_line written
+
+-- the text is a report of the script
+pub record Report (script text : List ℕ) : Type 0 where
+  pub asked : List Command
+  pub read : script_of script ≡ commands asked
+  pub is_text : IsTextOf asked text

@@ -1,0 +1,49 @@
+-- What holds of a script's connection between two lines, and of the lines to come.
+use Rattle.std.specs.Prelude.{◌≡◌, ℕ, ◌≤◌, List, [], ◌∷◌, length, Bool, true, false, Option, Some, None}
+use Rattle.h1_link.specs.MemState.{MemState, new_mem_state}
+use Rattle.h1_link.specs.MemPlan.{faults_due}
+use Rattle.h1_link.specs.declared.memory.gate.Gate.TheVariants.{Open}
+use Rattle.h1_words.specs.declared.command.TheConstants.{LAST_MOMENT}
+use Rattle.h1_words.specs.declared.command.Command.{Command}
+use Rattle.h1_words.specs.declared.command.Command.TheVariants as command
+use Rattle.h1_words.specs.declared.place.Place.{Place}
+use Rattle.h1_words.specs.Script.{place_after}
+use Rattle.h1_app.specs.View.{View}
+use Rattle.h1_app.specs.Since.{Since}
+use Rattle.h1_serve.specs.State.{link_state}
+
+-- a poll is before the year 10000
+abbrev pub IsInTime : Command → Type 0
+IsInTime (command.Give bytes) = Unit {0}
+IsInTime command.End = Unit {0}
+IsInTime (command.Poll moment) = moment ≤ LAST_MOMENT
+
+-- a command that may stand behind what stands before it
+abbrev pub MayStand : Place → Command → Type 0
+MayStand place (command.Give bytes) = place.ended ≡ false
+MayStand place command.End = place.ended ≡ false
+MayStand place (command.Poll moment) = place.last_poll ≤ moment
+
+abbrev pub AreInOrder : Place → List Command → Type 0
+AreInOrder place [] = Unit {0}
+AreInOrder place (c ∷ more) = IsInTime c × MayStand place c × AreInOrder (place_after place c) more
+
+abbrev pub first_place : Place
+first_place = record { ended = false; last_poll = 0 }
+
+-- the end was said behind all that was put ahead, or it was not said
+abbrev pub EndsAt : Bool → Option ℕ → ℕ → Type 0
+EndsAt false end_at put = end_at ≡ None
+EndsAt true end_at put = end_at ≡ Some put
+
+-- no fault was planned and none was met, and the link takes everything
+pub record IsScripted (ended : Bool) (link : MemState) : Type 0 where
+  pub gate : link.gate ≡ Open
+  pub writes_noted : link.writes_noted ≡ 0
+  pub reads : faults_due link.read_fault link.state.read_faults ≡ 0
+  pub writes : faults_due link.write_fault link.state.write_faults ≡ 0
+  pub end_at : EndsAt ended link.end_at (length link.put)
+
+pub record IsRunning {A J : Type 0} (place : Place) (view : View MemState A J) : Type 0 where
+  pub since : Since link_state new_mem_state.state view.session view.last
+  pub link : IsScripted place.ended view.session.link

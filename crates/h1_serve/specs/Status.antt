@@ -1,0 +1,82 @@
+-- The exit statuses of a run, each with its cause.
+use Rattle.std.specs.Prelude.{◌≡◌, ℕ, List, ◌++◌, true, Option, Some, None}
+use Rattle.h1_link.specs.Counts.{Rose}
+use Rattle.h1_link.specs.SourceState.{SourceState}
+use Rattle.h1_link.specs.SinkState.{SinkState}
+use Rattle.h1_words.specs.Script.{script_of, faulty_at}
+use Rattle.h1_words.specs.declared.words.Task.{Task}
+use Rattle.h1_words.specs.declared.words.Task.TheVariants as task
+use Rattle.h1_serve.specs.declared.status.Status.{Status}
+use Rattle.h1_serve.specs.declared.status.Status.TheVariants as status
+use Rattle.h1_serve.specs.declared.output.Written.{Written}
+use Rattle.h1_serve.specs.declared.output.Written.TheVariants as written
+use Rattle.h1_serve.specs.Input.{Gave, ReadsScript}
+use Rattle.h1_serve.specs.Output.{Took, usage_line, fault_line}
+use Rattle.h1_serve.specs.Report.{Report}
+
+-- The source was read to its end, and the sink took a report of what it gave.
+pub record Reported (source_before source_now : SourceState) (sink_before sink_now : SinkState) : Type 0 where
+  pub script : List ℕ
+  pub text : List ℕ
+  pub gave : Gave source_before source_now script
+  pub ended : source_now.ended ≡ true
+  pub took : Took sink_before sink_now text
+  pub report : Report script text
+
+-- A line of the script is outside of the grammar, or it is too long; the sink took the line's number
+-- and no other text.
+pub record Refused (source_before source_now : SourceState) (sink_before sink_now : SinkState) : Type 0 where
+  pub script : List ℕ
+  pub number : ℕ
+  pub read : ReadsScript source_before source_now script
+  pub faulty : script_of script ≡ faulty_at number
+  pub took : Took sink_before sink_now (fault_line number)
+
+-- the cause of each status of the task `script`
+abbrev pub ScriptCause : SourceState → SourceState → SinkState → SinkState → Status → Type 0
+ScriptCause source source' sink sink' status.Done = Reported source source' sink sink'
+ScriptCause source source' sink sink' status.Words = ⊥
+ScriptCause source source' sink sink' status.Script = Refused source source' sink sink'
+ScriptCause source source' sink sink' status.Source = Rose source.faults source'.faults
+ScriptCause source source' sink sink' status.Sink = Rose sink.faults sink'.faults
+ScriptCause source source' sink sink' status.Memory = Unit {0}
+
+-- the cause of each status where the words are no task
+abbrev pub WordsCause : SourceState → SourceState → SinkState → SinkState → Status → Type 0
+WordsCause source source' sink sink' status.Words = (source' ≡ source) × Took sink sink' usage_line
+WordsCause source source' sink sink' status.Sink = (source' ≡ source) × Rose sink.faults sink'.faults
+WordsCause source source' sink sink' status.Memory = source' ≡ source
+WordsCause source source' sink sink' status.Done = ⊥
+WordsCause source source' sink sink' status.Script = ⊥
+WordsCause source source' sink sink' status.Source = ⊥
+
+-- the cause of each status, by what the words ask for
+abbrev pub CauseBy : Option Task → SourceState → SourceState → SinkState → SinkState → Status → Type 0
+CauseBy None = WordsCause
+CauseBy (Some task.Script) = ScriptCause
+
+-- the number of a status
+abbrev pub number_of : Status → ℕ
+number_of status.Done = 0
+number_of status.Words = 2
+number_of status.Script = 3
+number_of status.Source = 4
+number_of status.Sink = 5
+number_of status.Memory = 6
+
+-- a run ends with the number of a status whose cause is there
+abbrev pub Ends : Option Task → SourceState → SourceState → SinkState → SinkState → ℕ → Type 0
+Ends found source source' sink sink' number =
+    (status : Status) × (number ≡ number_of status) × CauseBy found source source' sink sink' status
+
+-- the status once a text was written, which is this one where all of it was taken
+abbrev pub status_after : Status → Written → Status
+status_after whole written.Whole = whole
+status_after whole written.Failed = status.Sink
+status_after whole written.NoMemory = status.Memory
+
+-- the source tells its bytes, and gave these in this call
+pub record GaveScript (before now : SourceState) (script : List ℕ) : Type 0 where
+  pub front : List ℕ
+  pub before_is : before.given ≡ Some front
+  pub now_is : now.given ≡ Some (front ++ script)

@@ -1,0 +1,118 @@
+//! The top call.
+ghost use Rattle.std.specs.Prelude.{◌≡◌, map, string_bytes, IfOk};
+ghost use Rattle.h1_words.specs.Words.{task_of};
+ghost use Rattle.h1_serve.specs.Output.{fault_line};
+ghost use Rattle.h1_serve.specs.Status.{CauseBy, ScriptCause, Ends, number_of, status_after};
+
+use crate::input::{InputFault, read_script};
+use crate::output::{Written, write_whole};
+use crate::scripted::report_of;
+use crate::status::Status;
+use h1_error::Error;
+use h1_link::{Acceptor, Clock, Sink, Source};
+use h1_words::{ScriptFault, Task, Text, parse_script, parse_words};
+use std::alloc::Global;
+use std::sync::Wait;
+use std::thread::Threads;
+
+/// What is written where the words are no task.
+const USAGE: &[u8] = b"usage: h1_serve script | gen N | sub | listen PORT COUNT\n";
+
+/// Does what the words ask for, and answers the exit status.
+///
+/// With the one word `script`, the source is read to its end as a script, which runs over a
+/// connection in memory, and the report is written to the sink.
+pub fn run<
+    R: Wait + Threads + Sync + Send + Clone + Drop,
+    S: Source,
+    K: Sink,
+    A: Acceptor,
+    T: Clock,
+>(
+    _rt: &R,
+    alloc: Global,
+    words: &[String],
+    source: &mut S,
+    sink: &mut K,
+    _net: &mut A,
+    _clock: &mut T,
+) -> u8
+    ensures status { Ends (task_of (map string_bytes words.now)) (S.state source.old) (S.state source.new) (K.state sink.old) (K.state sink.new) result }
+
+    // This task uses neither the network nor the clock.
+    ensures net { A.state _net.new ≡ A.state _net.old }
+    ensures clock { T.moment _clock.new ≡ T.moment _clock.old }
+{
+    number_of(perform(alloc, words, source, sink))
+}
+
+fn number_of(status: Status) -> u8
+    ensures { result ≡ number_of status }
+{
+    match status {
+        Status::Done => 0,
+        Status::Words => 2,
+        Status::Script => 3,
+        Status::Source => 4,
+        Status::Sink => 5,
+        Status::Memory => 6,
+    }
+}
+
+fn perform<S: Source, K: Sink>(
+    alloc: Global,
+    words: &[String],
+    source: &mut S,
+    sink: &mut K,
+) -> Status
+    ensures { CauseBy (task_of (map string_bytes words.now)) (S.state source.old) (S.state source.new) (K.state sink.old) (K.state sink.new) result }
+{
+    match parse_words(words) {
+        Some(Task::Script) => run_script(alloc, source, sink),
+        None => status_of(write_whole(sink, USAGE), Status::Words),
+    }
+}
+
+/// Reads a script and judges it, runs it and reports.
+fn run_script<S: Source, K: Sink>(alloc: Global, source: &mut S, sink: &mut K) -> Status
+    ensures { ScriptCause (S.state source.old) (S.state source.new) (K.state sink.old) (K.state sink.new) result }
+{
+    let bytes = match read_script(alloc, source) {
+        Ok(bytes) => bytes,
+        Err(InputFault::Failed) => return Status::Source,
+        Err(InputFault::NoMemory) => return Status::Memory,
+    };
+    match parse_script(alloc, &bytes) {
+        Ok(script) => match report_of(alloc, script.commands()) {
+            Ok(text) => status_of(write_whole(sink, text.as_slice()), Status::Done),
+            Err(_) => Status::Memory,
+        },
+        Err(ScriptFault::Line(number)) => match fault_line(alloc, number) {
+            Ok(text) => status_of(write_whole(sink, text.as_slice()), Status::Script),
+            Err(_) => Status::Memory,
+        },
+        Err(ScriptFault::NoMemory) => Status::Memory,
+    }
+}
+
+/// The status once a text was written; it is `whole` where all of it was taken.
+fn status_of(written: Written, whole: Status) -> Status
+    ensures { result ≡ status_after whole written }
+{
+    match written {
+        Written::Whole => whole,
+        Written::Failed => Status::Sink,
+        Written::NoMemory => Status::Memory,
+    }
+}
+
+/// The line that tells where a script is outside of its grammar.
+fn fault_line(alloc: Global, number: u64) -> Result<Text, Error>
+    ensures { IfOk result (λ text. text ≡ fault_line number) }
+{
+    let mut text = Text::new(alloc);
+    text.push(b"line ")?;
+    text.push_number(alloc, number)?;
+    text.push(b"\n")?;
+    Ok(text)
+}

@@ -1,0 +1,39 @@
+//! What the causes of the exit statuses come to.
+ghost use Rattle.std.specs.Prelude.{◌≡◌, ◌⊎◌, ℕ, List, ◌++◌, Option, Some, None};
+ghost use Rattle.h1_link.specs.Counts.{Rose};
+ghost use Rattle.h1_link.specs.SourceState.{SourceState};
+ghost use Rattle.h1_link.specs.SinkState.{SinkState};
+ghost use Rattle.h1_words.specs.declared.command.Command.{Command};
+ghost use Rattle.h1_words.specs.declared.words.Task.{Task};
+ghost use Rattle.h1_words.specs.declared.words.Task.TheVariants as task;
+ghost use Rattle.h1_words.specs.Script.{script_of, commands, faulty_at};
+ghost use Rattle.h1_serve.specs.Output.{Took, usage_line};
+ghost use Rattle.h1_serve.specs.Status.{Ends, Reported, Refused, GaveScript};
+
+/// What each status tells, and which statuses the words and the script leave.
+pub fn statuses_have_causes()
+    ensures done { (found : Option Task) (source source' : SourceState) (sink sink' : SinkState)
+        → Ends found source source' sink sink' 0
+        → (found ≡ Some task.Script) × Reported source source' sink sink' }
+    ensures words { (found : Option Task) (source source' : SourceState) (sink sink' : SinkState)
+        → Ends found source source' sink sink' 2 → (found ≡ None) × Took sink sink' usage_line }
+    ensures script { (found : Option Task) (source source' : SourceState) (sink sink' : SinkState)
+        → Ends found source source' sink sink' 3
+        → (found ≡ Some task.Script) × Refused source source' sink sink' }
+
+    // The words alone leave 2, and a script outside of its grammar leaves 3, but for a fault of the
+    // source or the sink and for want of memory.
+    ensures no_task { (source source' : SourceState) (sink sink' : SinkState) (number : ℕ)
+        → Ends None source source' sink sink' number
+        → (number ≡ 2) ⊎ ((number ≡ 5) × Rose sink.faults sink'.faults) ⊎ (number ≡ 6) }
+    ensures faulty { (source source' : SourceState) (sink sink' : SinkState) (number line : ℕ) (script : List ℕ)
+        → GaveScript source source' script → script_of script ≡ faulty_at line
+        → Ends (Some task.Script) source source' sink sink' number
+        → (number ≡ 3) ⊎ ((number ≡ 4) × Rose source.faults source'.faults)
+        ⊎ ((number ≡ 5) × Rose sink.faults sink'.faults) ⊎ (number ≡ 6) }
+    ensures lawful { (source source' : SourceState) (sink sink' : SinkState) (number : ℕ) (script : List ℕ) (asked : List Command)
+        → GaveScript source source' script → script_of script ≡ commands asked
+        → Ends (Some task.Script) source source' sink sink' number
+        → (number ≡ 0) ⊎ ((number ≡ 4) × Rose source.faults source'.faults)
+        ⊎ ((number ≡ 5) × Rose sink.faults sink'.faults) ⊎ (number ≡ 6) }
+{}

@@ -1,0 +1,21 @@
+//! The program: it runs a script over a connection in memory, and reports what was answered, read
+//! and written.
+//!
+//! [`run`] gets the words of the command line, a source and a sink. The script is read whole and
+//! judged before it runs. Each exit status has its cause, and a report relates each poll's answer to
+//! the connection's states before and behind it.
+#![tactic(auto)]
+
+mod command;
+mod exchange;
+mod input;
+mod laws;
+mod output;
+mod scripted;
+mod status;
+
+pub use command::run;
+pub use laws::statuses_have_causes;
+
+#[cfg(test)]
+mod tests;
