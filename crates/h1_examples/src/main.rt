@@ -1,0 +1,79 @@
+//! Runs scripts whose reports were worked out by hand, and says of each whether its report is the
+//! expected one.
+#![tactic(auto)]
+
+use h1_error::Error;
+use h1_link::{MemAcceptor, MemSink, MemSource, SetClock};
+use h1_serve::run;
+use std::rt::Files;
+use std::sync::Wait;
+use std::thread::Threads;
+use std::{fs, io};
+
+/// The examples, each with its exit status: `NAME.script` is run, and `NAME.report` expected.
+const EXAMPLES: [(&str, u8); 21] = [
+    ("one_request", 0),
+    ("byte_by_byte", 0),
+    ("cut_head", 0),
+    ("empty_line", 0),
+    ("no_bytes", 0),
+    ("cut_body", 0),
+    ("kept_alive", 0),
+    ("chunked_body", 0),
+    ("both_lengths", 0),
+    ("broken_chunk", 0),
+    ("chunked_reply", 0),
+    ("reply_until_close", 0),
+    ("reply_to_head", 0),
+    ("short_reply", 0),
+    ("escaped_target", 0),
+    ("escaped_byte_by_byte", 0),
+    ("illegal_behind_an_empty_line", 0),
+    ("two_hosts", 0),
+    ("http_10", 0),
+    ("poll_goes_back", 3),
+    ("give_behind_end", 3),
+];
+
+fn main(rt: HostRuntime) -> io::Result<()> {
+    for (name, status) in EXAMPLES {
+        let verdict = if is_as_expected(&rt, name, status)? {
+            "ok"
+        } else {
+            "differs"
+        };
+        println!(rt; "{name} {verdict}")?;
+    }
+    Ok(())
+}
+
+/// Whether the script of this name ends with this status and the report of this name.
+fn is_as_expected<R: Files + AllocGlobal + Wait + Threads + Sync + Send + Clone + Drop>(
+    rt: &R,
+    name: &str,
+    status: u8,
+) -> io::Result<bool> {
+    let alloc = rt.alloc();
+    let script = fs::read(rt, format!(in alloc; "{name}.script")?)?;
+    let report = fs::read(rt, format!(in alloc; "{name}.report")?)?;
+    let mut words = Vec::new(alloc);
+    words.push(String::from_str(alloc, "script")?)?;
+    let mut source = MemSource::new(alloc, &script).map_err(no_memory)?;
+    let mut sink = MemSink::new(alloc);
+    let mut net = MemAcceptor::new(alloc);
+    let mut clock = SetClock::new(0);
+    let ended = run(
+        rt,
+        alloc,
+        &words,
+        &mut source,
+        &mut sink,
+        &mut net,
+        &mut clock,
+    );
+    Ok(ended == status && sink.written() == report.as_slice())
+}
+
+fn no_memory(_refused: Error) -> io::Error {
+    io::Error::from(io::ErrorKind::OutOfMemory)
+}
