@@ -368,7 +368,7 @@ short_cause : {L : Type 0} (state : L → LinkState) (before old : LinkState)
     → FailureCause before old (state session.link) (Some f) (failure_of body_error error)
     (failure_of body_error error).kind
 short_cause state before old session f None error is body s short =
-    subst (λ k. FailureCause before old (state session.link) (Some f) error k) (sym is) short
+    subst (λ k. FailureCause before old (state session.link) (Some f) error k) (sym is) (short, body)
 short_cause state before old session f (Some body_error) error is body s short =
     subst (λ (x : Error). FailureCause before old (state session.link) (Some f) x x.kind)
     (sym (fails_as_body body_error error is))

@@ -71,7 +71,8 @@ FailureCause before old now last error kind.InvalidBody =
 FailureCause before old now last error kind.ReadError =
     ((last ≡ None) × Rose old.read_faults now.read_faults) ⊎ OfLast last (λ e. EndsBody before now e error)
 FailureCause before old now last error kind.WriteError = Rose old.write_faults now.write_faults
-FailureCause before old now last error kind.PrematureBodyEnd = OfLast last (IsWrittenShort before now)
+FailureCause before old now last error kind.PrematureBodyEnd =
+    OfLast last (λ e. IsWrittenShort before now e × (e.body_error ≡ None))
 FailureCause before old now last error kind.NotBuilt =
     (last ≡ None) × IfTold before.given now.given (λ since.
     (n : ℕ) × (head : RequestView) × (both : Bool) × HeadAt since n head both × (wish head both ≡ true))
@@ -83,7 +84,7 @@ abbrev pub EndCause : LinkState → LinkState → LinkState → Option Entry →
 EndCause before old now last end.Finished = (last ≡ None) × (now.ended ≡ true)
     × IfTold before.given now.given (λ since. ReadAll since [] empty)
 EndCause before old now last end.NotKept =
-    OfLast last (λ e. IsComplete before now e × (e.keep ≡ false))
+    OfLast last (λ e. IsComplete before now e × (e.keep ≡ false) × (e.body_error ≡ None))
 EndCause before old now last end.Overread = ⊥
 EndCause before old now last (end.Failed error) = FailureCause before old now last error error.kind
 

@@ -69,7 +69,7 @@ pub record IsDated (e : Entry) : Type 0 where
   pub keep : e.keep ≡ may_keep e
 
 -- What an exchange may be: no filter changes a head, the application's relation gives the reply,
--- and what is sent is that reply, with the date and the flag of the poll that took it up.
+-- and what is sent is that reply, with one date and one flag.
 pub record IsAllowed (gives : Given → Reply → Type 0) (e : Entry) : Type 0 where
   pub filtered : IfSome e.filtered (λ filtered. filtered ≡ e.head)
   pub reply : IfSome e.reply (λ reply. (e.filtered ≡ Some e.head) × gives (given_to e e.head) reply)

@@ -14,7 +14,7 @@ use h1_link::Link;
 use h1_server::HttpSession;
 use std::alloc::Global;
 
-/// What an application replies: a final header of version 1.1, and the whole body.
+/// What an application replies: a final header of version 1.0 or 1.1, and the whole body.
 #[derive(Drop)]
 pub struct Reply {
     pub header: ResponseHeader,

@@ -154,6 +154,7 @@ returns-in-None-clause-outcome g c =
           c.shutdown.ensures.rest (ap (λ (x : LinkState). x.bytes_out) c.shutdown.ensures.state)
           (ap (λ (x : LinkState). x.flushed) c.shutdown.ensures.state) s,
       not_kept (g.SV.ServeHttp.gives c.args.server.now.app) c.args.session.now c.in-Some.entry h a,
+      c.in-None.is,
     )
 
 pub returns-in-Ready-Err-clause-went : goal.returns-in-Ready-Err-clause-went
