@@ -11,7 +11,7 @@ use std::thread::Threads;
 use std::{fs, io};
 
 /// The examples, each with its exit status: `NAME.script` is run, and `NAME.report` expected.
-const EXAMPLES: [(&str, u8); 21] = [
+const EXAMPLES: [(&str, u8); 24] = [
     ("one_request", 0),
     ("byte_by_byte", 0),
     ("cut_head", 0),
@@ -31,6 +31,9 @@ const EXAMPLES: [(&str, u8); 21] = [
     ("illegal_behind_an_empty_line", 0),
     ("two_hosts", 0),
     ("http_10", 0),
+    ("a_minute_later", 0),
+    ("cut_behind_a_wait", 0),
+    ("chunks_in_pieces", 0),
     ("poll_goes_back", 3),
     ("give_behind_end", 3),
 ];
