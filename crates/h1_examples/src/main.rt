@@ -2,6 +2,8 @@
 //! expected one.
 #![tactic(auto)]
 
+ghost use Rattle.std.specs.Prelude.{◌≡◌, ◌↔◌, IsTrue};
+
 use h1_error::Error;
 use h1_link::{MemAcceptor, MemSink, MemSource, SetClock};
 use h1_serve::run;
@@ -74,7 +76,14 @@ fn is_as_expected<R: Files + AllocGlobal + Wait + Threads + Sync + Send + Clone 
         &mut net,
         &mut clock,
     );
-    Ok(ended == status && sink.written() == report.as_slice())
+    Ok(agrees(ended, sink.written(), status, report.as_slice()))
+}
+
+/// Whether a run ended with the expected status and wrote the expected text.
+fn agrees(ended: u8, written: &[u8], status: u8, report: &[u8]) -> bool
+    ensures { IsTrue result ↔ ((ended ≡ status) × (written.now ≡ report.now)) }
+{
+    ended == status && written == report
 }
 
 fn no_memory(_refused: Error) -> io::Error {
