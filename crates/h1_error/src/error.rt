@@ -1,5 +1,6 @@
 //! Errors, their kinds and the kinds' numbers.
-ghost use Rattle.std.specs.Prelude.{◌≡◌, Some, IfOk, string_bytes};
+ghost use Rattle.std.specs.Prelude.{◌≡◌, Some, IfOk, IfErr, false, string_bytes};
+ghost use Rattle.h1_error.specs.declared.error.ErrorType.TheVariants.{NoMemory};
 ghost use Rattle.h1_error.specs.Code.{code_of};
 ghost use Rattle.h1_error.specs.Text.{text_of, task_name, connect_name};
 
@@ -99,7 +100,8 @@ impl ErrorType {
     /// The variant's name, and behind one space the inner variant's name or the number in decimal,
     /// where there is one.
     pub fn text(&self, alloc: Global) -> Result<String, Error>
-        ensures { IfOk result (λ text. string_bytes text ≡ text_of self.now) }
+        ensures text { IfOk result (λ text. string_bytes text ≡ text_of self.now) }
+        ensures memory { IfErr result (λ error. error ≡ record { kind = NoMemory; retry = false }) }
     {
         Ok(self.to_string(alloc)?)
     }
