@@ -9,51 +9,53 @@ fn check(method: &str, target: &str, host: Option<&str>) -> Result<(), HeadFault
     check_authority(method.as_bytes(), target.as_bytes(), hosts, None)
 }
 
+/// Targets of CONNECT, the value of Host, and what is answered (RFC 9112, section 3.2.3).
+const CONNECT_CASES: [(&str, Option<&str>, Result<(), HeadFault>); 20] = [
+    ("example.com:80", Some("example.com"), Ok(())),
+    ("example.com:80", Some("example.com:80"), Ok(())),
+    ("example.com:80", None, Ok(())),
+    (
+        "example.com:80",
+        Some("example.com:81"),
+        Err(ConnectHostDiffers),
+    ),
+    (
+        "example.com:80",
+        Some("Example.com"),
+        Err(ConnectHostDiffers),
+    ),
+    (
+        "user@example.com:80",
+        Some("example.com"),
+        Err(UserinfoInTarget),
+    ),
+    ("[a[b]:443", Some("[a[b]:443"), Err(AmbiguousConnect)),
+    ("a%2f.example:443", Some("a%2f.example:443"), Ok(())),
+    (
+        "a%2f.example:443",
+        Some("other.example"),
+        Err(ConnectHostDiffers),
+    ),
+    ("a%2f.example:443", None, Err(ConnectHostMissing)),
+    ("[::1]", Some("other.example"), Ok(())),
+    ("[::1]:443", Some("[::1]"), Ok(())),
+    ("a:", Some("b"), Ok(())),
+    ("a:x", Some("b"), Ok(())),
+    ("a:65536", Some("b"), Ok(())),
+    ("a:65535", Some("b"), Err(ConnectHostDiffers)),
+    ("https://a.example/", None, Err(ConnectHostMissing)),
+    ("https://a.example:443/", Some("a.example"), Ok(())),
+    (
+        "http:/\\/\\other.example/",
+        Some("a"),
+        Err(AmbiguousConnect),
+    ),
+    ("/unix", Some("a"), Ok(())),
+];
+
 #[test]
 fn a_connect_names_the_authority_of_its_host(rt: HostRuntime) {
-    let cases: [(&str, Option<&str>, Result<(), HeadFault>); 20] = [
-        ("example.com:80", Some("example.com"), Ok(())),
-        ("example.com:80", Some("example.com:80"), Ok(())),
-        ("example.com:80", None, Ok(())),
-        (
-            "example.com:80",
-            Some("example.com:81"),
-            Err(ConnectHostDiffers),
-        ),
-        (
-            "example.com:80",
-            Some("Example.com"),
-            Err(ConnectHostDiffers),
-        ),
-        (
-            "user@example.com:80",
-            Some("example.com"),
-            Err(UserinfoInTarget),
-        ),
-        ("[a[b]:443", Some("[a[b]:443"), Err(AmbiguousConnect)),
-        ("a%2f.example:443", Some("a%2f.example:443"), Ok(())),
-        (
-            "a%2f.example:443",
-            Some("other.example"),
-            Err(ConnectHostDiffers),
-        ),
-        ("a%2f.example:443", None, Err(ConnectHostMissing)),
-        ("[::1]", Some("other.example"), Ok(())),
-        ("[::1]:443", Some("[::1]"), Ok(())),
-        ("a:", Some("b"), Ok(())),
-        ("a:x", Some("b"), Ok(())),
-        ("a:65536", Some("b"), Ok(())),
-        ("a:65535", Some("b"), Err(ConnectHostDiffers)),
-        ("https://a.example/", None, Err(ConnectHostMissing)),
-        ("https://a.example:443/", Some("a.example"), Ok(())),
-        (
-            "http:/\\/\\other.example/",
-            Some("a"),
-            Err(AmbiguousConnect),
-        ),
-        ("/unix", Some("a"), Ok(())),
-    ];
-    for (target, host, expected) in cases {
+    for (target, host, expected) in CONNECT_CASES {
         assert_eq!(rt; check("CONNECT", target, host), expected, "{target}");
     }
 }
