@@ -49,69 +49,71 @@ fn write(out: &mut BodyBytes, mut wire: Wire) -> Result<(), Error> {
     Ok(())
 }
 
+/// Framed bytes, their payload, the bytes used and the state that they come to.
+const BODIES: [(Framing, &[u8], &[u8], usize, FeedState); 20] = [
+    (
+        CHUNKED,
+        b"4\r\nWiki\r\n5\r\npedia\r\n0\r\n\r\n",
+        b"Wikipedia",
+        24,
+        FeedState::Done,
+    ),
+    (
+        CHUNKED,
+        b"3\r\nabc\r\n0\r\nX: y\r\n\r\n",
+        b"abc",
+        19,
+        FeedState::Done,
+    ),
+    (
+        CHUNKED,
+        b"03;a=\"b\"\r\nabc\r\n000\r\nX:\r\nY:\0\r\n",
+        b"abc",
+        27,
+        FeedState::Broken,
+    ),
+    (
+        CHUNKED,
+        b"0000000000000003\r\nabc\r\n0\r\n\r\n",
+        b"abc",
+        28,
+        FeedState::Done,
+    ),
+    (
+        CHUNKED,
+        b"00000000000000003\r\n",
+        b"",
+        17,
+        FeedState::Broken,
+    ),
+    (
+        CHUNKED,
+        b"7fffFFFFffffFFFF\r\nab",
+        b"ab",
+        20,
+        FeedState::More,
+    ),
+    (CHUNKED, b"8000000000000000\r\n", b"", 16, FeedState::Broken),
+    (CHUNKED, b"ZZ\r\n", b"", 1, FeedState::Broken),
+    (CHUNKED, b"3\nabc", b"", 2, FeedState::Broken),
+    (CHUNKED, b"3 \r\nabc", b"", 2, FeedState::Broken),
+    (CHUNKED, b"3\r\nabcd", b"abc", 7, FeedState::Broken),
+    (CHUNKED, b"3;\n", b"", 3, FeedState::Broken),
+    (CHUNKED, b"\r\n", b"", 1, FeedState::Broken),
+    (CHUNKED, b"0\r\n", b"", 3, FeedState::More),
+    (CHUNKED, b"0\r\n: y\r\n", b"", 4, FeedState::Broken),
+    (CHUNKED, b"0\r\nX y\r\n", b"", 5, FeedState::Broken),
+    (Framing::Counted(3), b"abc", b"abc", 3, FeedState::Done),
+    (Framing::Counted(3), b"ab", b"ab", 2, FeedState::More),
+    (Framing::Counted(0), b"", b"", 0, FeedState::Done),
+    (Framing::UntilClose, b"abc", b"abc", 3, FeedState::More),
+];
+
 #[test]
 fn a_body_reads_the_same_at_each_cut_and_before_the_next_message(
     rt: HostRuntime,
 ) -> Result<(), Fail> {
-    let cases: [(Framing, &[u8], &[u8], usize, FeedState); 20] = [
-        (
-            CHUNKED,
-            b"4\r\nWiki\r\n5\r\npedia\r\n0\r\n\r\n",
-            b"Wikipedia",
-            24,
-            FeedState::Done,
-        ),
-        (
-            CHUNKED,
-            b"3\r\nabc\r\n0\r\nX: y\r\n\r\n",
-            b"abc",
-            19,
-            FeedState::Done,
-        ),
-        (
-            CHUNKED,
-            b"03;a=\"b\"\r\nabc\r\n000\r\nX:\r\nY:\0\r\n",
-            b"abc",
-            27,
-            FeedState::Broken,
-        ),
-        (
-            CHUNKED,
-            b"0000000000000003\r\nabc\r\n0\r\n\r\n",
-            b"abc",
-            28,
-            FeedState::Done,
-        ),
-        (
-            CHUNKED,
-            b"00000000000000003\r\n",
-            b"",
-            17,
-            FeedState::Broken,
-        ),
-        (
-            CHUNKED,
-            b"7fffFFFFffffFFFF\r\nab",
-            b"ab",
-            20,
-            FeedState::More,
-        ),
-        (CHUNKED, b"8000000000000000\r\n", b"", 16, FeedState::Broken),
-        (CHUNKED, b"ZZ\r\n", b"", 1, FeedState::Broken),
-        (CHUNKED, b"3\nabc", b"", 2, FeedState::Broken),
-        (CHUNKED, b"3 \r\nabc", b"", 2, FeedState::Broken),
-        (CHUNKED, b"3\r\nabcd", b"abc", 7, FeedState::Broken),
-        (CHUNKED, b"3;\n", b"", 3, FeedState::Broken),
-        (CHUNKED, b"\r\n", b"", 1, FeedState::Broken),
-        (CHUNKED, b"0\r\n", b"", 3, FeedState::More),
-        (CHUNKED, b"0\r\n: y\r\n", b"", 4, FeedState::Broken),
-        (CHUNKED, b"0\r\nX y\r\n", b"", 5, FeedState::Broken),
-        (Framing::Counted(3), b"abc", b"abc", 3, FeedState::Done),
-        (Framing::Counted(3), b"ab", b"ab", 2, FeedState::More),
-        (Framing::Counted(0), b"", b"", 0, FeedState::Done),
-        (Framing::UntilClose, b"abc", b"abc", 3, FeedState::More),
-    ];
-    for (framing, bytes, expected, used, state) in cases {
+    for (framing, bytes, expected, used, state) in BODIES {
         let next: &[u8] = if state == FeedState::More {
             b""
         } else {
