@@ -47,6 +47,7 @@ sent_itself s owed budget = record {
   moved = let spent : budget - budget ≡ 0 = omega arith in rw spent (moved_itself s);
   bytes = refl;
   within = omega arith;
+  unread = refl;
 }
 
 pub sent_on : (a b c : LinkState) (x y z : List ℕ) (budget between left : ℕ)
@@ -57,6 +58,7 @@ sent_on a b c x y z budget between left first second = record {
       rw spent (moved_on _ _ _ [] [] _ _ _ _ first.moved second.moved);
   bytes = first.bytes ∙ ap (λ rest. first.piece ++ rest) second.bytes ∙ sym (append_assoc first.piece second.piece z);
   within = omega arith;
+  unread = second.unread ∙ first.unread;
 }
 
 zero_test : (n : ℕ) → 0 < n → eqb n 0 ≡ false
@@ -93,6 +95,7 @@ sent_one s owed front n budget is some within spend = record {
   });
   bytes = sym (ap (λ bytes. bytes ++ drop n owed) (take_front owed front n is within) ∙ take-append-drop n owed);
   within = omega arith;
+  unread = ap (λ (x : LinkState). x.read_waits) (took s front n some);
 }
 
 -- a front is no longer than the whole

@@ -46,6 +46,7 @@ writes {L} state old new taken left taking written owes counts done =
         moved = written.sent.moved;
         bytes = sym owes ∙ written.sent.bytes;
         within = written.sent.within;
+        unread = written.sent.unread;
       };
       budget = written.budget;
       received = written.received;

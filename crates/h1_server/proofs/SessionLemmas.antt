@@ -1,6 +1,7 @@
 -- Lemmas on the parts of a session.
-use Rattle.std.proofs.Common.{◌≡◌, ℕ, List, Option, Some, None, IfNone, IfSome, refl, sym, ap, ◌∙◌, subst}
+use Rattle.std.proofs.Common.{◌≡◌, ℕ, List, Option, Some, None, IfNone, IfSome, refl, sym, ap, ◌∙◌, subst, take}
 use Rattle.h1_head.specs.RequestHead.{HeadAt}
+use Rattle.h1_head.specs.RequestGrammar.{IsReadAs}
 use Rattle.h1_head.specs.Wish.{wish}
 use Rattle.h1_head.specs.declared.request_head.RequestHead.{RequestHead}
 use Rattle.h1_body.specs.Framing.{framing}
@@ -20,9 +21,10 @@ is_nothing (Some x) not_some = absurd (not_some x refl)
 
 -- a request that was made of a head is the one that was read
 pub request_made : (bytes : List ℕ) (used : ℕ) (head : RequestHead) (request : Request)
-    → HeadAt bytes used head.header head.both → IsMadeOf head request → IsRequestOf bytes used request
-request_made bytes used head request at made = record {
+    → HeadAt bytes used head.header head.both → IsReadAs (take used bytes) head.raw → IsMadeOf head request → IsRequestOf bytes used request
+request_made bytes used head request at parsed made = record {
   head = rw (made.header, made.both) at;
+  raw = rw made.raw parsed;
   framed = made.framed ∙ ap (λ header. framing header) (sym made.header);
   wishes = made.wishes ∙ ap (λ header. wish header head.both) (sym made.header)
       ∙ ap (λ both. wish request.header both) (sym made.both);

@@ -29,7 +29,7 @@ BodyCause before now reader received payload left b.NotReady =
 BodyCause before now reader received payload left b.Spent =
     (left ≡ 0) × Lacks reader received
 BodyCause before now reader received payload left b.Failed =
-    Rose before.read_faults now.read_faults × (now.read_waits ≡ before.read_waits)
+    Rose before.read_faults now.read_faults × Lacks reader received × (now.read_waits ≡ before.read_waits)
 BodyCause before now reader received payload left b.NoMemory = now.read_waits ≡ before.read_waits
 
 -- one read of a part of a body

@@ -30,3 +30,4 @@ pub record Sent (before now : LinkState) (old new : List ℕ) (budget left : ℕ
   pub moved : Moved before now [] piece (budget - left)
   pub bytes : old ≡ piece ++ new
   pub within : left ≤ budget
+  pub unread : now.read_waits ≡ before.read_waits

@@ -1,5 +1,5 @@
 -- Reading a request's body (RFC 9112, sections 6 and 8).
-use Rattle.std.specs.Prelude.{◌≡◌, ℕ, ◌<◌, ◌⊎◌, List, [], length, true, false, Option, Some, None, option_map, Result, Ok, Err}
+use Rattle.std.specs.Prelude.{◌≡◌, ℕ, ◌≤◌, ◌+◌, ◌<◌, ◌⊎◌, List, [], length, true, false, Option, Some, None, option_map, Result, Ok, Err}
 use Rattle.futures.specs.declared.task.Poll.{Poll}
 use Rattle.futures.specs.declared.task.Poll.TheVariants.{Ready, Pending}
 use Rattle.h1_error.specs.declared.error.Error.{Error}
@@ -18,7 +18,8 @@ abbrev pub BodyRefusal : {L : Type 0} → (L → LinkState) → SessionView L �
 BodyRefusal state old new kind.InvalidBody = reads new.body.reader [] ≡ broken []
 BodyRefusal state old new kind.ConnectionClosed =
     ((state new.link).ended ≡ true) × Lacks new.body.reader new.received
-BodyRefusal state old new kind.ReadError = Rose (state old.link).read_faults (state new.link).read_faults
+BodyRefusal state old new kind.ReadError =
+    Rose (state old.link).read_faults (state new.link).read_faults × Lacks new.body.reader new.received
 BodyRefusal state old new kind.NoMemory = Unit {0}
 BodyRefusal state old new _ = ⊥
 
@@ -49,5 +50,7 @@ pub record ReadsPayload {L : Type 0} (state : L → LinkState) (old new : Sessio
   pub request : new.request ≡ old.request
   pub refused : new.refused ≡ old.refused
   pub reply : new.reply ≡ old.reply
+  -- a read was not ready at most once
+  pub few : (state new.link).read_waits ≤ (state old.link).read_waits + 1
   pub settings : new.settings ≡ old.settings
   pub answer : PayloadAnswer state old new payload left outcome

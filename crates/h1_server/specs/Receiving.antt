@@ -1,5 +1,5 @@
 -- What one read of the link does to the received bytes.
-use Rattle.std.specs.Prelude.{◌≡◌, ℕ, ◌<◌, List, [], ◌++◌, length, true}
+use Rattle.std.specs.Prelude.{◌≡◌, ℕ, ◌+◌, ◌<◌, ◌≤◌, List, [], ◌++◌, length, true}
 use Rattle.h1_link.specs.LinkState.{LinkState}
 use Rattle.h1_link.specs.Counts.{Rose}
 use Rattle.h1_server.specs.Moved.{Moved}
@@ -27,4 +27,6 @@ pub record FillsBy (before now : LinkState) (old new : List ℕ) (filled : Fille
   pub moved : Moved before now piece [] (cost filled)
   pub bytes : new ≡ old ++ piece
   pub flushed : now.flushed ≡ before.flushed
+  -- it waited at most once
+  pub few : now.read_waits ≤ before.read_waits + 1
   pub cause : FillCause before now piece filled

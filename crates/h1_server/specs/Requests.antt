@@ -1,5 +1,5 @@
 -- Reading a request's head (RFC 9112, sections 2.2 and 3).
-use Rattle.std.specs.Prelude.{◌≡◌, ℕ, ◌<◌, ◌⊎◌, List, [], length, drop, true, false, not, Option, Some, None, option_map, Result, Ok, Err}
+use Rattle.std.specs.Prelude.{◌≡◌, ℕ, ◌+◌, ◌<◌, ◌≤◌, ◌⊎◌, List, [], length, take, drop, true, false, not, Option, Some, None, option_map, Result, Ok, Err}
 use Rattle.futures.specs.declared.task.Poll.{Poll}
 use Rattle.futures.specs.declared.task.Poll.TheVariants.{Ready, Pending}
 use Rattle.h1_error.specs.declared.error.Error.{Error}
@@ -8,6 +8,7 @@ use Rattle.h1_error.specs.declared.error.ErrorType.TheVariants as kind
 use Rattle.h1_link.specs.LinkState.{LinkState}
 use Rattle.h1_link.specs.Counts.{Rose}
 use Rattle.h1_head.specs.RequestHead.{HeadAt, RefusedAt, NotYetAt}
+use Rattle.h1_head.specs.RequestGrammar.{IsReadAs}
 use Rattle.h1_head.specs.Wish.{wish}
 use Rattle.h1_body.specs.Reader.{body, reads}
 use Rattle.h1_server.specs.Moved.{Received}
@@ -18,9 +19,11 @@ use Rattle.h1_server.specs.declared.request.ReadRequest.{ReadRequest}
 use Rattle.h1_server.specs.declared.request.ReadRequest.TheVariants as read
 use Rattle.h1_server.specs.declared.request.NoRequest.TheVariants.{Closed, IdleTimeout}
 
--- the head that was read and what follows from it: its wish, and the framing of its body
+-- the head that was read, its bytes as they were parsed, and what follows from it: its wish, and the
+-- framing of its body
 pub record IsRequestOf (bytes : List ℕ) (used : ℕ) (request : Request) : Type 0 where
   pub head : HeadAt bytes used request.header request.both
+  pub raw : IsReadAs (take used bytes) request.raw
   pub framed : request.framing ≡ framing request.header
   pub wishes : request.wish ≡ wish request.header request.both
 
@@ -46,7 +49,7 @@ pub record BeginsNone {L : Type 0} (old new : SessionView L) (bytes : List ℕ) 
 abbrev pub HeadRefusal : LinkState → LinkState → List ℕ → ErrorType → Type 0
 HeadRefusal before now bytes (kind.InvalidHTTPHeader fault) = RefusedAt bytes fault
 HeadRefusal before now bytes kind.ConnectionClosed = (now.ended ≡ true) × NotYetAt bytes × (0 < length bytes)
-HeadRefusal before now bytes kind.ReadError = Rose before.read_faults now.read_faults
+HeadRefusal before now bytes kind.ReadError = Rose before.read_faults now.read_faults × NotYetAt bytes
 HeadRefusal before now bytes kind.NoMemory = Unit {0}
 HeadRefusal before now bytes _ = ⊥
 
@@ -79,4 +82,6 @@ pub record ReadsRequest {L : Type 0} (state : L → LinkState) (old new : Sessio
   pub received : Received (state old.link) (state new.link) old.received bytes (allowance old.budget) left
   pub budget : new.budget ≡ option_map (λ _. left) old.budget
   pub reply : new.reply ≡ old.reply
+  -- a read was not ready at most once
+  pub few : (state new.link).read_waits ≤ (state old.link).read_waits + 1
   pub answer : HeadAnswer state old new bytes left outcome

@@ -51,6 +51,7 @@ pub(crate) fn deliver<L: Link>(
 /// Flushes the link where that is asked for.
 fn flush<L: Link>(link: &mut L, how: Delivery) -> FlushStep
     ensures moved { Moved (L.state link.old) (L.state link.new) [] [] 0 }
+    ensures unread { (L.state link.new).read_waits ≡ (L.state link.old).read_waits }
     ensures cause { FlushCause how (L.state link.old) (L.state link.new) result }
     ensures plan { L.same_plan link.old link.new }
 {

@@ -1,5 +1,5 @@
 //! Reading a part of a request's body off the link (RFC 9112, section 6).
-ghost use Rattle.std.specs.Prelude.{◌≡◌, ◌-◌};
+ghost use Rattle.std.specs.Prelude.{◌≡◌, ◌≤◌, ◌+◌, ◌-◌};
 ghost use Rattle.h1_server.specs.Decoding.{ReadsBody, BodyCause, payload_of};
 
 use crate::receiving::{Filled, fill};
@@ -39,6 +39,7 @@ pub(crate) fn read_body<L: Link>(
 ) -> BodyRead
     ensures reads { ReadsBody (L.state link.old) (L.state link.new) received.old.items received.new.items reader.old reader.new kept.old kept.new budget.old budget.new (payload_of result) }
     ensures cause { BodyCause (L.state link.old) (L.state link.new) reader.new received.new.items (payload_of result) budget.new result }
+    ensures few { (L.state link.new).read_waits ≤ (L.state link.old).read_waits + 1 }
     ensures plan { L.same_plan link.old link.new }
 {
     'reads: loop {

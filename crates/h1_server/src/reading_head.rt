@@ -1,5 +1,5 @@
 //! Reading a request's head off the link (RFC 9112, sections 2.2 and 3).
-ghost use Rattle.std.specs.Prelude.{◌≡◌, ◌<◌, ◌-◌};
+ghost use Rattle.std.specs.Prelude.{◌≡◌, ◌<◌, ◌≤◌, ◌+◌, ◌-◌};
 ghost use Rattle.h1_server.specs.Moved.{Received};
 ghost use Rattle.h1_server.specs.Reading.{HeadCause};
 ghost use Rattle.h1_cut.specs.Search.{HasLooked};
@@ -42,6 +42,7 @@ pub(crate) fn read_head<L: Link>(
     ensures received { Received (L.state link.old) (L.state link.new) received.old.items received.new.items budget.old budget.new }
     ensures cause { HeadCause (L.state link.old) (L.state link.new) received.new.items budget.new result }
     ensures looked { HasLooked MAX_HEADER_SIZE search.new received.new.items }
+    ensures few { (L.state link.new).read_waits ≤ (L.state link.old).read_waits + 1 }
     ensures plan { L.same_plan link.old link.new }
 {
     'reads: loop {

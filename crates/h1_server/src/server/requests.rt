@@ -1,5 +1,5 @@
 //! Reading a request: its head and its body.
-ghost use Rattle.std.specs.Prelude.{◌≡◌, ◌<◌, ◌^◌, length, IsSome, IfSome, IfNone, None, Some};
+ghost use Rattle.std.specs.Prelude.{◌≡◌, ◌<◌, ◌^◌, length, IsSome, IfSome, IfNone, None, Some, false, Err};
 ghost use Rattle.futures.specs.declared.task.Poll.TheVariants.{Ready};
 ghost use Rattle.h1_error.specs.declared.error.ErrorType.{ErrorType};
 
@@ -14,6 +14,16 @@ use futures::task::Poll;
 use h1_body::BodyReader;
 use h1_error::{Error, ErrorType};
 use h1_link::Link;
+
+/// Refuses with an error of this kind, which every later call answers again.
+fn refuse<T>(refused: &mut Option<Error>, kind: ErrorType) -> Poll<Result<T, Error>>
+    ensures kept { refused.new ≡ Some (record { kind = kind; retry = false }) }
+    ensures answer { result ≡ Ready (Err (record { kind = kind; retry = false })) }
+{
+    let error = Error::from(kind);
+    *refused = Some(error);
+    Poll::Ready(Err(error))
+}
 
 impl<L: Link + Drop, C: Drop> HttpSession<L, C> {
     ghost use Rattle.h1_server.specs.Requests.{ReadsRequest};
@@ -50,24 +60,15 @@ impl<L: Link + Drop, C: Drop> HttpSession<L, C> {
                 self.request = Some(request);
                 Poll::Ready(Ok(ReadRequest::Head(len)))
             }
-            HeadRead::Refused(fault) => {
-                let error = Error::from(ErrorType::InvalidHTTPHeader(fault));
-                self.refused = Some(error);
-                Poll::Ready(Err(error))
-            }
+            HeadRead::Refused(fault) => refuse(
+                &mut self.refused,
+                ErrorType::InvalidHTTPHeader(fault),
+            ),
             HeadRead::Closed => Poll::Ready(Ok(ReadRequest::None(NoRequest::Closed))),
-            HeadRead::Cut => {
-                let error = Error::from(ErrorType::ConnectionClosed);
-                self.refused = Some(error);
-                Poll::Ready(Err(error))
-            }
+            HeadRead::Cut => refuse(&mut self.refused, ErrorType::ConnectionClosed),
             HeadRead::NotReady => Poll::Pending,
             HeadRead::Spent => Poll::Pending,
-            HeadRead::Failed => {
-                let error = Error::from(ErrorType::ReadError);
-                self.refused = Some(error);
-                Poll::Ready(Err(error))
-            }
+            HeadRead::Failed => refuse(&mut self.refused, ErrorType::ReadError),
             HeadRead::NoMemory => Poll::Ready(Err(Error::from(ErrorType::NoMemory))),
         }
     }
@@ -98,16 +99,8 @@ impl<L: Link + Drop, C: Drop> HttpSession<L, C> {
         match read {
             BodyRead::Piece(bytes) => Poll::Ready(Ok(Some(bytes))),
             BodyRead::Done => Poll::Ready(Ok(None)),
-            BodyRead::Broken => {
-                let error = Error::from(ErrorType::InvalidBody);
-                self.body.refused = Some(error);
-                Poll::Ready(Err(error))
-            }
-            BodyRead::Cut => {
-                let error = Error::from(ErrorType::ConnectionClosed);
-                self.body.refused = Some(error);
-                Poll::Ready(Err(error))
-            }
+            BodyRead::Broken => refuse(&mut self.body.refused, ErrorType::InvalidBody),
+            BodyRead::Cut => refuse(&mut self.body.refused, ErrorType::ConnectionClosed),
             BodyRead::NotReady => {
                 self.body.waits = true;
                 Poll::Pending
@@ -116,11 +109,7 @@ impl<L: Link + Drop, C: Drop> HttpSession<L, C> {
                 self.body.waits = true;
                 Poll::Pending
             }
-            BodyRead::Failed => {
-                let error = Error::from(ErrorType::ReadError);
-                self.body.refused = Some(error);
-                Poll::Ready(Err(error))
-            }
+            BodyRead::Failed => refuse(&mut self.body.refused, ErrorType::ReadError),
             BodyRead::NoMemory => Poll::Ready(Err(Error::from(ErrorType::NoMemory))),
         }
     }

@@ -16,6 +16,7 @@ returns-in-Piece-clause-reads g c =
       request = refl;
       refused = refl;
       reply = refl;
+      few = c.read_body-read.ensures.few;
       settings = refl;
       answer = (refl, cause.0, unrefused, record { waits = refl; link_waits = cause.1 });
     }))
@@ -33,6 +34,7 @@ returns-in-Done-clause-reads g c =
       request = refl;
       refused = refl;
       reply = refl;
+      few = c.read_body-read.ensures.few;
       settings = refl;
       answer = (refl, cause.0, unrefused, record { waits = refl; link_waits = cause.1 });
     }))
@@ -42,7 +44,7 @@ returns-in-Broken-clause-reads g c =
     let reads = rw c.allowance_of-left.ensures at c.in-Broken.ensures.reads in
     let cause = c.in-Broken.ensures.cause in
     let unrefused = is_nothing c.self.inside.body.refused c.in_default.not-Some in
-    rw (← c.self.view_is) rw c.from-error.ensures (if_none c.self.inside.body.refused _ (record {
+    rw (← c.self.view_is) rw c.refuse.ensures.answer (if_none c.self.inside.body.refused _ (record {
       payload = [];
       left = c.read_body-read.new.budget;
       reads = reads;
@@ -50,8 +52,9 @@ returns-in-Broken-clause-reads g c =
       request = refl;
       refused = refl;
       reply = refl;
+      few = c.read_body-read.ensures.few;
       settings = refl;
-      answer = (refl, refl, cause.0, record { waits = refl; link_waits = cause.1 }, refl);
+      answer = (refl, c.refuse.ensures.kept, cause.0, record { waits = refl; link_waits = cause.1 }, refl);
     }))
 
 pub returns-in-Cut-clause-reads : goal.returns-in-Cut-clause-reads
@@ -59,7 +62,7 @@ returns-in-Cut-clause-reads g c =
     let reads = rw c.allowance_of-left.ensures at c.in-Cut.ensures.reads in
     let cause = c.in-Cut.ensures.cause in
     let unrefused = is_nothing c.self.inside.body.refused c.in_default.not-Some in
-    rw (← c.self.view_is) rw c.from-error-in-Cut.ensures (if_none c.self.inside.body.refused _ (record {
+    rw (← c.self.view_is) rw c.refuse-in-Cut.ensures.answer (if_none c.self.inside.body.refused _ (record {
       payload = [];
       left = c.read_body-read.new.budget;
       reads = reads;
@@ -67,8 +70,9 @@ returns-in-Cut-clause-reads g c =
       request = refl;
       refused = refl;
       reply = refl;
+      few = c.read_body-read.ensures.few;
       settings = refl;
-      answer = (refl, refl, (cause.0, cause.1), record { waits = refl; link_waits = cause.2 }, refl);
+      answer = (refl, c.refuse-in-Cut.ensures.kept, (cause.0, cause.1), record { waits = refl; link_waits = cause.2 }, refl);
     }))
 
 pub returns-in-NotReady-clause-reads : goal.returns-in-NotReady-clause-reads
@@ -84,6 +88,7 @@ returns-in-NotReady-clause-reads g c =
       request = refl;
       refused = refl;
       reply = refl;
+      few = c.read_body-read.ensures.few;
       settings = refl;
       answer = (refl, cause.1, unrefused, refl, inl cause.0);
     }))
@@ -101,6 +106,7 @@ returns-in-Spent-clause-reads g c =
       request = refl;
       refused = refl;
       reply = refl;
+      few = c.read_body-read.ensures.few;
       settings = refl;
       answer = (refl, cause.1, unrefused, refl, inr cause.0);
     }))
@@ -110,7 +116,7 @@ returns-in-Failed-clause-reads g c =
     let reads = rw c.allowance_of-left.ensures at c.in-Failed.ensures.reads in
     let cause = c.in-Failed.ensures.cause in
     let unrefused = is_nothing c.self.inside.body.refused c.in_default.not-Some in
-    rw (← c.self.view_is) rw c.from-error-in-Failed.ensures (if_none c.self.inside.body.refused _ (record {
+    rw (← c.self.view_is) rw c.refuse-in-Failed.ensures.answer (if_none c.self.inside.body.refused _ (record {
       payload = [];
       left = c.read_body-read.new.budget;
       reads = reads;
@@ -118,8 +124,9 @@ returns-in-Failed-clause-reads g c =
       request = refl;
       refused = refl;
       reply = refl;
+      few = c.read_body-read.ensures.few;
       settings = refl;
-      answer = (refl, refl, cause.0, record { waits = refl; link_waits = cause.1 }, refl);
+      answer = (refl, c.refuse-in-Failed.ensures.kept, (cause.0, cause.1), record { waits = refl; link_waits = cause.2 }, refl);
     }))
 
 pub returns-in-NoMemory-clause-reads : goal.returns-in-NoMemory-clause-reads
@@ -135,6 +142,7 @@ returns-in-NoMemory-clause-reads g c =
       request = refl;
       refused = refl;
       reply = refl;
+      few = c.read_body-read.ensures.few;
       settings = refl;
       answer = (refl, unrefused, tt, record { waits = refl; link_waits = cause }, refl);
     }))

@@ -14,12 +14,13 @@ returns-in-Whole-clause-reads g c =
       received = received;
       budget = c.budget_left-self-inside.ensures;
       reply = refl;
+      few = c.read_head-read.ensures.few;
       answer = (
         c.request_of-request.result,
         refl,
         record {
           used = c.in-Whole.used;
-          is = request_made _ _ c.in-Whole.head c.request_of-request.result cause.0 c.request_of-request.ensures;
+          is = request_made _ _ c.in-Whole.head c.request_of-request.result cause.0 cause.1 c.request_of-request.ensures;
           received = c.advance.ensures.items;
           raw = c.len-len.ensures.value;
           reader = c.new-self-inside.ensures.reads;
@@ -27,7 +28,7 @@ returns-in-Whole-clause-reads g c =
           keep_off = refl;
           refused = unrefused;
         },
-        cause.1,
+        cause.2,
       );
     }))
 
@@ -37,13 +38,14 @@ returns-in-Refused-clause-reads g c =
     let cause = c.in-Refused.ensures.cause in
     let unread = rw (← c.self.view_is) at c.requires in
     let unrefused = is_nothing c.self.inside.refused c.in_default.not-Some in
-    rw (← c.self.view_is) rw c.from-error.ensures (if_none c.self.inside.refused _ (record {
+    rw (← c.self.view_is) rw c.refuse.ensures.answer (if_none c.self.inside.refused _ (record {
       bytes = c.read_head-read.new.received.items;
       left = c.read_head-read.new.budget;
       received = received;
       budget = c.budget_left-self-inside.ensures;
       reply = refl;
-      answer = (record { request = unread; received = refl; body = refl; settings = refl }, refl, cause, refl);
+      few = c.read_head-read.ensures.few;
+      answer = (record { request = unread; received = refl; body = refl; settings = refl }, c.refuse.ensures.kept, cause, refl);
     }))
 
 pub returns-in-Closed-clause-reads : goal.returns-in-Closed-clause-reads
@@ -58,6 +60,7 @@ returns-in-Closed-clause-reads g c =
       received = received;
       budget = c.budget_left-self-inside.ensures;
       reply = refl;
+      few = c.read_head-read.ensures.few;
       answer = (record { request = unread; received = refl; body = refl; settings = refl }, unrefused, cause.0, cause.1);
     }))
 
@@ -67,13 +70,14 @@ returns-in-Cut-clause-reads g c =
     let cause = c.in-Cut.ensures.cause in
     let unread = rw (← c.self.view_is) at c.requires in
     let unrefused = is_nothing c.self.inside.refused c.in_default.not-Some in
-    rw (← c.self.view_is) rw c.from-error-in-Cut.ensures (if_none c.self.inside.refused _ (record {
+    rw (← c.self.view_is) rw c.refuse-in-Cut.ensures.answer (if_none c.self.inside.refused _ (record {
       bytes = c.read_head-read.new.received.items;
       left = c.read_head-read.new.budget;
       received = received;
       budget = c.budget_left-self-inside.ensures;
       reply = refl;
-      answer = (record { request = unread; received = refl; body = refl; settings = refl }, refl, cause, refl);
+      few = c.read_head-read.ensures.few;
+      answer = (record { request = unread; received = refl; body = refl; settings = refl }, c.refuse-in-Cut.ensures.kept, cause, refl);
     }))
 
 pub returns-in-NotReady-clause-reads : goal.returns-in-NotReady-clause-reads
@@ -88,6 +92,7 @@ returns-in-NotReady-clause-reads g c =
       received = received;
       budget = c.budget_left-self-inside.ensures;
       reply = refl;
+      few = c.read_head-read.ensures.few;
       answer = (record { request = unread; received = refl; body = refl; settings = refl }, unrefused, cause.1, inl cause.0);
     }))
 
@@ -103,6 +108,7 @@ returns-in-Spent-clause-reads g c =
       received = received;
       budget = c.budget_left-self-inside.ensures;
       reply = refl;
+      few = c.read_head-read.ensures.few;
       answer = (record { request = unread; received = refl; body = refl; settings = refl }, unrefused, cause.1, inr cause.0);
     }))
 
@@ -112,13 +118,14 @@ returns-in-Failed-clause-reads g c =
     let cause = c.in-Failed.ensures.cause in
     let unread = rw (← c.self.view_is) at c.requires in
     let unrefused = is_nothing c.self.inside.refused c.in_default.not-Some in
-    rw (← c.self.view_is) rw c.from-error-in-Failed.ensures (if_none c.self.inside.refused _ (record {
+    rw (← c.self.view_is) rw c.refuse-in-Failed.ensures.answer (if_none c.self.inside.refused _ (record {
       bytes = c.read_head-read.new.received.items;
       left = c.read_head-read.new.budget;
       received = received;
       budget = c.budget_left-self-inside.ensures;
       reply = refl;
-      answer = (record { request = unread; received = refl; body = refl; settings = refl }, refl, cause, refl);
+      few = c.read_head-read.ensures.few;
+      answer = (record { request = unread; received = refl; body = refl; settings = refl }, c.refuse-in-Failed.ensures.kept, cause, refl);
     }))
 
 pub returns-in-NoMemory-clause-reads : goal.returns-in-NoMemory-clause-reads
@@ -133,5 +140,6 @@ returns-in-NoMemory-clause-reads g c =
       received = received;
       budget = c.budget_left-self-inside.ensures;
       reply = refl;
+      few = c.read_head-read.ensures.few;
       answer = (record { request = unread; received = refl; body = refl; settings = refl }, unrefused, tt, refl);
     }))
