@@ -1,19 +1,40 @@
 -- A connection's transcript agrees with what its link gave and took.
-use Rattle.std.proofs.Common.{◌≡◌, ℕ, ◌-◌, ◌^◌, min, List, [], ◌∷◌, ◌++◌, length, option_to_list, Option, Some, None, IfSome, refl, sym, ◌∙◌, append_assoc}
+use Rattle.std.proofs.Common.{◌≡◌, ℕ, ◌+◌, ◌-◌, ◌^◌, ◌<◌, min, take, Bool, false, ap, subst, arith, inl, inr, length-append, append-nil, List, [], ◌∷◌, ◌++◌, length, option_to_list, Option, Some, None, IfSome, refl, sym, ◌∙◌, append_assoc}
+use Rattle.std.proofs.lemmas.Bool.{cases_lt, false≢true}
+use Rattle.std.proofs.Math.Seq.{take-nil}
 use Rattle.h1_error.specs.declared.progress.End.{End}
+use Rattle.h1_error.specs.declared.error.Error.{Error}
+use Rattle.h1_error.specs.declared.error.ErrorType.{ErrorType}
+use Rattle.h1_error.specs.declared.error.ErrorType.TheVariants as kind
 use Rattle.h1_link.specs.LinkState.{LinkState}
 use Rattle.h1_head.specs.Views.{RequestView}
-use Rattle.h1_body.specs.Body.{Body, whole, unfinished, broken, ahead, payload_of}
-use Rattle.h1_body.specs.Reader.{reads}
+use Rattle.h1_body.specs.Body.{Body, whole, unfinished, broken, ahead, payload_of, stop_of}
+use Rattle.h1_body.specs.Reader.{body, reads, read_as}
+use Rattle.h1_body.specs.Read.{HasRead}
+use Rattle.h1_body.specs.Laws.{GrowsTo}
+use Rattle.h1_body.specs.Framing.{framing}
+use Rattle.h1_body.specs.Chunks.{state_of}
+use Rattle.h1_body.specs.declared.framing.Framing.{Framing}
+use Rattle.h1_body.specs.declared.framing.Framing.TheVariants.{Counted, Chunked, UntilClose}
+use Rattle.h1_body.specs.declared.fed.FeedState.{FeedState}
+use Rattle.h1_body.specs.declared.fed.FeedState.TheVariants.{More, Done, Broken}
+use Rattle.h1_body.specs.declared.reader.BodyReader.{BodyReader}
+use Rattle.h1_body.specs.declared.reader.Reading.{Reading}
+use Rattle.h1_body.specs.declared.reader.Reading.TheVariants as reading
+use Rattle.h1_body.proofs.CountedLemmas.{counted_has, counted_lacks}
+use Rattle.h1_body.proofs.ReadLemmas.{read_is}
+use Rattle.h1_body.proofs.LawLemmas.{bodies_grow}
+use Rattle.h1_server.specs.Persistence.{is_whole}
 use Rattle.h1_server.specs.SessionView.{SessionView}
 use Rattle.h1_server.specs.declared.settings.Settings.{Settings}
 use Rattle.h1_app.specs.declared.application.Reply.{Reply}
 use Rattle.h1_app.specs.declared.transcript.Entry.{Entry}
 use Rattle.h1_app.specs.declared.exchange.Stage.{Stage}
-use Rattle.h1_app.specs.Agrees.{Agrees, AreOf, AreReplies, Extends}
-use Rattle.h1_app.specs.Application.{Given}
+use Rattle.h1_app.specs.Agrees.{Agrees, AreOf, AreReplies, IsBelow, StoodAs, RefusalOf}
+use Rattle.h1_app.specs.Growth.{Extends}
+use Rattle.h1_app.specs.Application.{Given, how_stands, how_of}
 use Rattle.h1_app.specs.Exchange.{IsAllowed}
-use Rattle.h1_app.specs.Since.{Since, ReadEntry, WroteSo, coming}
+use Rattle.h1_app.specs.Since.{Since, ReadEntry, WroteSo, StopsBody, coming}
 use Rattle.h1_app.specs.Sound.{Sound, IsKept}
 use Rattle.h1_app.specs.Stream.{Message, Begins, BehindBody}
 use Rattle.h1_app.specs.Turns.{ExtendsLast}
@@ -29,15 +50,119 @@ payload_ahead front used (whole payload n) = refl
 payload_ahead front used (unfinished payload) = refl
 payload_ahead front used (broken payload) = refl
 
+-- a reader makes no payload of no bytes
+nothing_read : (reading : Reading) → payload_of (read_as reading []) ≡ []
+nothing_read (reading.Counted left) = elim (cases_lt 0 left) [
+  | inl some ↦ ap payload_of (counted_lacks left [] some)
+  | inr none ↦ ap payload_of (counted_has left [] none) ∙ take-nil left
+]
+nothing_read (reading.Chunked place) = stops (state_of place) where
+  stops : (s : FeedState) → payload_of (stop_of s) ≡ []
+  stops More = refl
+  stops Done = refl
+  stops Broken = refl
+nothing_read reading.UntilClose = refl
+nothing_read reading.Ended = refl
+
+-- with a stated length and no end of the body, fewer bytes were handed in
+below : (f : Framing) (handed : ℕ) (used payload : List ℕ) (reader : BodyReader) (b : Body) → handed ≡ length payload
+    → HasRead f used payload reader → reads reader [] ≡ b → is_whole b ≡ false → IsBelow f handed
+below Chunked handed used payload reader b count read is goes = tt
+below UntilClose handed used payload reader b count read is goes = tt
+below (Counted n) handed used payload reader b count read is goes = elim (cases_lt (length used) n) [
+  | inl lacks ↦
+      let now : unfinished used ≡ ahead payload (length used) b =
+      sym (counted_lacks n used lacks) ∙ read_is (Counted n) used payload reader read ∙ ap (ahead payload (length used)) is in
+      unread b now lacks
+  | inr has ↦
+      let now : whole (take n used) n ≡ ahead payload (length used) b =
+      sym (counted_has n used has) ∙ read_is (Counted n) used payload reader read ∙ ap (ahead payload (length used)) is in
+      absurd (whole_so b now goes)
+] where
+  unread : (b : Body) → unfinished used ≡ ahead payload (length used) b → length used < n → handed < n
+  unread (whole p k) now lacks = absurd cc
+  unread (broken p) now lacks = absurd cc
+  unread (unfinished p) now lacks = let so : used ≡ payload ++ p = cc in
+      omega (arith, ap length so, length-append payload p, count, lacks)
+
+  whole_so : (b : Body) → whole (take n used) n ≡ ahead payload (length used) b → is_whole b ≡ false → ⊥
+  whole_so (whole p k) now goes = false≢true (sym goes)
+  whole_so (broken p) now goes = absurd cc
+  whole_so (unfinished p) now goes = absurd cc
+
+-- how the reading of the body stood agrees with what its bytes make of it
+stood : (f : Framing) (e : Entry) (used received : List ℕ) (reader : BodyReader) (refused : Option Error)
+    → HasRead f used e.body reader → framing e.head ≡ f → e.handed ≡ length e.body → e.body_error ≡ refused
+    → StoodAs (how_stands (reads reader []) refused) e (ahead e.body (length used) (reads reader received))
+stood f e used received reader (Some error) read is count err = rw err refl
+stood f e used received reader None read is count err = by (reads reader []) refl where
+  by : (b : Body) → reads reader [] ≡ b → StoodAs (how_stands b None) e (ahead e.body (length used) (reads reader received))
+  by (whole p k) now =
+      let none : p ≡ [] = sym (ap payload_of now) ∙ nothing_read reader.reading in
+      let all : body f used ≡ whole e.body (length used + k) =
+      read_is f used e.body reader read ∙ ap (ahead e.body (length used)) now
+      ∙ ap (λ xs. whole xs (length used + k)) (ap (λ xs. e.body ++ xs) none ∙ append-nil e.body) in
+      let grown : GrowsTo (whole e.body (length used + k)) (body f (used ++ received)) =
+      subst (λ b. GrowsTo b (body f (used ++ received))) all (bodies_grow f used received) in
+      (err, (length used + k, sym (read.read received) ∙ grown))
+  by (unfinished p) now = (err, rw is (below f e.handed used e.body reader (unfinished p) count read now refl))
+  by (broken p) now = (err, rw is (below f e.handed used e.body reader (broken p) count read now refl))
+
+replied_as : {L : Type 0} (session : SessionView L) (e : Entry) (used : List ℕ) (reply : Option Reply)
+    → IfSome reply (λ reply. e.how ≡ how_of session.body) → HasRead (framing e.head) used e.body session.body.reader
+    → e.handed ≡ length e.body → e.body_error ≡ session.body.refused
+    → IfSome reply (λ reply. StoodAs e.how e (ahead e.body (length used) (reads session.body.reader session.received)))
+replied_as session e used None how read count err = tt
+replied_as session e used (Some reply) how read count err =
+    let made : StoodAs (how_of session.body) e (ahead e.body (length used) (reads session.body.reader session.received)) =
+    stood (framing e.head) e used session.received session.body.reader session.body.refused read refl count err in
+    subst (λ how. StoodAs how e (ahead e.body (length used) (reads session.body.reader session.received))) (sym how) made
+
+-- why the body can't be read on is what its bytes say
+refused_as : {L : Type 0} (state : L → LinkState) (session : SessionView L) (e : Entry) (used : List ℕ) (k : ErrorType)
+    → StopsBody state session k → HasRead (framing e.head) used e.body session.body.reader
+    → RefusalOf (state session.link) e (ahead e.body (length used) (reads session.body.reader session.received)) k
+refused_as state session e used kind.InvalidBody stops read =
+    let f = framing e.head in
+    let all : body f used ≡ broken e.body =
+    read_is f used e.body session.body.reader read ∙ ap (ahead e.body (length used)) stops ∙ ap broken (append-nil e.body) in
+    let grown : GrowsTo (broken e.body) (body f (used ++ session.received)) =
+    subst (λ b. GrowsTo b (body f (used ++ session.received))) all (bodies_grow f used session.received) in
+    sym (read.read session.received) ∙ grown
+refused_as state session e used kind.ConnectionClosed stops read = (
+  ap (λ xs. ahead e.body (length used) (reads session.body.reader xs)) stops.1.0
+      ∙ ap (ahead e.body (length used)) stops.1.1 ∙ ap unfinished (append-nil e.body),
+  stops.0,
+)
+refused_as state session e used kind.ReadError stops read =
+    ap (λ xs. ahead e.body (length used) (reads session.body.reader xs)) stops.0
+    ∙ ap (ahead e.body (length used)) stops.1 ∙ ap unfinished (append-nil e.body)
+refused_as state session e used _ stops read = absurd stops
+
+refusal_as : {L : Type 0} (state : L → LinkState) (session : SessionView L) (e : Entry) (used : List ℕ) (refused : Option Error)
+    → IfSome refused (λ error. StopsBody state session error.kind) → HasRead (framing e.head) used e.body session.body.reader
+    → IfSome refused (λ error. RefusalOf (state session.link) e (ahead e.body (length used) (reads session.body.reader session.received)) error.kind)
+refusal_as state session e used None stops read = tt
+refusal_as state session e used (Some error) stops read = refused_as state session e used error.kind stops read
+
 -- the bytes begin with the request of the exchange
-one_request : {L : Type 0} (since : List ℕ) (session : SessionView L) (e : Entry) → ReadEntry since e session
-    → (requests : List Message) × Begins since requests × AreOf (e ∷ []) requests
-one_request since session e h =
+one_request : {L : Type 0} (gives : Given → Reply → Type 0) (state : L → LinkState) (since : List ℕ) (session : SessionView L) (e : Entry)
+    → IsAllowed gives e → IsKept session e → IfSome e.body_error (λ error. StopsBody state session error.kind) → ReadEntry since e session
+    → (requests : List Message) × Begins since requests × AreOf (state session.link) (e ∷ []) requests
+one_request gives state since session e allowed kept stopped h =
     let body = ahead e.body (length h.used) (reads session.body.reader session.received) in
     let m : Message = record { head = e.head; both = e.both; body = body } in (
       m ∷ [],
       (h.n, h.head, rw h.bytes (h.decoded.read session.received), nothing_behind body [] refl),
-      (refl, refl, (payload_of (reads session.body.reader session.received), payload_ahead e.body (length h.used) (reads session.body.reader session.received))),
+      (
+        refl,
+        refl,
+        (payload_of (reads session.body.reader session.received), payload_ahead e.body (length h.used) (reads session.body.reader session.received)),
+        record {
+          refused = refusal_as state session e h.used e.body_error stopped h.decoded;
+          replied = replied_as session e h.used e.reply kept.how h.decoded allowed.handed kept.body_error;
+        },
+      ),
     )
 
 -- the bytes written are a front of the reply
@@ -58,7 +183,7 @@ agrees_last gives state session None before allowed kept s = record {
   done = tt;
 }
 agrees_last gives state session (Some e) before allowed kept s = record {
-  read = told_map before.given (state session.link).given _ _ (λ since h. one_request since session e h) s.read;
+  read = told_map before.given (state session.link).given _ _ (λ since h. one_request gives state since session e allowed kept s.stopped h) s.read;
   allowed = (allowed, tt);
   written = told_map before.written (state session.link).written _ _ (λ since h. one_reply since session e kept h.0 h.1) s.wrote;
   done = tt;
@@ -73,11 +198,14 @@ agrees_sound gives runs state session done last at end before sound s =
     rw sound.alone (agrees_last gives state session last before sound.allowed sound.kept s)
 
 -- the last exchange extends the transcript
-pub extends_last : (before after : List Entry) (old new : Option Entry) → before ≡ [] → after ≡ [] → ExtendsLast old new
-    → Extends (before ++ option_to_list old) (after ++ option_to_list new)
-extends_last before after old new none still h = rw (none, still) (on old new h)
+pub extends_last : (now : ℕ) (shutdown : Bool) (first second : LinkState) (before after : List Entry) (old new : Option Entry)
+    → before ≡ [] → after ≡ [] → ExtendsLast now shutdown first second old new
+    → Extends now shutdown first second (before ++ option_to_list old) (after ++ option_to_list new)
+extends_last now shutdown first second before after old new none still h = rw (none, still) (on old new h)
   where
-    on : (old new : Option Entry) → ExtendsLast old new → Extends (option_to_list old) (option_to_list new)
-    on None new h = tt
+    on : (old new : Option Entry) → ExtendsLast now shutdown first second old new
+        → Extends now shutdown first second (option_to_list old) (option_to_list new)
+    on None None h = tt
+    on None (Some b) h = (h, tt)
     on (Some a) None h = absurd h
-    on (Some a) (Some b) h = h
+    on (Some a) (Some b) h = (h, tt)

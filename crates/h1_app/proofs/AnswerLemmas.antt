@@ -1,5 +1,5 @@
 -- Steps in which the application goes on.
-use Rattle.std.proofs.Common.{◌≡◌, ◌≢◌, ℕ, ◌-◌, ◌^◌, min, List, [], ◌++◌, length, drop, false, Option, Some, None, IfSome, unwrap_or, refl, sym, ◌∙◌, ap, subst, append_assoc, append-nil, length-append}
+use Rattle.std.proofs.Common.{◌≡◌, ◌≢◌, ℕ, ◌-◌, ◌^◌, min, List, [], ◌++◌, length, drop, false, Option, Some, None, IfSome, unwrap_or, refl, sym, ◌∙◌, ap, subst, append_assoc, append-nil, length-append, arith}
 use Rattle.std.proofs.lemmas.List.{drop-append-le}
 use Rattle.h1_error.specs.declared.error.Error.{Error}
 use Rattle.h1_error.specs.declared.error.ErrorType.{ErrorType}
@@ -7,6 +7,7 @@ use Rattle.h1_error.specs.declared.error.ErrorType.TheVariants as kind
 use Rattle.h1_error.specs.declared.error.ErrorType.TheVariants.{NoMemory}
 use Rattle.h1_server.specs.Payload.{BodyRefusal}
 use Rattle.h1_link.specs.LinkState.{LinkState}
+use Rattle.h1_link.specs.Counts.{Rose}
 use Rattle.h1_link.proofs.Laters.{later_on}
 use Rattle.h1_head.specs.Views.{RequestView}
 use Rattle.h1_head.proofs.RequestHeadLemmas.{HeadAt-append}
@@ -30,6 +31,8 @@ use Rattle.h1_app.specs.Asking.{AsksAs, noted}
 use Rattle.h1_app.specs.Causes.{LacksSo}
 use Rattle.h1_app.specs.Since.{Since, ReadEntry, WroteSo, StopsBody}
 use Rattle.h1_app.specs.Sound.{SoundStage, IsAnswering, lent}
+use Rattle.h1_app.specs.Growth.{Grows, Stays, RefusedIn}
+use Rattle.h1_app.proofs.ReplyLemmas.{stays_itself}
 use Rattle.h1_app.proofs.SinceLemmas.{told_on, told_same, rose_later}
 
 -- what is read behind what was read
@@ -58,7 +61,7 @@ payload_is state old behind body r = ap (λ x. unwrap_or x []) r.kept
 refusal_stops : {L : Type 0} (state : L → LinkState) (old behind : SessionView L) (k : ErrorType) → BodyRefusal state old behind k → k ≢ NoMemory → StopsBody state behind k
 refusal_stops state old behind kind.InvalidBody h n = h
 refusal_stops state old behind kind.ConnectionClosed h n = h
-refusal_stops state old behind kind.ReadError h n = tt
+refusal_stops state old behind kind.ReadError h n = h.1
 refusal_stops state old behind kind.NoMemory h n = absurd (n refl)
 refusal_stops state old behind _ h n = absurd h
 
@@ -67,7 +70,7 @@ stops_on : {L : Type 0} (state : L → LinkState) (old behind : SessionView L) (
     → (state behind.link).ended ≡ (state old.link).ended → StopsBody state old k → StopsBody state behind k
 stops_on state old behind kind.InvalidBody reader received ended h = rw reader h
 stops_on state old behind kind.ConnectionClosed reader received ended h = rw (reader, received, ended) h
-stops_on state old behind kind.ReadError reader received ended h = tt
+stops_on state old behind kind.ReadError reader received ended h = rw (reader, received) h
 stops_on state old behind _ reader received ended h = absurd h
 
 -- why the body can't be read on, where it can't
@@ -147,3 +150,51 @@ asked_on {L} state old new last e e2 e3 answer some like a h before s =
     let noted_so : e3 ≡ record (noted e h.behind) { reply = e3.reply } = like ∙ ap (λ (x : Entry). record x { reply = e3.reply }) h.entry in
     asked_since state old h.behind new e e3 before h.reads h.session (ap (λ (x : Entry). x.head) noted_so) (ap (λ (x : Entry). x.both) noted_so) (ap (λ (x : Entry). x.body) noted_so) a.asked.body_error (ap (λ (x : Entry). x.body_error) noted_so)
     a.sent_head a.sent_body (ap (λ (x : Entry). x.sent_head) noted_so ∙ a.sent_head) (ap (λ (x : Entry). x.sent_body) noted_so ∙ a.sent_body) start
+
+-- a refusal in the call for a failed read is one that the link had in it
+refused_in : {L : Type 0} (state : L → LinkState) (old behind : SessionView L) (was : Option Error) → RefusedBy state old behind was
+    → RefusedIn (state old.link) (state behind.link) was behind.body.refused
+refused_in state old behind (Some error) h = tt
+refused_in state old behind None h = each behind.body.refused h
+  where
+    of : (k : ErrorType) → BodyRefusal state old behind k → k ≡ kind.ReadError → Rose (state old.link).read_faults (state behind.link).read_faults
+    of k h is = let both = rw is at h in both.0
+
+    each : (now : Option Error) → IfSome now (λ error. BodyRefusal state old behind error.kind × (error.kind ≢ NoMemory))
+        → RefusedIn (state old.link) (state behind.link) None now
+    each None h = tt
+    each (Some error) h = of error.kind h.0
+
+refusal_stays : {L : Type 0} (state : L → LinkState) (old behind : SessionView L) (was : Option Error) → RefusedBy state old behind was
+    → Stays was behind.body.refused
+refusal_stays state old behind None h = tt
+refusal_stays state old behind (Some error) h = h.0
+
+-- the exchange grows by what the application read; a reply may join it
+pub asked_grows : {L : Type 0} (state : L → LinkState) (now : ℕ) (old new : SessionView L) (e e2 e3 : Entry) (answer : Asked)
+    → e3 ≡ record e2 { reply = e3.reply } → IsAnswering e old → AsksAs state old new e e2 answer
+    → Grows now (state old.link) (state new.link) e e3
+asked_grows {L} state now old new e e2 e3 answer like a h =
+    let r = h.reads in
+    let entry : e3 ≡ record (noted e h.behind) { reply = e3.reply } = like ∙ ap (λ (x : Entry). record x { reply = e3.reply }) h.entry in
+    let read : payload_of h.behind ≡ e.body ++ r.payload = payload_is state old h.behind e.body r in
+    let stays = refusal_stays state (lent old e.body) h.behind old.body.refused r.refused in
+    let within = refused_in state (lent old e.body) h.behind old.body.refused r.refused in
+    let link : (state new.link) ≡ (state h.behind.link) = ap (λ (x : SessionView L). state x.link) h.session in
+    subst (λ (x : Entry). Grows now (state old.link) (state new.link) e x) (sym entry) (record {
+      head = refl;
+      both = refl;
+      filtered = stays_itself e.filtered;
+      body = (r.payload, read);
+      handed = omega (arith, a.asked.handed, ap length read, length-append e.body r.payload);
+      body_error = subst (λ o. Stays o h.behind.body.refused) (sym a.asked.body_error) stays;
+      refused = subst (λ o. RefusedIn (state old.link) (state new.link) o h.behind.body.refused) (sym a.asked.body_error)
+          (subst (λ x. RefusedIn (state old.link) x old.body.refused h.behind.body.refused) (sym link) within);
+      reply = rw a.reply tt;
+      replied = rw a.reply tt;
+      sent_head = rw a.sent_head tt;
+      dated = rw a.sent_head tt;
+      sent_body = rw a.sent_body tt;
+      written = omega arith;
+      began = refl;
+    })

@@ -21,8 +21,10 @@ use Rattle.h1_app.specs.declared.exchange.Outcome.{Outcome}
 use Rattle.h1_app.specs.declared.exchange.Outcome.TheVariants as outcome
 use Rattle.h1_app.specs.Causes.{FailureCause}
 use Rattle.h1_app.specs.Since.{Since, ReadAhead, ReadHead}
-use Rattle.h1_app.specs.Sound.{SoundStage, IsAwaiting, IsAnswering, BegunAs, NotBegun, IsNewEntry}
-use Rattle.h1_app.specs.Turns.{OutcomeCause, IfAnswering, rank}
+use Rattle.h1_app.specs.Sound.{SoundStage, IsAwaiting, IsAnswering, BegunAs, NotBegun, IsNewEntry, head_time}
+use Rattle.h1_server.specs.Keepalive.{keepalive_set}
+use Rattle.h1_app.specs.Growth.{IsFirstSetting}
+use Rattle.h1_app.specs.Turns.{OutcomeCause, IfAnswering, ExtendsLast, rank}
 use Rattle.h1_app.proofs.SinceLemmas.{told_map, since_headed, since_begun}
 use Rattle.h1_app.proofs.HeadLemmas.{AtHead}
 
@@ -143,3 +145,32 @@ begun_outcome state begins pends runs old new last last' from to (outcome.Ends (
 begun_outcome state begins pends runs old new last last' from to (outcome.Ends end.Finished) at h b = absurd b.2
 begun_outcome state begins pends runs old new last last' from to (outcome.Ends end.NotKept) at h b = absurd b.2
 begun_outcome state begins pends runs old new last last' from to (outcome.Ends end.Overread) at h b = absurd b.2
+
+-- the settings that keep-alive is set in
+first_setting : (shutdown : Bool) (settings : Settings) → settings.closing ≡ true → settings.pipelining ≡ false
+    → IsFirstSetting shutdown (keepalive_set settings (head_time shutdown))
+first_setting true settings closing pipelining = record { keep_off = refl; closing = closing; pipelining = pipelining }
+first_setting false settings closing pipelining = record { keep_off = refl; closing = closing; pipelining = pipelining }
+
+-- the exchange that begins is the first
+pub begun_extends : {L J : Type 0} (state : L → LinkState) (begins : J → Type 0) (runs : J → RequestView → Settings → Settings → List ℕ → Type 0) (now : ℕ) (shutdown : Bool)
+    (old mid new : SessionView L) (last last' : Option Entry) (to : Stage J) (o : Outcome) (n : ℕ)
+    → AtHead state old mid last (Ready (Ok (read.Head n))) → new ≡ record mid { settings = keepalive_set mid.settings (head_time shutdown) }
+    → BegunAs begins runs new last' to o → ExtendsLast now shutdown (state old.link) (state new.link) last last'
+begun_extends {L} {J} state begins runs now shutdown old mid new last last' to outcome.Done n h set b =
+    let request = h.reads.answer.2 in
+    let first : IsFirstSetting shutdown (keepalive_set mid.settings (head_time shutdown)) =
+    first_setting shutdown mid.settings (rw request.keep_off h.awaiting.closing) (rw request.keep_off h.awaiting.pipelining) in
+    let began : b.1.began ≡ keepalive_set mid.settings (head_time shutdown) = b.6.began ∙ ap (λ (x : SessionView L). x.settings) set in
+    rw (h.alone, b.5) (record {
+      began = rw began first;
+      dated = rw b.6.sent_head tt;
+      refused = rw b.6.body_error tt;
+    })
+begun_extends state begins runs now shutdown old mid new last last' to (outcome.Waits what) n h set b = absurd b
+begun_extends state begins runs now shutdown old mid new last last' to (outcome.Ends reason) n h set b = rw (h.alone, b.0) tt
+
+-- no exchange began
+pub none_extends : (now : ℕ) (shutdown : Bool) (before behind : LinkState) (last : Option Entry)
+    → last ≡ None → ExtendsLast now shutdown before behind last last
+none_extends now shutdown before behind last none = rw none tt

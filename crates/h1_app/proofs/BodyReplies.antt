@@ -25,12 +25,12 @@ use Rattle.h1_app.specs.declared.application.Reply.{Reply}
 use Rattle.h1_app.specs.declared.transcript.Entry.{Entry}
 use Rattle.h1_app.specs.declared.exchange.Stage.{Stage}
 use Rattle.h1_app.specs.declared.exchange.Stage.TheVariants as at
-use Rattle.h1_app.specs.Agrees.{Grows}
+use Rattle.h1_app.specs.Growth.{Grows}
 use Rattle.h1_app.specs.Causes.{FailureCause}
 use Rattle.h1_app.specs.Exchange.{render_parts, shown}
 use Rattle.h1_app.specs.Since.{Since, coming}
 use Rattle.h1_app.specs.Sound.{SoundStage, IsReplied, IsHeaded, IsFinishing, IsPieceOf, fresh, filled}
-use Rattle.h1_app.proofs.ReplyLemmas.{at_none, since_wrote, since_goes_on, stays_itself, grows_replying, grows_written, replied_on, headed_on, more_written, waits_why, refused_cause}
+use Rattle.h1_app.proofs.ReplyLemmas.{at_none, since_wrote, since_goes_on, stays_itself, dated_same, grows_replying, grows_written, replied_on, headed_on, more_written, waits_why, refused_cause}
 
 -- the exchange whose body is to be taken up
 pub record AtTakeBody {L : Type 0} (e : Entry) (session : SessionView L) : Type 0 where
@@ -160,6 +160,7 @@ writes_nothing state session limit = record {
         rw spent (moved_itself (state session.link));
     bytes = append-nil session.reply.owed;
     within = omega arith;
+    unread = refl;
   };
   budget = same session.budget;
   received = refl;
@@ -183,12 +184,12 @@ pub untouched : {L : Type 0} (state : L → LinkState) (session : SessionView L)
 untouched state session e h = writes_nothing state session
     (omega (arith, h.replied.asked.written, h.replied.asked.limit))
 
-pub body_grows : (e : Entry) (sent : List ℕ) (written : ℕ) → e.sent_body ≡ None
+pub body_grows : (now : ℕ) (before behind : LinkState) (e : Entry) (sent : List ℕ) (written : ℕ) → e.sent_body ≡ None
     → e.written ≤ written
-    → Grows e (record e { sent_body = Some sent; written = written })
-body_grows e sent written none more =
-    grows_replying e e.sent_head (Some sent) e.date e.date_text e.keep e.owed written
-    (stays_itself e.sent_head) (rw none tt) more
+    → Grows now before behind e (record e { sent_body = Some sent; written = written })
+body_grows now before behind e sent written none more =
+    grows_replying now before behind e e.sent_head (Some sent) e.date e.date_text e.keep e.owed written
+    (stays_itself e.sent_head) (dated_same now e.sent_head e _ refl refl refl refl refl) (rw none tt) more
 
 -- the end of the body comes next
 finishing : {L : Type 0} (e : Entry) (session : SessionView L) (reply : Reply)
@@ -265,14 +266,14 @@ taken_since state before old new e kept outcome sent written h w is s =
     (w.takes.0 ∙ ap (λ x. piece_bytes x h.reply.body) h.writer)
     (w.takes.3 ∙ ap (λ x. after_piece x h.reply.body) h.writer) s
 
-pub taken_grows : {L : Type 0} (state : L → LinkState) (old new : SessionView L) (e : Entry)
+pub taken_grows : {L : Type 0} (state : L → LinkState) (now : ℕ) (old new : SessionView L) (e : Entry)
     (kept : Option (List ℕ)) (outcome : Poll (Result (Option ℕ) Error)) (sent : List ℕ)
     (written : ℕ)
     (h : AtTakeBody e old) → WritesPiece state old new (Some h.reply.body) kept outcome
     → written ≡ new.reply.sent
-    → Grows e (record e { sent_body = Some sent; written = written })
-taken_grows state old new e kept outcome sent written h w count =
-    body_grows e sent written h.sent_body
+    → Grows now (state old.link) (state new.link) e (record e { sent_body = Some sent; written = written })
+taken_grows state now old new e kept outcome sent written h w count =
+    body_grows now (state old.link) (state new.link) e sent written h.sent_body
     (more_written state old new w.taking w.left e written h.request w.writes count
     h.replied.asked)
 
@@ -405,12 +406,12 @@ piece_since state before old new e kept outcome written w s =
     since_goes_on state before old new w.taking w.left e e.owed written w.writes w.takes.0
     w.takes.1.writer s
 
-pub piece_grows : {L : Type 0} (state : L → LinkState) (old new : SessionView L) (e : Entry)
+pub piece_grows : {L : Type 0} (state : L → LinkState) (now : ℕ) (old new : SessionView L) (e : Entry)
     (kept : Option (List ℕ)) (outcome : Poll (Result (Option ℕ) Error)) (written : ℕ)
     (h : AtBody e old) → WritesPiece state old new None kept outcome → written ≡ new.reply.sent
-    → Grows e (record e { written = written })
-piece_grows state old new e kept outcome written h w count =
-    grows_written e e.owed written (more_written state old new w.taking w.left e written h.request
+    → Grows now (state old.link) (state new.link) e (record e { written = written })
+piece_grows state now old new e kept outcome written h w count =
+    grows_written now (state old.link) (state new.link) e e.owed written (more_written state old new w.taking w.left e written h.request
     w.writes count h.replied.asked)
 
 pub piece_waits : {L J : Type 0} (runs : J → RequestView → Settings → Settings → List ℕ → Type 0)

@@ -186,6 +186,7 @@ only_settings state old new settings r = record {
   decoded = r.decoded;
   kept = r.kept;
   request = r.request;
+  few = r.few;
   head_refused = r.head_refused;
   reply = r.reply;
   refused = refused_with_settings state old new settings old.body.refused r.refused;

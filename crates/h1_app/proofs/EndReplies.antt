@@ -113,7 +113,12 @@ stop_cause state before old session e error kind.ConnectionClosed s ends h = (
         (λ since r. stands_unfinished since e session r h.1.0 h.1.1) s.read,
   ),
 )
-stop_cause state before old session e error kind.ReadError s ends h = inr ends
+stop_cause state before old session e error kind.ReadError s ends h = inr (
+  ends,
+  told_map before.given (state session.link).given
+      (λ since. ReadEntry since e session) (λ since. LastStands since e (unfinished e.body))
+      (λ since r. stands_unfinished since e session r h.0 h.1) s.read,
+)
 stop_cause state before old session e error _ s ends h = absurd h
 
 pub stopped_cause : {L : Type 0} (state : L → LinkState) (before old : LinkState)
@@ -150,16 +155,17 @@ told_whole state before session e sent s none is ended =
 
 pub complete : {L : Type 0} (state : L → LinkState) (before : LinkState) (session : SessionView L)
     (e : Entry) (head : ResponseView) (sent : List ℕ)
-    → Since state before session (Some e) → session.reply.owed ≡ []
+    → e.owed ≡ false → Since state before session (Some e) → session.reply.owed ≡ []
     → end_bytes session.reply.writer ≡ []
     → e.sent_head ≡ Some head → e.sent_body ≡ Some sent → e.written ≡ session.reply.sent
     → (state session.link).bytes_out ≤ (state session.link).flushed
     → IsComplete before (state session.link) e
-complete state before session e head sent s none ended headed is count flushed = record {
+complete state before session e head sent unowed s none ended headed is count flushed = record {
   sent_head = λ p. none-some head (sym p ∙ headed);
   sent_body = λ p. none-some sent (sym p ∙ is);
   written = told_whole state before session e sent s none is ended;
   flushed = omega (arith, s.out, count, flushed);
+  unowed = unowed;
 }
 
 -- a shutdown moves no byte
@@ -205,7 +211,7 @@ stops_shutdown : {L : Type 0} (state : L → LinkState) (now : SessionView L) (l
 stops_shutdown state now link kind.InvalidBody e h = h
 stops_shutdown state now link kind.ConnectionClosed e h =
     (ap (λ (s : LinkState). s.ended) e ∙ h.0, h.1)
-stops_shutdown state now link kind.ReadError e h = tt
+stops_shutdown state now link kind.ReadError e h = h
 stops_shutdown state now link _ e h = absurd h
 
 stopped_shutdown : {L : Type 0} (state : L → LinkState) (now : SessionView L) (link : L)
@@ -330,3 +336,37 @@ short_where_writer e reply is headed bodied h =
     (shown_length reply.header reply.body reply.body refl) in
     short_entry e reply.header reply.body short.0 headed bodied short.1
     (lt-ltb (length (shown e.reply reply.body)) short.0 (omega (arith, same, less)))
+
+-- and it isn't where its writer isn't
+pub long_where_writer : (e : Entry) (reply : Reply) → e.reply ≡ Some reply
+    → e.sent_head ≡ Some reply.header → e.sent_body ≡ Some reply.body
+    → lacks (Some (out e.head.method reply.header))
+    (after_piece (begun (out e.head.method reply.header)) reply.body).written ≡ false
+    → is_short e ≡ false
+long_where_writer e reply is headed bodied h = by_framing (out e.head.method reply.header) refl h
+  where
+    less_so : (n : ℕ) → out e.head.method reply.header ≡ Counted n → length reply.body < n
+        → lacks (Some (Counted n)) (after_piece (begun (Counted n)) reply.body).written ≡ true
+    less_so n counted less =
+        let limit = out_limit e.head.method reply.header n counted in
+        lt-ltb (min (0 + length (take (n - 0) reply.body)) (2 ^ 64 - 1)) n
+        (omega (arith, length-take (n - 0) reply.body, less, limit))
+
+    by_test : (n : ℕ) (test : Bool) → nat_lt (length (shown e.reply reply.body)) n ≡ test
+        → out e.head.method reply.header ≡ Counted n
+        → lacks (Some (Counted n)) (after_piece (begun (Counted n)) reply.body).written ≡ false
+        → nat_lt (length (shown e.reply reply.body)) n ≡ false
+    by_test n false test counted h = test
+    by_test n true test counted h =
+        let same : length (shown e.reply reply.body) ≡ length reply.body =
+        ap (λ r. length (shown r reply.body)) is ∙ ap length
+        (shown_length reply.header reply.body reply.body refl) in
+        let less = ltb-true (length (shown e.reply reply.body)) n test in
+        absurd (false≢true (sym h ∙ less_so n counted (omega (arith, less, same))))
+
+    by_framing : (f : Framing) → out e.head.method reply.header ≡ f
+        → lacks (Some f) (after_piece (begun f) reply.body).written ≡ false → is_short e ≡ false
+    by_framing (Counted n) counted h = rw (headed, bodied, counted)
+        (by_test n (nat_lt (length (shown e.reply reply.body)) n) refl counted h)
+    by_framing Chunked framed h = rw (headed, bodied, framed) refl
+    by_framing UntilClose framed h = rw (headed, bodied, framed) refl

@@ -29,15 +29,15 @@ use Rattle.h1_app.specs.declared.application.Reply.{Reply}
 use Rattle.h1_app.specs.declared.transcript.Entry.{Entry}
 use Rattle.h1_app.specs.declared.exchange.Stage.{Stage}
 use Rattle.h1_app.specs.declared.exchange.Stage.TheVariants as at
-use Rattle.h1_app.specs.Agrees.{Grows}
+use Rattle.h1_app.specs.Growth.{Grows}
 use Rattle.h1_app.specs.Causes.{FailureCause, IsComplete, IsWrittenShort}
-use Rattle.h1_app.specs.Exchange.{render, IsAllowed, IsDated, may_keep}
+use Rattle.h1_app.specs.Exchange.{render, is_short, IsAllowed, IsDated, may_keep}
 use Rattle.h1_app.specs.Application.{Given, IsLawful}
 use Rattle.h1_app.specs.Since.{Since, coming}
 use Rattle.h1_app.specs.Sound.{SoundStage, IsReplied, IsHeaded, IsFinishing, IsKept, filled, failure_of}
 use Rattle.h1_app.proofs.ReplyLemmas.{at_none, at_some, since_wrote, grows_written, replied_on, kept_on, headed_on, more_written, waits_why}
 use Rattle.h1_app.proofs.BodyReplies.{writes_nothing}
-use Rattle.h1_app.proofs.EndReplies.{stopped_cause, told_whole, complete, short_where_writer}
+use Rattle.h1_app.proofs.EndReplies.{stopped_cause, told_whole, complete, short_where_writer, long_where_writer}
 
 -- the exchange whose end is to be written, or is owed
 pub record AtFinish {L : Type 0} (e : Entry) (session : SessionView L) : Type 0 where
@@ -86,14 +86,14 @@ pub record Ending {L : Type 0} (state : L → LinkState) (old new : SessionView 
   pub keep : new.reply.keep ≡ old.reply.keep
   pub ended : new.reply.writer ≡ record (filled e reply) { ended = true }
   pub bytes : taking ++ end_bytes new.reply.writer ≡ end_bytes old.reply.writer ++ []
-  pub answer : EndAnswer (state old.link) (state new.link) old.reply new.reply left outcome ⊎
-      FallsShort old new e reply outcome
+  pub answer : ((writer.is_short (filled e reply) ≡ false) × EndAnswer (state old.link) (state new.link) old.reply new.reply left outcome)
+      ⊎ FallsShort old new e reply outcome
 
 begins_ending : {L : Type 0} (state : L → LinkState) (old new : SessionView L) (e : Entry)
     (reply : Reply) (outcome : Poll (Result (Option ℕ) Error))
-    → old.reply.writer ≡ filled e reply → WritesEnd state old new starts outcome
+    → old.reply.writer ≡ filled e reply → writer.is_short (filled e reply) ≡ false → WritesEnd state old new starts outcome
     → Ending state old new e reply outcome
-begins_ending state old new e reply outcome is w =
+begins_ending state old new e reply outcome is long w =
     let ended : new.reply.writer ≡ record (filled e reply) { ended = true } = w.takes.3 ∙ ap
     (λ (x : WriterView). record x { ended = true }) is in
     record {
@@ -105,14 +105,14 @@ begins_ending state old new e reply outcome is w =
       ended = ended;
       bytes = ap (λ x. w.taking ++ end_bytes x) ended ∙ append-nil w.taking ∙ w.takes.0 ∙ sym
           (append-nil (end_bytes old.reply.writer));
-      answer = inl w.answer;
+      answer = inl (long, w.answer);
     }
 
 goes_on_ending : {L : Type 0} (state : L → LinkState) (old new : SessionView L) (e : Entry)
     (reply : Reply) (outcome : Poll (Result (Option ℕ) Error))
-    → old.reply.writer ≡ record (filled e reply) { ended = true }
+    → old.reply.writer ≡ record (filled e reply) { ended = true } → writer.is_short (filled e reply) ≡ false
     → WritesEnd state old new goes_on outcome → Ending state old new e reply outcome
-goes_on_ending state old new e reply outcome is w = record {
+goes_on_ending state old new e reply outcome is long w = record {
   taking = w.taking;
   left = w.left;
   writes = w.writes;
@@ -121,7 +121,7 @@ goes_on_ending state old new e reply outcome is w = record {
   ended = w.takes.1.writer ∙ is;
   bytes = ap (λ xs. xs ++ end_bytes new.reply.writer) w.takes.0 ∙ ap (λ x. end_bytes x)
       w.takes.1.writer ∙ sym (append-nil (end_bytes old.reply.writer));
-  answer = inl w.answer;
+  answer = inl (long, w.answer);
 }
 
 -- a body that falls short has no bytes behind its payload
@@ -182,7 +182,7 @@ ending_free : {L : Type 0} (state : L → LinkState) (old new : SessionView L) (
 ending_free state old new e reply outcome true short none is limit call = short_ending state old new
     e reply outcome none is limit short call
 ending_free state old new e reply outcome false short none is limit call = begins_ending state old
-    new e reply outcome is call
+    new e reply outcome is (ap (λ x. writer.is_short x) (sym is) ∙ short) call
 
 ending_at : {L : Type 0} (state : L → LinkState) (old new : SessionView L) (e : Entry)
     (reply : Reply) (outcome : Poll (Result (Option ℕ) Error)) (s : Step)
@@ -195,7 +195,7 @@ ending_at state old new e reply outcome step.Free limit h call =
     (subst (λ (b : Bool). EndCall state old new outcome
     (end_stage step.Free b (writer.is_short old.reply.writer))) (ap is_begun h.1) call)
 ending_at state old new e reply outcome step.Finish limit h call = goes_on_ending state old new e
-    reply outcome h call
+    reply outcome h.0 h.1 call
 ending_at state old new e reply outcome step.Head limit h call = absurd h
 ending_at state old new e reply outcome (step.Piece count) limit h call = absurd h
 
@@ -221,12 +221,12 @@ finish_since state before old new e outcome owed written h w s =
     (λ x. coming x old.reply.writer ++ []) (sym h.sent_body))
     (sym (append-nil (render e))) s
 
-pub finish_grows : {L : Type 0} (state : L → LinkState) (old new : SessionView L) (e : Entry)
+pub finish_grows : {L : Type 0} (state : L → LinkState) (now : ℕ) (behind : LinkState) (old new : SessionView L) (e : Entry)
     (outcome : Poll (Result (Option ℕ) Error)) (owed : Bool) (written : ℕ) (h : AtFinish e old)
     → Ending state old new e h.reply outcome → written ≡ new.reply.sent
-    → Grows e (record e { owed = owed; written = written })
-finish_grows state old new e outcome owed written h w count =
-    grows_written e owed written (more_written state old new w.taking w.left e written h.request
+    → Grows now (state old.link) behind e (record e { owed = owed; written = written })
+finish_grows state now behind old new e outcome owed written h w count =
+    grows_written now (state old.link) behind e owed written (more_written state old new w.taking w.left e written h.request
     w.writes count h.replied.asked)
 
 answers : {L : Type 0} (state : L → LinkState) (old new : SessionView L) (e : Entry) (reply : Reply)
@@ -236,7 +236,7 @@ answers : {L : Type 0} (state : L → LinkState) (old new : SessionView L) (e : 
 answers state old new e reply outcome told w same other =
     elim w.answer [
       | inl answer ↦ subst (λ (o : Poll (Result (Option ℕ) Error)). EndAnswer (state old.link)
-          (state new.link) old.reply new.reply w.left o) same answer
+          (state new.link) old.reply new.reply w.left o) same answer.1
       | inr short ↦ absurd (other (sym same ∙ short.answer))
     ]
 
@@ -246,6 +246,26 @@ not_pending h = cc
 not_done : (count : Option ℕ) → ◌≡◌ {A = Poll (Result (Option ℕ) Error)} (Ready (Ok count))
     (Ready (Err cut_off)) → ⊥
 not_done count h = cc
+
+-- a body that is ended isn't short
+long : {L : Type 0} (state : L → LinkState) (old new : SessionView L) (e : Entry) (reply : Reply)
+    (outcome told : Poll (Result (Option ℕ) Error))
+    (w : Ending state old new e reply outcome) → outcome ≡ told → (told ≡ Ready (Err cut_off) → ⊥)
+    → writer.is_short (filled e reply) ≡ false
+long state old new e reply outcome told w same other =
+    elim w.answer [
+      | inl answer ↦ answer.0
+      | inr short ↦ absurd (other (sym same ∙ short.answer))
+    ]
+
+-- nor is its exchange
+pub finish_long : {L : Type 0} (state : L → LinkState) (old new : SessionView L) (e : Entry)
+    (outcome : Poll (Result (Option ℕ) Error)) (count : Option ℕ) (owed : Bool) (written : ℕ) (h : AtFinish e old)
+    → Ending state old new e h.reply outcome → outcome ≡ Ready (Ok count)
+    → is_short (record e { owed = owed; written = written }) ≡ false
+finish_long state old new e outcome count owed written h w ready =
+    long_where_writer (record e { owed = owed; written = written }) h.reply h.replied.is h.headed.sent_head h.sent_body
+    (long state old new e h.reply outcome (Ready (Ok count)) w ready (not_done count))
 
 pub finish_waits : {L J : Type 0} (runs : J → RequestView → Settings → Settings → List ℕ → Type 0)
     (state : L → LinkState) (old new : SessionView L) (stage : Stage J) (e : Entry)
@@ -267,7 +287,8 @@ finish_waits runs state old new stage e outcome written h w count pending at_sta
           e.owed written h.request h.reply w.writes count h.replied,
       headed_on old new e f h.reply refl refl refl w.headed w.keep told.refused h.headed,
       h.sent_body,
-      subst (λ s. IsFinishing f new h.reply s) (sym told.at_step) w.ended,
+      subst (λ s. IsFinishing f new h.reply s) (sym told.at_step)
+          (w.ended, long state old new e h.reply outcome Pending w pending not_pending),
     ) in (
       subst (λ s. SoundStage runs new (Some f) s) (sym at_stage) sound,
       (waits_why state old new w.taking w.left some w.writes told.why, h.headed.owed),
@@ -290,36 +311,36 @@ nothing_comes state old new e reply outcome w = ap (λ x. end_bytes x) w.ended
 -- the reply is whole behind the call
 pub finish_done : {L : Type 0} (state : L → LinkState) (before : LinkState)
     (old new : SessionView L) (e : Entry) (outcome : Poll (Result (Option ℕ) Error))
-    (told_count : Option ℕ) (owed : Bool) (written : ℕ) (h : AtFinish e old)
+    (told_count : Option ℕ) (written : ℕ) (h : AtFinish e old)
     → Ending state old new e h.reply outcome → written ≡ new.reply.sent
     → outcome ≡ Ready (Ok told_count)
-    → Since state before new (Some (record e { owed = owed; written = written }))
-    → IsComplete before (state new.link) (record e { owed = owed; written = written })
-finish_done state before old new e outcome told_count owed written h w count ready s =
+    → Since state before new (Some (record e { owed = false; written = written }))
+    → IsComplete before (state new.link) (record e { owed = false; written = written })
+finish_done state before old new e outcome told_count written h w count ready s =
     let told = answers state old new e h.reply outcome (Ready (Ok told_count)) w ready
     (not_done told_count) in
-    complete state before new (record e { owed = owed; written = written }) h.reply.header
-    h.reply.body s told.0.owed
+    complete state before new (record e { owed = false; written = written }) h.reply.header
+    h.reply.body refl s told.0.owed
     (nothing_comes state old new e h.reply outcome w) h.headed.sent_head h.sent_body count told.2
 
 -- the same behind a shutdown
 pub finish_closed : {L : Type 0} (state : L → LinkState) (before : LinkState)
     (old new closed : SessionView L) (e : Entry) (outcome : Poll (Result (Option ℕ) Error))
-    (told_count : Option ℕ) (owed : Bool) (written : ℕ) (h : AtFinish e old)
+    (told_count : Option ℕ) (written : ℕ) (h : AtFinish e old)
     → Ending state old new e h.reply outcome → written ≡ new.reply.sent
     → outcome ≡ Ready (Ok told_count)
     → closed ≡ record new { link = closed.link }
     → (state closed.link).bytes_out ≡ (state new.link).bytes_out
     → (state closed.link).flushed ≡ (state new.link).flushed
-    → Since state before closed (Some (record e { owed = owed; written = written }))
-    → IsComplete before (state closed.link) (record e { owed = owed; written = written })
-finish_closed {L} state before old new closed e outcome told_count owed written h w count ready rest
+    → Since state before closed (Some (record e { owed = false; written = written }))
+    → IsComplete before (state closed.link) (record e { owed = false; written = written })
+finish_closed {L} state before old new closed e outcome told_count written h w count ready rest
     out flushed s =
     let told = answers state old new e h.reply outcome (Ready (Ok told_count)) w ready
     (not_done told_count) in
     let same : closed.reply ≡ new.reply = ap (λ (x : SessionView L). x.reply) rest in
-    complete state before closed (record e { owed = owed; written = written }) h.reply.header
-    h.reply.body s
+    complete state before closed (record e { owed = false; written = written }) h.reply.header
+    h.reply.body refl s
     (ap (λ (r : ReplyState). r.owed) same ∙ told.0.owed)
     (ap (λ (r : ReplyState). end_bytes r.writer) same ∙ nothing_comes state old new e h.reply
     outcome w)
@@ -404,7 +425,7 @@ finish_fails state before old new e outcome error reason written h w failed is s
       | inl answer ↦ refusal_cause before (state old.link) (state new.link) new.reply (Some f)
           e.body_error error error.kind refl
           (subst (λ (o : Poll (Result (Option ℕ) Error)). EndAnswer (state old.link) (state new.link)
-          old.reply new.reply w.left o) failed answer).0
+          old.reply new.reply w.left o) failed answer.1).0
       | inr short ↦ short_cause state before (state old.link) new f e.body_error error
           (ap (λ (x : Error). x.kind) (same_error error cut_off (sym failed ∙ short.answer))) refl s
           (record {

@@ -1,5 +1,5 @@
 -- What steps of a connection leave, one behind the other.
-use Rattle.std.proofs.Common.{◌≡◌, ℕ, ◌+◌, ◌-◌, ◌<◌, ◌≤◌, ◌⊎◌, inl, inr, List, [], ◌++◌, length, Bool, true, false, Option, Some, None, IfSome, IfNone, IsSome, option_map, refl, sym, ◌∙◌, ap, append_assoc, length-append, arith}
+use Rattle.std.proofs.Common.{◌≡◌, ℕ, ◌+◌, ◌-◌, ◌/◌, ◌<◌, ◌≤◌, ◌⊎◌, inl, inr, List, [], ◌++◌, length, Bool, true, false, Option, Some, None, IfSome, IfNone, IsSome, option_map, refl, sym, ◌∙◌, ap, append_assoc, length-append, arith}
 use Rattle.std.specs.Prelude.{◌==◌, if◌then◌else◌}
 use Rattle.std.proofs.lemmas.Bool.{false≢true}
 use Rattle.std.proofs.lemmas.Bool.Decides.{nat_tests}
@@ -21,13 +21,15 @@ use Rattle.h1_server.proofs.MovedLemmas.{moved_itself, moved_on}
 use Rattle.h1_app.specs.declared.transcript.Entry.{Entry}
 use Rattle.h1_app.specs.declared.exchange.Stage.{Stage}
 use Rattle.h1_app.specs.declared.exchange.Stage.TheVariants as stage
-use Rattle.h1_app.specs.Agrees.{Grows, Stays}
+use Rattle.h1_app.specs.Growth.{Grows, Stays, DatedAt, RepliedOn, RefusedIn, IsBegun}
 use Rattle.h1_app.specs.Causes.{Cause, FailureCause, EndCause, WaitCause, PendedBy, ToldGrowth}
 use Rattle.h1_app.specs.Gone.{Gone, waiting_for}
 use Rattle.h1_app.specs.Since.{Since}
-use Rattle.h1_app.specs.Turns.{Went, JobFrom, JobPends, WaitsOn, IfAnswering, ExtendsLast, rank}
+use Rattle.h1_app.specs.Turns.{Went, JobFrom, JobPends, WaitsFew, WaitsOn, IfAnswering, ExtendsLast, rank}
 use Rattle.h1_app.specs.View.{View}
 use Rattle.h1_app.proofs.ReplyLemmas.{went_itself, grows_itself}
+use Rattle.h1_head.specs.Views.{ResponseView}
+use Rattle.h1_app.specs.declared.application.Reply.{Reply}
 
 budget_on : (a b c : Option ℕ) (x y : ℕ) → b ≡ option_map (λ left. left - x) a → c ≡ option_map (λ left. left - y) b
     → c ≡ option_map (λ left. left - (x + y)) a
@@ -57,29 +59,97 @@ stays_on : {T : Type 0} (a b c : Option T) → Stays a b → Stays b c → Stays
 stays_on None b c first second = tt
 stays_on (Some value) b c first second = rw first at second
 
-grows_on : (a b c : Entry) → Grows a b → Grows b c → Grows a c
-grows_on a b c x y = record {
+-- a date that goes with a header goes with it further on
+date_on : (now : ℕ) (sent : Option ResponseView) (b c : Entry) → b.sent_head ≡ sent → IfSome sent (λ header. b.date ≡ now / 1000)
+    → Stays b.sent_head c.sent_head → DatedAt now b.sent_head b c → IfSome c.sent_head (λ header. c.date ≡ now / 1000)
+date_on now None b c is dated stays y = rw is at y
+date_on now (Some header) b c is dated stays y =
+    let kept = rw is at stays in
+    let same = rw is at y in
+    rw kept (same.0 ∙ dated)
+
+dated_on : (now : ℕ) (sent : Option ResponseView) (a b c : Entry) → a.sent_head ≡ sent → Stays sent b.sent_head
+    → DatedAt now sent a b → Stays b.sent_head c.sent_head → DatedAt now b.sent_head b c → DatedAt now sent a c
+dated_on now None a b c is first x second y = date_on now b.sent_head b c refl x second y
+dated_on now (Some header) a b c is first x second y =
+    let same = rw first at y in
+    (same.0 ∙ x.0, same.1 ∙ x.1, same.2 ∙ x.2)
+
+replied_on : (reply : Option Reply) (a b c : Entry) → Stays reply b.reply → RepliedOn reply a b → RepliedOn b.reply b c → RepliedOn reply a c
+replied_on None a b c first x y = tt
+replied_on (Some reply) a b c first x y =
+    let same = rw first at y in
+    (same.0 ∙ x.0, same.1 ∙ x.1)
+
+-- a read that failed in a part failed in the whole
+refused_front : (first second third : LinkState) → Later second third → (refused : Option Error)
+    → RefusedIn first second None refused → RefusedIn first third None refused
+refused_front first second third later None x = tt
+refused_front first second third later (Some error) x = λ is.
+    rose_read_faults 1 first first second third (later_itself first) (x is) later
+
+refused_back : (first second third : LinkState) → Later first second → (refused : Option Error)
+    → RefusedIn second third None refused → RefusedIn first third None refused
+refused_back first second third later None x = tt
+refused_back first second third later (Some error) x = λ is.
+    rose_read_faults 1 first second third third later (x is) (later_itself third)
+
+refused_on : (first second third : LinkState) → Later first second → Later second third → (a b c : Option Error)
+    → Stays a b → Stays b c → RefusedIn first second a b → RefusedIn second third b c → RefusedIn first third a c
+refused_on first second third before behind (Some error) b c stays still x y = tt
+refused_on first second third before behind None None c stays still x y = refused_back first second third before c y
+refused_on first second third before behind None (Some error) c stays still x y =
+    rw still (refused_front first second third behind (Some error) x)
+
+grows_on : (now : ℕ) (first second third : LinkState) → Later first second → Later second third → (a b c : Entry)
+    → Grows now first second a b → Grows now second third b c → Grows now first third a c
+grows_on now first second third before behind a b c x y = record {
   head = y.head ∙ x.head;
   both = y.both ∙ x.both;
   filtered = stays_on _ _ _ x.filtered y.filtered;
   body = (x.body.0 ++ y.body.0, y.body.1 ∙ ap (λ xs. xs ++ y.body.0) x.body.1 ∙ append_assoc a.body x.body.0 y.body.0);
   handed = omega arith;
   body_error = stays_on _ _ _ x.body_error y.body_error;
+  refused = refused_on first second third before behind a.body_error b.body_error c.body_error x.body_error y.body_error x.refused y.refused;
   reply = stays_on _ _ _ x.reply y.reply;
+  replied = replied_on a.reply a b c x.reply x.replied y.replied;
   sent_head = stays_on _ _ _ x.sent_head y.sent_head;
+  dated = dated_on now a.sent_head a b c refl x.sent_head x.dated y.sent_head y.dated;
   sent_body = stays_on _ _ _ x.sent_body y.sent_body;
   written = omega arith;
+  began = y.began ∙ x.began;
 }
 
-extends_on : (a b c : Option Entry) → ExtendsLast a b → ExtendsLast b c → ExtendsLast a c
-extends_on None b c x y = tt
-extends_on (Some a) None c x y = absurd x
-extends_on (Some a) (Some b) None x y = absurd y
-extends_on (Some a) (Some b) (Some c) x y = grows_on a b c x y
+-- an exchange that began goes on
+begun_on : (now : ℕ) (shutdown : Bool) (first second third : LinkState) → Later first second → Later second third → (b c : Entry)
+    → IsBegun now shutdown first second b → Grows now second third b c → IsBegun now shutdown first third c
+begun_on now shutdown first second third before behind b c x y = record {
+  began = rw y.began x.began;
+  dated = date_on now b.sent_head b c refl x.dated y.sent_head y.dated;
+  refused = refused_on first second third before behind None b.body_error c.body_error tt y.body_error x.refused y.refused;
+}
 
-extends_itself : (a : Option Entry) → ExtendsLast a a
-extends_itself None = tt
-extends_itself (Some e) = grows_itself e
+begun_back : (now : ℕ) (shutdown : Bool) (first second third : LinkState) → Later first second → (c : Entry)
+    → IsBegun now shutdown second third c → IsBegun now shutdown first third c
+begun_back now shutdown first second third before c y = record {
+  began = y.began;
+  dated = y.dated;
+  refused = refused_back first second third before c.body_error y.refused;
+}
+
+extends_on : (now : ℕ) (shutdown : Bool) (first second third : LinkState) → Later first second → Later second third → (a b c : Option Entry)
+    → ExtendsLast now shutdown first second a b → ExtendsLast now shutdown second third b c → ExtendsLast now shutdown first third a c
+extends_on now shutdown first second third before behind None None None x y = tt
+extends_on now shutdown first second third before behind None None (Some c) x y = begun_back now shutdown first second third before c y
+extends_on now shutdown first second third before behind None (Some b) None x y = absurd y
+extends_on now shutdown first second third before behind None (Some b) (Some c) x y = begun_on now shutdown first second third before behind b c x y
+extends_on now shutdown first second third before behind (Some a) None c x y = absurd x
+extends_on now shutdown first second third before behind (Some a) (Some b) None x y = absurd y
+extends_on now shutdown first second third before behind (Some a) (Some b) (Some c) x y = grows_on now first second third before behind a b c x y
+
+pub extends_itself : (now : ℕ) (shutdown : Bool) (before behind : LinkState) (a : Option Entry) → ExtendsLast now shutdown before behind a a
+extends_itself now shutdown before behind None = tt
+extends_itself now shutdown before behind (Some e) = grows_itself now before behind e
 
 job_back : {J : Type 0} (begins : J → Type 0) (pends : J → ℕ) (a b : Stage J) (between : J) (job : J)
     → JobFrom begins pends a b → (b ≡ stage.Answer between) ⊎ begins between → pends between ≤ pends job
@@ -99,32 +169,33 @@ job_itself begins pends (stage.Answer job) = (job, inl refl, omega arith)
 job_itself begins pends _ = tt
 
 pub gone_itself : {L A J : Type 0} (state : L → LinkState) (begins : J → Type 0) (pends : J → ℕ) (same_plan : L → L → Type 0)
-    (at : View L A J) → same_plan at.session.link at.session.link → at.done ≡ [] → IsSome at.session.budget
-    → Gone state begins pends same_plan at at
-gone_itself state begins pends same_plan at plan alone some = record {
+    (now : ℕ) (shutdown : Bool) (at : View L A J) → same_plan at.session.link at.session.link → at.done ≡ [] → IsSome at.session.budget
+    → Gone state begins pends same_plan now shutdown at at
+gone_itself state begins pends same_plan now shutdown at plan alone some = record {
   app = refl;
   alone = alone;
   still_alone = alone;
   plan = plan;
   went = went_itself state at.session (moved_itself (state at.session.link)) some;
   since = λ before s. s;
-  extends = extends_itself at.last;
+  extends = extends_itself now shutdown (state at.session.link) (state at.session.link) at.last;
   job = job_itself begins pends at.stage;
 }
 
 pub gone_on : {L A J : Type 0} (state : L → LinkState) (begins : J → Type 0) (pends : J → ℕ) (same_plan : L → L → Type 0)
-    (a b c : View L A J)
+    (now : ℕ) (shutdown : Bool) (a b c : View L A J)
     → (same_plan a.session.link b.session.link → same_plan b.session.link c.session.link → same_plan a.session.link c.session.link)
-    → Gone state begins pends same_plan a b → Gone state begins pends same_plan b c
-    → Gone state begins pends same_plan a c
-gone_on state begins pends same_plan a b c on x y = record {
+    → Gone state begins pends same_plan now shutdown a b → Gone state begins pends same_plan now shutdown b c
+    → Gone state begins pends same_plan now shutdown a c
+gone_on state begins pends same_plan now shutdown a b c on x y = record {
   app = y.app ∙ x.app;
   alone = x.alone;
   still_alone = y.still_alone;
   plan = on x.plan y.plan;
   went = went_on state a.session b.session c.session x.went y.went;
   since = λ before s. y.since before (x.since before s);
-  extends = extends_on a.last b.last c.last x.extends y.extends;
+  extends = extends_on now shutdown (state a.session.link) (state b.session.link) (state c.session.link) x.went.moved.later y.went.moved.later
+      a.last b.last c.last x.extends y.extends;
   job = job_on begins pends a.stage b.stage c.stage x.job y.job;
 }
 
@@ -135,6 +206,13 @@ some_left state old new went some = rw went.budget (mapped old.budget some)
     mapped : (budget : Option ℕ) → IsSome budget → IsSome (option_map (λ left. left - went.spent) budget)
     mapped None some = some
     mapped (Some left) some = refl
+
+-- a poll's reads were not ready once at most
+pub few_on : {J : Type 0} (a : Stage J) (first second third : ℕ) → (5 ≤ rank a → second ≡ first) → second ≤ first + 1
+    → WaitsFew a second third → third ≤ first + 1
+few_on stage.Head first second third same few step = let none = same (omega arith) in omega (arith, none, step)
+few_on (stage.Answer job) first second third same few step = let none = same (omega arith) in omega (arith, none, step)
+few_on _ first second third same few step = omega (arith, few, step)
 
 -- where the application is asked next, no read waited
 pub reads_on : {J : Type 0} (a b : Stage J) (first second third : ℕ) → rank b < rank a → IfAnswering b (third ≡ second)
@@ -147,7 +225,7 @@ reads_on a _ first second third less same before at = absurd (omega arith)
 failure_back : (before older old now : LinkState) → Later older old → (last : Option Entry) (error : Error) (k : ErrorType)
     → FailureCause before old now last error k → FailureCause before older now last error k
 failure_back before older old now later last error kind.ReadError (inl h) =
-    inl (h.0, rose_read_faults 1 older old now now later h.1 (later_itself now))
+    inl (h.0, rose_read_faults 1 older old now now later h.1 (later_itself now), h.2)
 failure_back before older old now later last error kind.ReadError (inr h) = inr h
 failure_back before older old now later last error kind.WriteError h =
     rose_write_faults 1 older old now now later h (later_itself now)
@@ -160,11 +238,35 @@ end_back before older old now later last (end.Failed error) h =
     failure_back before older old now later last error error.kind h
 end_back before older old now later last _ h = h
 
-pended : {J : Type 0} (begins : J → Type 0) (pends : J → ℕ) (a b c : Stage J)
+-- where the application is asked on, its job is the one that was there, further on
+abbrev pub JobKept : {J : Type 0} → (J → ℕ) → Stage J → Stage J → Type 0
+JobKept pends (stage.Answer before) (stage.Answer job) = pends before ≤ pends job
+JobKept pends _ _ = Unit {0}
+
+pub job_kept : {J : Type 0} (pends : J → ℕ) (a : Stage J) → JobKept pends a a
+job_kept pends (stage.Answer job) = omega arith
+job_kept pends _ = tt
+
+-- behind a step that goes on from it, it isn't asked again
+pub job_gone : {J : Type 0} (pends : J → ℕ) (a b c : Stage J) → rank b ≤ rank a → rank c < rank b → JobKept pends a c
+job_gone pends (stage.Answer before) b (stage.Answer job) falls less = absurd (omega (arith, falls, less))
+job_gone pends (stage.Answer before) b _ falls less = tt
+job_gone pends _ b c falls less = tt
+
+began : {J : Type 0} (begins : J → Type 0) (pends : J → ℕ) (before job : J)
+    → (stage.Head ≡ stage.Answer before) ⊎ begins before → begins before
+began begins pends before job (inl never) = cc
+began begins pends before job (inr new) = new
+
+pended : {J : Type 0} (begins : J → Type 0) (pends : J → ℕ) (a b c : Stage J) → rank b ≤ rank a → JobKept pends a b
     → JobFrom begins pends a b → JobPends pends b c → PendedBy begins pends a c
-pended begins pends a (stage.Answer before) (stage.Answer job) x y = (x.0, x.1, omega (arith, x.2, y))
-pended begins pends a (stage.Answer before) _ x y = absurd y
-pended begins pends a _ c x y = absurd y
+pended begins pends (stage.Answer first) (stage.Answer before) (stage.Answer job) falls kept x y = omega (arith, kept, y)
+pended begins pends stage.Head (stage.Answer before) (stage.Answer job) falls kept x y =
+    (x.0, began begins pends x.0 job x.1, omega (arith, x.2, y))
+pended begins pends (stage.Answer first) (stage.Answer before) _ falls kept x y = absurd y
+pended begins pends stage.Head (stage.Answer before) _ falls kept x y = absurd y
+pended begins pends _ (stage.Answer before) c falls kept x y = absurd (omega (arith, falls))
+pended begins pends a _ c falls kept x y = absurd y
 
 asked : {J : Type 0} (pends : J → ℕ) (b c : Stage J) → JobPends pends b c → 5 ≤ rank b
 asked pends (stage.Answer before) c h = omega arith
@@ -204,41 +306,43 @@ rose_of : (P : Type 0) (budget : Option ℕ) (left : ℕ) → budget ≡ Some le
 rose_of P budget left is some (inl p) = p
 rose_of P budget left is some (inr none) = absurd (omega (arith, ap value (sym is ∙ none)))
 
-step_waits : {L A J : Type 0} (state : L → LinkState) (begins : J → Type 0) (pends : J → ℕ) (same_plan : L → L → Type 0) (before : LinkState)
-    (a b c : View L A J) (left : ℕ) → Gone state begins pends same_plan a b
+step_waits : {L A J : Type 0} (state : L → LinkState) (begins : J → Type 0) (pends : J → ℕ) (same_plan : L → L → Type 0) (now : ℕ) (shutdown : Bool) (before : LinkState)
+    (a b c : View L A J) (left : ℕ) → Gone state begins pends same_plan now shutdown a b
+    → rank b.stage ≤ rank a.stage → JobKept pends a.stage b.stage
     → (5 ≤ rank b.stage → (state b.session.link).read_waits ≡ (state a.session.link).read_waits)
     → c.session.budget ≡ Some left → 0 < left → Since state before c.session c.last
     → (what : Waiting) → WaitsOn state pends b.session c.session c.last b.stage c.stage what
     → WaitCause begins pends before (state a.session.link) (state c.session.link) a c what
-step_waits state begins pends same_plan before a b c left x reads is some s waiting.Read w = (
+step_waits state begins pends same_plan now shutdown before a b c left x falls kept reads is some s waiting.Read w = (
   rose_read_waits 1 (state a.session.link) (state b.session.link) (state c.session.link) (state c.session.link) x.went.moved.later
       (rose_of _ _ left is some w.0) (later_itself (state c.session.link)),
   w.1 before s,
 )
-step_waits state begins pends same_plan before a b c left x reads is some s waiting.Write w = (
+step_waits state begins pends same_plan now shutdown before a b c left x falls kept reads is some s waiting.Write w = (
   rose_write_waits 1 (state a.session.link) (state b.session.link) (state c.session.link) (state c.session.link) x.went.moved.later
       (rose_of _ _ left is some w.0) (later_itself (state c.session.link)),
   w.1,
 )
-step_waits state begins pends same_plan before a b c left x reads is some s waiting.App w =
-    (w.0 ∙ reads (asked pends b.stage c.stage w.1), pended begins pends a.stage b.stage c.stage x.job w.1)
-step_waits state begins pends same_plan before a b c left x reads is some s waiting.Budget w = absurd w
+step_waits state begins pends same_plan now shutdown before a b c left x falls kept reads is some s waiting.App w =
+    (w.0 ∙ reads (asked pends b.stage c.stage w.1), pended begins pends a.stage b.stage c.stage falls kept x.job w.1)
+step_waits state begins pends same_plan now shutdown before a b c left x falls kept reads is some s waiting.Budget w = absurd w
 
 -- a poll waits for what its last step waits for, or it has spent its budget
-pub poll_waits : {L A J : Type 0} (state : L → LinkState) (begins : J → Type 0) (pends : J → ℕ) (same_plan : L → L → Type 0) (before : LinkState)
-    (a b c : View L A J) → Gone state begins pends same_plan a b → Gone state begins pends same_plan a c
+pub poll_waits : {L A J : Type 0} (state : L → LinkState) (begins : J → Type 0) (pends : J → ℕ) (same_plan : L → L → Type 0) (now : ℕ) (shutdown : Bool) (before : LinkState)
+    (a b c : View L A J) → Gone state begins pends same_plan now shutdown a b → Gone state begins pends same_plan now shutdown a c
+    → rank b.stage ≤ rank a.stage → JobKept pends a.stage b.stage
     → (5 ≤ rank b.stage → (state b.session.link).read_waits ≡ (state a.session.link).read_waits)
     → a.session.budget ≡ Some 64 → Since state before c.session c.last
     → (what : Waiting) → WaitsOn state pends b.session c.session c.last b.stage c.stage what
     → (budget : Option ℕ) → c.session.budget ≡ budget
     → WaitCause begins pends before (state a.session.link) (state c.session.link) a c (waiting_for budget what)
-poll_waits {L} {A} {J} state begins pends same_plan before a b c x y reads start s what w None none =
+poll_waits {L} {A} {J} state begins pends same_plan now shutdown before a b c x y falls kept reads start s what w None none =
     let some : IsSome c.session.budget = some_left state a.session c.session y.went (rw start refl) in
     absurd (none_is c.session.budget none some)
   where
     none_is : (budget : Option ℕ) → budget ≡ None → IsSome budget → ⊥
     none_is budget none some = absurd (false≢true (rw none at some))
-poll_waits {L} {A} {J} state begins pends same_plan before a b c x y reads start s what w (Some left) is =
+poll_waits {L} {A} {J} state begins pends same_plan now shutdown before a b c x y falls kept reads start s what w (Some left) is =
     on (left == 0) refl
   where
     on : (test : Bool) → (left == 0) ≡ test → WaitCause begins pends before (state a.session.link) (state c.session.link) a c (if test then waiting.Budget else what)
@@ -247,7 +351,7 @@ poll_waits {L} {A} {J} state begins pends same_plan before a b c x y reads start
         budget_cause begins pends state before a c y.went start (is ∙ ap Some none)
     on false e =
         let some : 0 < left = grind (arith, nat_tests, e) in
-        step_waits state begins pends same_plan before a b c left x reads is some s what w
+        step_waits state begins pends same_plan now shutdown before a b c left x falls kept reads is some s what w
 
 -- a cause sees no more of the connection before the poll than its link and its stage
 pub cause_same : {L A J : Type 0} (state : L → LinkState) (begins : J → Type 0) (pends : J → ℕ) (before : LinkState) (a b to : View L A J)

@@ -57,6 +57,8 @@ still_awaits state old new last answer h none kept =
       kept = rw none.body a.kept;
       body_refused = rw none.body a.body_refused;
       waits = rw none.body a.waits;
+      closing = rw none.settings a.closing;
+      pipelining = rw none.settings a.pipelining;
     }
 
 left_none : (budget : Option ℕ) (left : ℕ) (new : Option ℕ) → IsSome budget → new ≡ option_map (λ _. left) budget → left ≡ 0 → new ≡ Some 0

@@ -17,7 +17,7 @@ use Rattle.h1_app.specs.declared.application.Reply.{Reply}
 use Rattle.h1_app.specs.declared.transcript.Entry.{Entry}
 use Rattle.h1_app.specs.declared.exchange.Stage.{Stage}
 use Rattle.h1_app.specs.declared.exchange.Stage.TheVariants as at
-use Rattle.h1_app.specs.Agrees.{Grows}
+use Rattle.h1_app.specs.Growth.{Grows}
 use Rattle.h1_app.specs.Causes.{FailureCause}
 use Rattle.h1_app.specs.Since.{Since}
 use Rattle.h1_app.specs.Sound.{SoundStage, IsReplied, IsHeaded, fresh}
@@ -83,9 +83,9 @@ pub header_grows : {L : Type 0} (state : L → LinkState) (old new : SessionView
     (now : ℕ) (outcome : Poll (Result (Unit {0}) Error)) (written : ℕ)
     (h : AtHeader e old) → WritesHeader state old new h.request None now outcome
     → written ≡ new.reply.sent
-    → Grows e (record e { written = written })
+    → Grows now (state old.link) (state new.link) e (record e { written = written })
 header_grows state old new e now outcome written h w count =
-    grows_written e e.owed written (more_written state old new w.taking w.left e written h.request
+    grows_written now (state old.link) (state new.link) e e.owed written (more_written state old new w.taking w.left e written h.request
     w.writes count h.replied.asked)
 
 -- what the call answers, nothing being handed in

@@ -24,7 +24,7 @@ use Rattle.h1_app.specs.declared.application.Reply.{Reply}
 use Rattle.h1_app.specs.declared.transcript.Entry.{Entry}
 use Rattle.h1_app.specs.declared.exchange.Stage.{Stage}
 use Rattle.h1_app.specs.declared.exchange.Stage.TheVariants as at
-use Rattle.h1_app.specs.Agrees.{Grows}
+use Rattle.h1_app.specs.Growth.{Grows}
 use Rattle.h1_app.specs.Application.{Given, LawfulReplies, IsLawful}
 use Rattle.h1_app.specs.Causes.{FailureCause}
 use Rattle.h1_app.specs.Exchange.{render_parts, IsAllowed, may_keep, given_to}
@@ -189,11 +189,11 @@ pub headed_grows : {L : Type 0} (state : L → LinkState) (old new : SessionView
     (now : ℕ) (outcome : Poll (Result (Unit {0}) Error))
     (sent : ResponseView) (date : ℕ) (text : List ℕ) (keep : Bool) (written : ℕ)
     (h : AtTakeHeader e old) → WritesHeader state old new h.request (Some h.reply.header) now
-    outcome → written ≡ new.reply.sent
-    → Grows e (headed_as e sent date text keep written)
-headed_grows state old new e now outcome sent date text keep written h w count =
-    grows_replying e (Some sent) e.sent_body date text keep true written (rw h.sent_head tt)
-    (stays_itself e.sent_body)
+    outcome → written ≡ new.reply.sent → date ≡ now / 1000
+    → Grows now (state old.link) (state new.link) e (headed_as e sent date text keep written)
+headed_grows state old new e now outcome sent date text keep written h w count moment =
+    grows_replying now (state old.link) (state new.link) e (Some sent) e.sent_body date text keep true written (rw h.sent_head tt)
+    (rw h.sent_head moment) (stays_itself e.sent_body)
     (more_written state old new w.taking w.left e written h.request w.writes count h.replied.asked)
 
 -- the exchange is allowed with the header that the application's relation gives
@@ -230,6 +230,8 @@ headed_allowed gives state old new e now outcome sent text keep written h w is d
       );
       sent_body = a.sent_body;
       handed = a.handed;
+      denied = a.denied;
+      owed = λ owed. refl;
     }
 
 -- the exchange behind the call

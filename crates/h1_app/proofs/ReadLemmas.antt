@@ -91,7 +91,7 @@ refusal_on : {L : Type 0} (state : L → LinkState) (a b c : SessionView L) (k :
     → BodyRefusal state b c k → BodyRefusal state a c k
 refusal_on state a b c kind.InvalidBody later h = h
 refusal_on state a b c kind.ConnectionClosed later h = h
-refusal_on state a b c kind.ReadError later h = let counts = later.counts in omega arith
+refusal_on state a b c kind.ReadError later h = (let counts = later.counts in omega (arith, h.0), h.1)
 refusal_on state a b c kind.NoMemory later h = tt
 refusal_on state a b c _ later h = absurd h
 
@@ -126,6 +126,7 @@ reads_itself state s = record {
   budget = budget_itself s.budget;
   within = within_itself s.budget;
   flushed = refl;
+  few = omega arith;
   bytes = append-nil s.received;
   decoded = record { reads = λ more. sym (ahead_none (reads s.body.reader more)) };
   kept = kept_itself s.body.kept;
@@ -148,6 +149,7 @@ reads_on state a b c first free second = record {
   budget = budget_on a.budget b.budget c.budget first.spent second.spent first.budget second.budget;
   within = within_on a.budget b.budget first.spent second.spent first.budget first.within second.within;
   flushed = second.flushed ∙ first.flushed;
+  few = omega (arith, free.link_waits, second.few);
   bytes = sym (append_assoc a.received first.piece second.piece) ∙ ap (λ xs. xs ++ second.piece) first.bytes
       ∙ append_assoc first.used b.received second.piece ∙ ap (λ xs. first.used ++ xs) second.bytes
       ∙ sym (append_assoc first.used second.used c.received);
@@ -206,6 +208,7 @@ reads_payload state old new outcome there none call = record {
   decoded = call.reads.decoded;
   kept = call.reads.keeps_payload;
   request = call.request;
+  few = call.few;
   head_refused = call.refused;
   reply = call.reply;
   refused = rw none (payload_refused state old new call.payload call.left outcome call.answer);

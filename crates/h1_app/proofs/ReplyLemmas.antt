@@ -19,7 +19,7 @@ use Rattle.h1_server.specs.declared.reply.ReplyState.{ReplyState}
 use Rattle.h1_server.specs.declared.reply.Step.{Step}
 use Rattle.h1_app.specs.declared.application.Reply.{Reply}
 use Rattle.h1_app.specs.declared.transcript.Entry.{Entry}
-use Rattle.h1_app.specs.Agrees.{Grows, Stays}
+use Rattle.h1_app.specs.Growth.{Grows, Stays, DatedAt, RepliedOn, RefusedIn}
 use Rattle.h1_app.specs.Causes.{FailureCause}
 use Rattle.h1_app.specs.Exchange.{render}
 use Rattle.h1_app.specs.Since.{Since, ReadSo, WroteSo, coming, StopsBody}
@@ -120,7 +120,7 @@ pub stops_on : {L : Type 0} (state : L → LinkState) (old new : SessionView L) 
 stops_on state old new kind.InvalidBody body received later h = rw body h
 stops_on state old new kind.ConnectionClosed body received later h =
     (later.ended h.0, rw (received, body) h.1)
-stops_on state old new kind.ReadError body received later h = tt
+stops_on state old new kind.ReadError body received later h = rw (received, body) h
 stops_on state old new _ body received later h = absurd h
 
 pub stopped_on : {L : Type 0} (state : L → LinkState) (old new : SessionView L) (error : Option Error)
@@ -217,34 +217,53 @@ pub stays_itself : {T : Type 0} (o : Option T) → Stays o o
 stays_itself None = tt
 stays_itself (Some x) = refl
 
+-- a header that stays keeps its date and its flag
+pub dated_same : (now : ℕ) (head : Option ResponseView) (old new : Entry) → old.sent_head ≡ head → new.sent_head ≡ old.sent_head
+    → new.date ≡ old.date → new.date_text ≡ old.date_text → new.keep ≡ old.keep → DatedAt now head old new
+dated_same now None old new is head date text keep = rw (head ∙ is) tt
+dated_same now (Some header) old new is head date text keep = (date, text, keep)
+
+pub replied_same : (reply : Option Reply) (old new : Entry) → new.how ≡ old.how → new.left ≡ old.left → RepliedOn reply old new
+replied_same None old new how left = tt
+replied_same (Some reply) old new how left = (how, left)
+
+pub refused_same : (before behind : LinkState) (refused : Option Error) → RefusedIn before behind refused refused
+refused_same before behind None = tt
+refused_same before behind (Some error) = tt
+
 -- an exchange grows by its reply
-pub grows_replying : (e : Entry) (head : Option ResponseView) (body : Option (List ℕ)) (date : ℕ)
+pub grows_replying : (now : ℕ) (before behind : LinkState) (e : Entry) (head : Option ResponseView) (body : Option (List ℕ)) (date : ℕ)
     (text : List ℕ) (keep owed : Bool) (written : ℕ)
-    → Stays e.sent_head head → Stays e.sent_body body → e.written ≤ written
-    → Grows e (replying e head body date text keep owed written)
-grows_replying e head body date text keep owed written headed bodied more = record {
+    → Stays e.sent_head head → DatedAt now e.sent_head e (replying e head body date text keep owed written)
+    → Stays e.sent_body body → e.written ≤ written
+    → Grows now before behind e (replying e head body date text keep owed written)
+grows_replying now before behind e head body date text keep owed written headed dated bodied more = record {
   head = refl;
   both = refl;
   filtered = stays_itself e.filtered;
   body = ([], sym (append-nil e.body));
   handed = omega arith;
   body_error = stays_itself e.body_error;
+  refused = refused_same before behind e.body_error;
   reply = stays_itself e.reply;
+  replied = replied_same e.reply e _ refl refl;
   sent_head = headed;
+  dated = dated;
   sent_body = bodied;
   written = more;
+  began = refl;
 }
 
-pub grows_itself : (e : Entry) → Grows e e
-grows_itself e =
-    grows_replying e e.sent_head e.sent_body e.date e.date_text e.keep e.owed e.written
-    (stays_itself e.sent_head) (stays_itself e.sent_body) (omega arith)
+pub grows_itself : (now : ℕ) (before behind : LinkState) (e : Entry) → Grows now before behind e e
+grows_itself now before behind e =
+    grows_replying now before behind e e.sent_head e.sent_body e.date e.date_text e.keep e.owed e.written
+    (stays_itself e.sent_head) (dated_same now e.sent_head e e refl refl refl refl refl) (stays_itself e.sent_body) (omega arith)
 
-pub grows_written : (e : Entry) (owed : Bool) (written : ℕ) → e.written ≤ written
-    → Grows e (record e { owed = owed; written = written })
-grows_written e owed written more =
-    grows_replying e e.sent_head e.sent_body e.date e.date_text e.keep owed written
-    (stays_itself e.sent_head) (stays_itself e.sent_body) more
+pub grows_written : (now : ℕ) (before behind : LinkState) (e : Entry) (owed : Bool) (written : ℕ) → e.written ≤ written
+    → Grows now before behind e (record e { owed = owed; written = written })
+grows_written now before behind e owed written more =
+    grows_replying now before behind e e.sent_head e.sent_body e.date e.date_text e.keep owed written
+    (stays_itself e.sent_head) (dated_same now e.sent_head e _ refl refl refl refl refl) (stays_itself e.sent_body) more
 
 -- a reply that is being written stays the application's
 pub replied_on : {L : Type 0} (state : L → LinkState) (old new : SessionView L) (taking : List ℕ)

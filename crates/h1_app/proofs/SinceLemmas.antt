@@ -116,7 +116,8 @@ head_failed before old now bytes error (kind.InvalidHTTPHeader fault) told h =
     (refl, told_map before.given now.given _ _ (λ since e. subst (λ x. RefusedAt x fault) (sym e) h) told)
 head_failed before old now bytes error kind.ConnectionClosed told h =
     (h.0, inl (refl, told_map before.given now.given (λ since. since ≡ bytes) (λ since. ReadAll since [] begun) (λ since e. subst (λ x. NotYetAt x × (0 < length x)) (sym e) (h.1, h.2)) told))
-head_failed before old now bytes error kind.ReadError told h = inl (refl, h)
+head_failed before old now bytes error kind.ReadError told h =
+    inl (refl, h.0, told_map before.given now.given _ _ (λ since e. subst (λ x. LacksSo x None) (sym e) (lacks_head bytes h.1)) told)
 head_failed before old now bytes error kind.NoMemory told h = tt
 head_failed before old now bytes error _ told h = absurd h
 

@@ -1,27 +1,62 @@
 -- The transcript, the bytes given and the bytes written agree.
-use Rattle.std.specs.Prelude.{◌≡◌, ℕ, ◌+◌, ◌-◌, ◌^◌, ◌≤◌, List, [], ◌∷◌, ◌++◌, length, min, true, false, Option, Some, None, IsSome}
+use Rattle.std.specs.Prelude.{◌≡◌, ℕ, ◌+◌, ◌-◌, ◌^◌, ◌<◌, List, [], ◌∷◌, ◌++◌, length, min, Bool, true, false, None, Option, Some, IsSome, IfSome}
 use Rattle.std.specs.List.{AllByRecursion}
 use Rattle.h1_link.specs.LinkState.{LinkState}
 use Rattle.h1_link.specs.Counts.{RoseBy}
-use Rattle.h1_body.specs.Body.{whole, payload_of}
+use Rattle.h1_error.specs.declared.error.ErrorType.{ErrorType}
+use Rattle.h1_error.specs.declared.error.ErrorType.TheVariants as kind
+use Rattle.h1_body.specs.Body.{Body, whole, unfinished, broken, payload_of}
+use Rattle.h1_body.specs.Framing.{framing, out}
+use Rattle.h1_body.specs.Reader as reader
+use Rattle.h1_head.specs.Views.{ResponseView}
+use Rattle.h1_body.specs.declared.framing.Framing.{Framing}
+use Rattle.h1_body.specs.declared.framing.Framing.TheVariants.{Counted, Chunked, UntilClose}
 use Rattle.h1_app.specs.declared.application.Reply.{Reply}
 use Rattle.h1_app.specs.declared.transcript.Entry.{Entry}
+use Rattle.h1_app.specs.declared.transcript.How.{How}
+use Rattle.h1_app.specs.declared.transcript.How.TheVariants.{Open, Whole, Failed}
 use Rattle.h1_app.specs.Application.{Given}
 use Rattle.h1_app.specs.Exchange.{render, is_short, IsAllowed}
 use Rattle.h1_app.specs.Since.{IfTold}
 use Rattle.h1_app.specs.Stream.{Message, Begins}
 
+-- fewer bytes than the request states as its body's length
+abbrev pub IsBelow : Framing → ℕ → Type 0
+IsBelow (Counted n) handed = handed < n
+IsBelow Chunked handed = Unit {0}
+IsBelow UntilClose handed = Unit {0}
+
+-- How the request's body stood (RFC 9112, section 6): the payload of all of it was handed in, or
+-- its end was still to come, or the reading of it was refused.
+abbrev pub StoodAs : How → Entry → Body → Type 0
+StoodAs Whole e body = (e.body_error ≡ None) × ((used : ℕ) × (body ≡ whole e.body used))
+StoodAs Open e body = (e.body_error ≡ None) × IsBelow (framing e.head) e.handed
+StoodAs Failed e body = IsSome e.body_error
+
+-- what the refusal of a request's body says of it: it is broken, or the link ended or failed inside it
+abbrev pub RefusalOf : LinkState → Entry → Body → ErrorType → Type 0
+RefusalOf now e body kind.InvalidBody = body ≡ broken e.body
+RefusalOf now e body kind.ConnectionClosed = (body ≡ unfinished e.body) × (now.ended ≡ true)
+RefusalOf now e body kind.ReadError = body ≡ unfinished e.body
+RefusalOf now e body _ = ⊥
+
+-- the body's error, and how the body stood when the application replied
+pub record IsReadAs (now : LinkState) (e : Entry) (body : Body) : Type 0 where
+  pub refused : IfSome e.body_error (λ error. RefusalOf now e body error.kind)
+  pub replied : IfSome e.reply (λ reply. StoodAs e.how e body)
+
 -- The exchanges are those of these requests: each head is the request's, each body but the last is
--- the payload of its request, whole, and the last is a first part of it.
-abbrev pub AreOf : List Entry → List Message → Type 0
-AreOf [] [] = Unit {0}
-AreOf [] (m ∷ more) = ⊥
-AreOf (e ∷ more) [] = ⊥
-AreOf (e ∷ []) (m ∷ []) =
-    (e.head ≡ m.head) × (e.both ≡ m.both) × ((rest : List ℕ) × (payload_of m.body ≡ e.body ++ rest))
-AreOf (e ∷ []) (m ∷ n ∷ more) = ⊥
-AreOf (e ∷ f ∷ later) (m ∷ more) =
-    (e.head ≡ m.head) × (e.both ≡ m.both) × ((used : ℕ) × (m.body ≡ whole e.body used)) × AreOf (f ∷ later) more
+-- the payload of its request, whole, and the last is a first part of it. Each was refused and
+-- replied to as its body stood.
+abbrev pub AreOf : LinkState → List Entry → List Message → Type 0
+AreOf now [] [] = Unit {0}
+AreOf now [] (m ∷ more) = ⊥
+AreOf now (e ∷ more) [] = ⊥
+AreOf now (e ∷ []) (m ∷ []) =
+    (e.head ≡ m.head) × (e.both ≡ m.both) × ((rest : List ℕ) × (payload_of m.body ≡ e.body ++ rest)) × IsReadAs now e m.body
+AreOf now (e ∷ []) (m ∷ n ∷ more) = ⊥
+AreOf now (e ∷ f ∷ later) (m ∷ more) =
+    (e.head ≡ m.head) × (e.both ≡ m.both) × ((used : ℕ) × (m.body ≡ whole e.body used)) × IsReadAs now e m.body × AreOf now (f ∷ later) more
 
 -- the bytes are the replies in order: each whole, but the last perhaps cut
 abbrev pub AreReplies : List ℕ → List Entry → Type 0
@@ -31,6 +66,13 @@ AreReplies since (e ∷ []) =
 AreReplies since (e ∷ f ∷ more) =
     (rest : List ℕ) × (since ≡ render e ++ rest) × (e.written ≡ min (length (render e)) (2 ^ 64 - 1)) × AreReplies rest (f ∷ more)
 
+-- the reply ends where the link does
+abbrev pub is_until_close : Entry → Bool
+is_until_close e = ends_so e.sent_head where
+  ends_so : Option ResponseView → Bool
+  ends_so None = false
+  ends_so (Some head) = reader.is_until_close (out e.head.method head)
+
 -- a complete reply that says that the connection is kept, and ends by its own framing
 pub record IsDoneAt (flushed : ℕ → Type 0) (total : ℕ) (e : Entry) : Type 0 where
   pub sent_head : IsSome e.sent_head
@@ -38,6 +80,7 @@ pub record IsDoneAt (flushed : ℕ → Type 0) (total : ℕ) (e : Entry) : Type 
   pub flushed_so : flushed total
   pub long : is_short e ≡ false
   pub keep : e.keep ≡ true
+  pub closes : is_until_close e ≡ false
 
 -- each exchange but the last is done, and its reply flushed
 abbrev pub AreDone : (ℕ → Type 0) → ℕ → List Entry → Type 0
@@ -49,33 +92,7 @@ AreDone flushed total (e ∷ f ∷ more) =
 -- The transcript of a connection whose link had the state `before` when it was made agrees with
 -- what the link gave and took since. A link that doesn't tell its bytes is told nothing of.
 pub record Agrees (gives : Given → Reply → Type 0) (before now : LinkState) (transcript : List Entry) : Type 0 where
-  pub read : IfTold before.given now.given (λ since. (requests : List Message) × Begins since requests × AreOf transcript requests)
+  pub read : IfTold before.given now.given (λ since. (requests : List Message) × Begins since requests × AreOf now transcript requests)
   pub allowed : AllByRecursion (IsAllowed gives) transcript
   pub written : IfTold before.written now.written (λ since. AreReplies since transcript)
   pub done : AreDone (λ total. RoseBy total before.bytes_out now.flushed) 0 transcript
-
--- a value that is there stays, and bytes grow at their end
-abbrev pub Stays : {T : Type 0} → Option T → Option T → Type 0
-Stays None new = Unit {0}
-Stays (Some value) new = new ≡ Some value
-
--- the same exchange, further on
-pub record Grows (old new : Entry) : Type 0 where
-  pub head : new.head ≡ old.head
-  pub both : new.both ≡ old.both
-  pub filtered : Stays old.filtered new.filtered
-  pub body : (more : List ℕ) × (new.body ≡ old.body ++ more)
-  pub handed : old.handed ≤ new.handed
-  pub body_error : Stays old.body_error new.body_error
-  pub reply : Stays old.reply new.reply
-  pub sent_head : Stays old.sent_head new.sent_head
-  pub sent_body : Stays old.sent_body new.sent_body
-  pub written : old.written ≤ new.written
-
--- every exchange but the last stays, the last grows, and more may come behind it
-abbrev pub Extends : List Entry → List Entry → Type 0
-Extends [] new = Unit {0}
-Extends (e ∷ []) [] = ⊥
-Extends (e ∷ []) (n ∷ more) = Grows e n
-Extends (e ∷ f ∷ later) [] = ⊥
-Extends (e ∷ f ∷ later) (n ∷ more) = (n ≡ e) × Extends (f ∷ later) more

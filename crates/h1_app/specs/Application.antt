@@ -1,5 +1,5 @@
 -- What an application may do with a session, and what its reply depends on.
-use Rattle.std.specs.Prelude.{◌≡◌, ◌≢◌, ℕ, ◌-◌, ◌≤◌, ◌⊎◌, List, [], ◌∷◌, ◌++◌, Bool, true, false, Option, Some, None, option_map, unwrap_or, IfSome, Result, Ok, Err, ◌||◌, codes}
+use Rattle.std.specs.Prelude.{◌≡◌, ◌≢◌, ℕ, ◌+◌, ◌-◌, ◌≤◌, ◌⊎◌, List, [], ◌∷◌, ◌++◌, Bool, true, false, Option, Some, None, option_map, unwrap_or, IfSome, Result, Ok, Err, ◌||◌, codes}
 use Rattle.futures.specs.declared.task.Poll.{Poll}
 use Rattle.futures.specs.declared.task.Poll.TheVariants.{Ready, Pending}
 use Rattle.h1_error.specs.declared.error.Error.{Error}
@@ -34,14 +34,15 @@ pub record Given : Type 0 where
   pub began : Settings
   pub left : Settings
 
--- how the reading of the body stands
+-- how the reading of the body stands: refused, at the end, or neither
+abbrev pub how_stands : Body → Option Error → How
+how_stands state (Some error) = Failed
+how_stands (whole payload used) None = Whole
+how_stands (unfinished payload) None = Open
+how_stands (broken payload) None = Open
+
 abbrev pub how_of : BodyState → How
-how_of body = how_stands (reads body.reader []) body.refused where
-  how_stands : Body → Option Error → How
-  how_stands state (Some error) = Failed
-  how_stands (whole payload used) None = Whole
-  how_stands (unfinished payload) None = Open
-  how_stands (broken payload) None = Open
+how_of body = how_stands (reads body.reader []) body.refused
 
 abbrev pub payload_of : {L : Type 0} → SessionView L → List ℕ
 payload_of session = unwrap_or session.body.kept []
@@ -73,6 +74,8 @@ pub record ReadsOnly {L : Type 0} (state : L → LinkState) (old new : SessionVi
   pub budget : new.budget ≡ option_map (λ left. left - spent) old.budget
   pub within : IfSome old.budget (λ left. spent ≤ left)
   pub flushed : (state new.link).flushed ≡ (state old.link).flushed
+  -- a read was not ready at most once
+  pub few : (state new.link).read_waits ≤ (state old.link).read_waits + 1
   pub bytes : old.received ++ piece ≡ used ++ new.received
   pub decoded : Decoded old.body.reader new.body.reader used payload
   pub kept : new.body.kept ≡ option_map (λ front. front ++ payload) old.body.kept

@@ -38,12 +38,18 @@ pub record LastStands (since : List ℕ) (e : Entry) (stands : Body) : Type 0 wh
   pub head : HeadAt since n e.head e.both
   pub body : body (framing e.head) (drop n since) ≡ stands
 
--- the reply was written whole, and flushed
+-- what is awaited is not among the bytes given: a head, or more of the last request's body
+abbrev pub LacksSo : List ℕ → Option Entry → Type 0
+LacksSo since None = ReadAll since [] empty ⊎ ReadAll since [] begun
+LacksSo since (Some e) = LastStands since e (unfinished e.body) × (e.reply ≡ None)
+
+-- the reply was written whole, and flushed, and nothing of it is owed
 pub record IsComplete (before now : LinkState) (e : Entry) : Type 0 where
   pub sent_head : (e.sent_head ≢ None)
   pub sent_body : (e.sent_body ≢ None)
   pub written : IfTold before.written now.written (λ since. since ≡ render e)
   pub flushed : RoseBy e.written before.bytes_out now.flushed
+  pub unowed : e.owed ≡ false
 
 -- the render of a short reply was written whole
 pub record IsWrittenShort (before now : LinkState) (e : Entry) : Type 0 where
@@ -69,7 +75,8 @@ FailureCause before old now last error kind.ConnectionClosed = (now.ended ≡ tr
 FailureCause before old now last error kind.InvalidBody =
     OfLast last (λ e. EndsBody before now e error × IfTold before.given now.given (λ since. LastStands since e (broken e.body)))
 FailureCause before old now last error kind.ReadError =
-    ((last ≡ None) × Rose old.read_faults now.read_faults) ⊎ OfLast last (λ e. EndsBody before now e error)
+    ((last ≡ None) × Rose old.read_faults now.read_faults × IfTold before.given now.given (λ since. LacksSo since None))
+    ⊎ OfLast last (λ e. EndsBody before now e error × IfTold before.given now.given (λ since. LastStands since e (unfinished e.body)))
 FailureCause before old now last error kind.WriteError = Rose old.write_faults now.write_faults
 FailureCause before old now last error kind.PrematureBodyEnd =
     OfLast last (λ e. IsWrittenShort before now e × (e.body_error ≡ None))
@@ -84,21 +91,16 @@ abbrev pub EndCause : LinkState → LinkState → LinkState → Option Entry →
 EndCause before old now last end.Finished = (last ≡ None) × (now.ended ≡ true)
     × IfTold before.given now.given (λ since. ReadAll since [] empty)
 EndCause before old now last end.NotKept =
-    OfLast last (λ e. IsComplete before now e × (e.keep ≡ false) × (e.body_error ≡ None))
+    OfLast last (λ e. IsComplete before now e × (is_short e ≡ false) × (e.keep ≡ false) × (e.body_error ≡ None))
 EndCause before old now last end.Overread = ⊥
 EndCause before old now last (end.Failed error) = FailureCause before old now last error error.kind
 
--- what is awaited is not among the bytes given: a head, or more of the last request's body
-abbrev pub LacksSo : List ℕ → Option Entry → Type 0
-LacksSo since None = ReadAll since [] empty ⊎ ReadAll since [] begun
-LacksSo since (Some e) = LastStands since e (unfinished e.body) × (e.reply ≡ None)
-
 -- the application was not ready by itself: its job's count rose since the job that was there before
--- the poll, or since one that began in it
+-- the poll, or, where a head was awaited then, since one that began in it
 abbrev pub PendedBy : {J : Type 0} → (J → Type 0) → (J → ℕ) → Stage J → Stage J → Type 0
-PendedBy {J} begins pends from (stage.Answer job) =
-    (before : J) × ((from ≡ stage.Answer before) ⊎ begins before) × Rose (pends before) (pends job)
-PendedBy begins pends from _ = ⊥
+PendedBy begins pends (stage.Answer before) (stage.Answer job) = Rose (pends before) (pends job)
+PendedBy {J} begins pends stage.Head (stage.Answer job) = (before : J) × begins before × Rose (pends before) (pends job)
+PendedBy begins pends _ _ = ⊥
 
 -- where the link tells its bytes, so many more were given and written
 abbrev pub ToldGrowth : Option (List ℕ) → Option (List ℕ) → Option (List ℕ) → Option (List ℕ) → ℕ → Type 0

@@ -1,5 +1,5 @@
 -- One exchange: a request, what the application read of it, its reply and what was written.
-use Rattle.std.specs.Prelude.{◌≡◌, ℕ, ◌<◌, ◌≤◌, List, [], ◌∷◌, ◌++◌, length, Bool, true, false, ◌&&◌, not, nat_lt, Option, Some, None, IfSome}
+use Rattle.std.specs.Prelude.{◌≡◌, ℕ, ◌<◌, List, [], ◌∷◌, ◌++◌, length, Bool, true, false, ◌&&◌, not, nat_lt, Option, Some, None, IfSome, IsSome}
 use Rattle.h1_head.specs.Views.{RequestView, ResponseView}
 use Rattle.h1_head.specs.Wish.{wish}
 use Rattle.h1_head.specs.Wire.{head_bytes, reply_head}
@@ -75,4 +75,6 @@ pub record IsAllowed (gives : Given → Reply → Type 0) (e : Entry) : Type 0 w
   pub reply : IfSome e.reply (λ reply. (e.filtered ≡ Some e.head) × gives (given_to e e.head) reply)
   pub sent_head : IfSome e.sent_head (λ header. (reply : Reply) × (e.reply ≡ Some reply) × (header ≡ reply.header) × IsLawful header × IsDated e)
   pub sent_body : IfSome e.sent_body (λ sent. (reply : Reply) × (e.reply ≡ Some reply) × (sent ≡ reply.body))
-  pub handed : e.handed ≤ length e.body
+  pub handed : e.handed ≡ length e.body
+  pub denied : wish e.head e.both ≡ false
+  pub owed : e.owed ≡ true → IsSome e.sent_head

@@ -1,5 +1,5 @@
 -- What steps of a connection leave, one behind the other.
-use Rattle.std.specs.Prelude.{◌≡◌, ℕ, ◌<◌, ◌==◌, [], Option, Some, None, if◌then◌else◌}
+use Rattle.std.specs.Prelude.{◌≡◌, ℕ, ◌<◌, ◌==◌, [], Bool, Option, Some, None, if◌then◌else◌}
 use Rattle.h1_error.specs.declared.progress.End.{End}
 use Rattle.h1_error.specs.declared.progress.Waiting.{Waiting}
 use Rattle.h1_error.specs.declared.progress.Waiting.TheVariants.{Budget}
@@ -25,14 +25,14 @@ waiting_for None what = what
 waiting_for (Some left) what = if left == 0 then Budget else what
 
 -- the connection went on from one view to the other
-pub record Gone {L A J : Type 0} (state : L → LinkState) (begins : J → Type 0) (pends : J → ℕ) (same_plan : L → L → Type 0) (from to : View L A J) : Type 0 where
+pub record Gone {L A J : Type 0} (state : L → LinkState) (begins : J → Type 0) (pends : J → ℕ) (same_plan : L → L → Type 0) (now : ℕ) (shutdown : Bool) (from to : View L A J) : Type 0 where
   pub app : to.app ≡ from.app
   pub alone : from.done ≡ []
   pub still_alone : to.done ≡ []
   pub plan : same_plan from.session.link to.session.link
   pub went : Went state from.session to.session
   pub since : (before : LinkState) → Since state before from.session from.last → Since state before to.session to.last
-  pub extends : ExtendsLast from.last to.last
+  pub extends : ExtendsLast now shutdown (state from.session.link) (state to.session.link) from.last to.last
   pub job : JobFrom begins pends from.stage to.stage
 
 -- why a step goes on, waits or ends

@@ -5,6 +5,7 @@ pub mod View
 pub mod Since
 pub mod Sound
 pub mod Agrees
+pub mod Growth
 pub mod Causes
 pub mod Turns
 pub mod Asking

@@ -58,12 +58,12 @@ abbrev pub WroteSo : {L : Type 0} → List ℕ → SessionView L → Option Entr
 WroteSo since session None = (since ≡ []) × (session.reply.owed ≡ [])
 WroteSo since session (Some e) = since ++ session.reply.owed ++ coming e.sent_body session.reply.writer ≡ render e
 
--- the body can't be read on: it is broken, the link ended inside it, or a read failed
+-- the body can't be read on: it is broken, or the link ended or failed inside it
 abbrev pub StopsBody : {L : Type 0} → (L → LinkState) → SessionView L → ErrorType → Type 0
 StopsBody state session kind.InvalidBody = reads session.body.reader [] ≡ broken []
 StopsBody state session kind.ConnectionClosed =
     ((state session.link).ended ≡ true) × Lacks session.body.reader session.received
-StopsBody state session kind.ReadError = Unit {0}
+StopsBody state session kind.ReadError = Lacks session.body.reader session.received
 StopsBody state session _ = ⊥
 
 -- the error of the request's body has its cause

@@ -3,7 +3,7 @@ use Rattle.std.specs.Prelude.{◌≡◌, ℕ, ◌^◌, ◌<◌, ◌⊎◌, List,
 use Rattle.h1_error.specs.declared.progress.End.{End}
 use Rattle.h1_head.specs.Views.{RequestView}
 use Rattle.h1_head.specs.Wish.{wish}
-use Rattle.h1_body.specs.Writer.{WriterView, begun, after_piece}
+use Rattle.h1_body.specs.Writer.{WriterView, begun, after_piece, is_short}
 use Rattle.h1_server.specs.SessionView.{SessionView}
 use Rattle.h1_body.specs.Framing.{out}
 use Rattle.h1_server.specs.declared.settings.Settings.{Settings}
@@ -44,6 +44,8 @@ pub record IsAwaiting {L : Type 0} (session : SessionView L) : Type 0 where
   pub kept : session.body.kept ≡ None
   pub body_refused : session.body.refused ≡ None
   pub waits : session.body.waits ≡ false
+  pub closing : session.settings.closing ≡ true
+  pub pipelining : session.settings.pipelining ≡ false
 
 -- the exchange is that of the session's request, whose wish is denied
 pub record IsAsked {L : Type 0} (e : Entry) (session : SessionView L) (request : Request) : Type 0 where
@@ -92,12 +94,12 @@ fresh e reply = begun (out e.head.method reply.header)
 abbrev pub filled : Entry → Reply → WriterView
 filled e reply = after_piece (fresh e reply) reply.body
 
--- the end is not taken up yet, or it is owed
+-- the end is not taken up yet, or it is owed, as of a reply that isn't short
 abbrev pub IsFinishing : {L : Type 0} → Entry → SessionView L → Reply → Step → Type 0
 IsFinishing e session reply step.Free =
     (session.reply.owed ≡ []) × (session.reply.writer ≡ filled e reply)
 IsFinishing e session reply step.Finish =
-    session.reply.writer ≡ record (filled e reply) { ended = true }
+    (session.reply.writer ≡ record (filled e reply) { ended = true }) × (is_short (filled e reply) ≡ false)
 IsFinishing e session reply step.Head = ⊥
 IsFinishing e session reply (step.Piece count) = ⊥
 
@@ -152,6 +154,7 @@ pub record IsNewEntry (request : Request) (settings : Settings) (e : Entry) : Ty
   pub sent_head : e.sent_head ≡ None
   pub sent_body : e.sent_body ≡ None
   pub written : e.written ≡ 0
+  pub owed : e.owed ≡ false
   pub began : e.began ≡ settings
 
 -- an empty body is no piece

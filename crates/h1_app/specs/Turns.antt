@@ -1,5 +1,5 @@
 -- One step of a connection: what it moved, what stays, and why it stops.
-use Rattle.std.specs.Prelude.{◌≡◌, ℕ, ◌-◌, ◌<◌, ◌≤◌, ◌⊎◌, List, true, Option, Some, None, option_map, IfSome}
+use Rattle.std.specs.Prelude.{◌≡◌, ℕ, ◌+◌, ◌-◌, ◌<◌, ◌≤◌, ◌⊎◌, List, Bool, true, Option, Some, None, option_map, IfSome}
 use Rattle.h1_error.specs.declared.progress.Waiting.{Waiting}
 use Rattle.h1_error.specs.declared.progress.Waiting.TheVariants as waiting
 use Rattle.h1_link.specs.LinkState.{LinkState}
@@ -13,16 +13,17 @@ use Rattle.h1_app.specs.declared.exchange.Stage.{Stage}
 use Rattle.h1_app.specs.declared.exchange.Stage.TheVariants as stage
 use Rattle.h1_app.specs.declared.exchange.Outcome.{Outcome}
 use Rattle.h1_app.specs.declared.exchange.Outcome.TheVariants as outcome
-use Rattle.h1_app.specs.Agrees.{Grows}
+use Rattle.h1_app.specs.Growth.{Grows, IsBegun}
 use Rattle.h1_app.specs.Causes.{EndCause, LacksSo, OfLast}
 use Rattle.h1_app.specs.Since.{Since, IfTold}
 use Rattle.h1_app.specs.Sound.{SoundStage}
 
 -- the exchange that is last grows, or begins
-abbrev pub ExtendsLast : Option Entry → Option Entry → Type 0
-ExtendsLast None new = Unit {0}
-ExtendsLast (Some old) None = ⊥
-ExtendsLast (Some old) (Some new) = Grows old new
+abbrev pub ExtendsLast : ℕ → Bool → LinkState → LinkState → Option Entry → Option Entry → Type 0
+ExtendsLast now shutdown before behind None None = Unit {0}
+ExtendsLast now shutdown before behind None (Some new) = IsBegun now shutdown before behind new
+ExtendsLast now shutdown before behind (Some old) None = ⊥
+ExtendsLast now shutdown before behind (Some old) (Some new) = Grows now before behind old new
 
 -- what was moved over the link, within the budget
 pub record Went {L : Type 0} (state : L → LinkState) (old new : SessionView L) : Type 0 where
@@ -53,6 +54,13 @@ JobFrom begins pends from _ = Unit {0}
 abbrev pub JobPends : {J : Type 0} → (J → ℕ) → Stage J → Stage J → Type 0
 JobPends pends (stage.Answer before) (stage.Answer job) = Rose (pends before) (pends job)
 JobPends pends _ _ = ⊥
+
+-- how often reads of a step were not ready: once at most where a head is awaited or the application
+-- reads, and never where a reply is written
+abbrev pub WaitsFew : {J : Type 0} → Stage J → ℕ → ℕ → Type 0
+WaitsFew stage.Head before now = now ≤ before + 1
+WaitsFew (stage.Answer job) before now = now ≤ before + 1
+WaitsFew _ before now = now ≡ before
 
 -- why a step stops; `before` is the link's state since which bytes count
 abbrev pub WaitsOn : {L J : Type 0} → (L → LinkState) → (J → ℕ) → SessionView L → SessionView L → Option Entry → Stage J → Stage J → Waiting → Type 0

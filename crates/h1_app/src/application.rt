@@ -23,8 +23,8 @@ pub struct Reply {
 
 /// An application: it is started for each request, reads the body and replies.
 ///
-/// Its relation `gives` says which reply it gives to what it was given. It only reads the body
-/// (`reads`), and in one call reads no further behind a read that was pending or failed.
+/// Its relation `gives` says which reply it gives to what it was given. It only reads the body, and
+/// behind a call nothing is left unread where a read was pending (`reads`).
 pub trait ServeHttp<L: Link + Drop, C: Drop> {
     /// What the application keeps of one request between polls.
     type Job: Drop;

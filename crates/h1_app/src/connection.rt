@@ -48,7 +48,9 @@ impl<L: Link + Drop, SV: ServeHttp<L, C> + Drop, B: Drop, C: Drop> Connection<L,
     ghost use Rattle.h1_link.specs.Later.{Later, KeepsBytes};
     ghost use Rattle.h1_app.specs.View.{View, entries, transcript_entries, IsNewConnection};
     ghost use Rattle.h1_app.specs.Since.{Since};
-    ghost use Rattle.h1_app.specs.Agrees.{Agrees, Extends};
+    ghost use Rattle.h1_app.specs.Agrees.{Agrees};
+    ghost use Rattle.h1_app.specs.Growth.{Extends};
+    ghost use Rattle.h1_app.specs.Turns.{WaitsFew};
     ghost use Rattle.h1_app.specs.Causes.{Cause};
     ghost use Rattle.h1_app.specs.Sound.{Sound};
     ghost use Rattle.h1_app.specs.Gone.{Gone, TurnCause, outcome_end, waiting_for};
@@ -80,8 +82,9 @@ impl<L: Link + Drop, SV: ServeHttp<L, C> + Drop, B: Drop, C: Drop> Connection<L,
             → Since L.state before self.new.session self.new.last }
         ensures agrees { (before : LinkState) → Since L.state before self.old.session self.old.last
             → Agrees (SV.gives self.new.app) before (L.state self.new.session.link) (entries self.new) }
-        ensures extends { Extends (entries self.old) (entries self.new) }
+        ensures extends { Extends now shutdown (L.state self.old.session.link) (L.state self.new.session.link) (entries self.old) (entries self.new) }
         ensures most { (L.state self.new.session.link).moves ≤ (L.state self.old.session.link).moves + 64 }
+        ensures few { (L.state self.new.session.link).read_waits ≤ (L.state self.old.session.link).read_waits + 1 }
         ensures ended { IfSome self.old.end (λ reason. (result ≡ answer.Ready reason) × (self.new ≡ self.old)) }
         ensures cause { IfNone self.old.end ((before : LinkState) → Since L.state before self.old.session self.old.last
             → Cause L.state SV.begins SV.pends before self.old self.new result) }
@@ -99,8 +102,9 @@ impl<L: Link + Drop, SV: ServeHttp<L, C> + Drop, B: Drop, C: Drop> Connection<L,
         requires alone { self.old.done ≡ [] }
         requires budget { self.old.session.budget ≡ Some 64 }
         requires moment { now < 253_402_300_800_000 }
-        ensures gone { Gone L.state SV.begins SV.pends L.same_plan self.old self.new }
+        ensures gone { Gone L.state SV.begins SV.pends L.same_plan now shutdown self.old self.new }
         ensures sound { Sound (SV.gives self.new.app) (SV.runs self.new.app) self.new.session self.new.done self.new.last self.new.stage self.new.end }
+        ensures few { (L.state self.new.session.link).read_waits ≤ (L.state self.old.session.link).read_waits + 1 }
         ensures cause { (before : LinkState) → Since L.state before self.old.session self.old.last
             → Cause L.state SV.begins SV.pends before self.old self.new result }
     {
@@ -118,9 +122,10 @@ impl<L: Link + Drop, SV: ServeHttp<L, C> + Drop, B: Drop, C: Drop> Connection<L,
         requires alive { self.old.end ≡ None }
         requires budget { IsSome self.old.session.budget }
         requires moment { now < 253_402_300_800_000 }
-        ensures gone { Gone L.state SV.begins SV.pends L.same_plan self.old self.new }
+        ensures gone { Gone L.state SV.begins SV.pends L.same_plan now shutdown self.old self.new }
         ensures sound { Sound (SV.gives self.new.app) (SV.runs self.new.app) self.new.session self.new.done self.new.last self.new.stage self.new.end }
         ensures end { self.new.end ≡ outcome_end result }
+        ensures few { WaitsFew self.old.stage (L.state self.old.session.link).read_waits (L.state self.new.session.link).read_waits }
         ensures outcome { TurnCause L.state SV.pends self.old.session self.new.session self.new.last self.old.stage self.new.stage result }
     {
         let outcome = step(

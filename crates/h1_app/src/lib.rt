@@ -1,4 +1,4 @@
-//! The connection: an application behind a link, one exchange after the other (RFC 9112).
+//! The connection: an application behind a link, and one exchange over it (RFC 9112).
 //!
 //! A [`Connection`] reads a request, lets the application read its body and reply, and writes the
 //! reply. It keeps a transcript of what it read and wrote, and its contracts tie the transcript to
@@ -22,3 +22,6 @@ pub use h1_error::{End, Error, ErrorType, HeadFault, Progress, Waiting};
 pub use h1_server::HttpSession;
 pub use server::{HttpServer, NoModules};
 pub use transcript::{Entry, How, Transcript};
+
+#[cfg(test)]
+mod tests;

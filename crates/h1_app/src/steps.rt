@@ -5,7 +5,7 @@ ghost use Rattle.h1_app.specs.Application.{LawfulReplies};
 ghost use Rattle.h1_app.specs.Exchange.{IsAllowed};
 ghost use Rattle.h1_app.specs.Since.{Since};
 ghost use Rattle.h1_app.specs.Sound.{SoundStage, IsKept};
-ghost use Rattle.h1_app.specs.Turns.{Went, JobFrom, OutcomeCause, ExtendsLast};
+ghost use Rattle.h1_app.specs.Turns.{Went, JobFrom, WaitsFew, OutcomeCause, ExtendsLast};
 
 mod answering;
 mod asking;
@@ -43,8 +43,9 @@ where
     ensures since { (before : LinkState) → Since L.state before session.old last.old → Since L.state before session.new last.new }
     ensures allowed { IfSome last.new (IsAllowed (SV.gives server.now.app)) }
     ensures kept { IfSome last.new (IsKept session.new) }
-    ensures extends { ExtendsLast last.old last.new }
+    ensures extends { ExtendsLast now shutdown (L.state session.old.link) (L.state session.new.link) last.old last.new }
     ensures job { JobFrom SV.begins SV.pends stage.old stage.new }
+    ensures few { WaitsFew stage.old (L.state session.old.link).read_waits (L.state session.new.link).read_waits }
     ensures outcome { OutcomeCause L.state SV.pends (SV.runs server.now.app) session.old session.new last.new stage.old stage.new result }
 {
     match stage {

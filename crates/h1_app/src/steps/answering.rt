@@ -1,5 +1,5 @@
 //! The application runs, until it has replied.
-ghost use Rattle.std.specs.Prelude.{◌≡◌, ◌<◌, ◌≤◌, IsSome, IfSome, None, Some};
+ghost use Rattle.std.specs.Prelude.{◌≡◌, ◌+◌, Bool, ◌<◌, ◌≤◌, IsSome, IfSome, None, Some};
 ghost use Rattle.h1_link.specs.LinkState.{LinkState};
 ghost use Rattle.h1_app.specs.Exchange.{IsAllowed};
 ghost use Rattle.h1_app.specs.Since.{Since};
@@ -46,8 +46,9 @@ where
     ensures since { (before : LinkState) → Since L.state before session.old last.old → Since L.state before session.new last.new }
     ensures allowed { IfSome last.new (IsAllowed (SV.gives server.now.app)) }
     ensures kept { IfSome last.new (IsKept session.new) }
-    ensures extends { ExtendsLast last.old last.new }
+    ensures extends { (shutdown : Bool) → ExtendsLast now shutdown (L.state session.old.link) (L.state session.new.link) last.old last.new }
     ensures job { JobFrom SV.begins SV.pends stage.old stage.new }
+    ensures few { (L.state session.new.link).read_waits ≤ (L.state session.old.link).read_waits + 1 }
     ensures outcome { OutcomeCause L.state SV.pends (SV.runs server.now.app) session.old session.new last.new stage.old stage.new result }
 {
     let Some(entry) = last else { unreachable!() };

@@ -1,5 +1,5 @@
 //! A head is awaited; with it the exchange begins.
-ghost use Rattle.std.specs.Prelude.{◌≡◌, ◌<◌, IsSome, IfSome, IfOk, IfErr, None, Some};
+ghost use Rattle.std.specs.Prelude.{◌≡◌, ◌≤◌, ◌+◌, ◌<◌, IsSome, IfSome, IfOk, IfErr, None, Some};
 ghost use Rattle.h1_error.specs.declared.error.ErrorType.TheVariants.{NoMemory};
 ghost use Rattle.h1_link.specs.LinkState.{LinkState};
 ghost use Rattle.h1_app.specs.Exchange.{IsAllowed};
@@ -44,8 +44,9 @@ where
     ensures since { (before : LinkState) → Since L.state before session.old last.old → Since L.state before session.new last.new }
     ensures allowed { IfSome last.new (IsAllowed (SV.gives server.now.app)) }
     ensures kept { IfSome last.new (IsKept session.new) }
-    ensures extends { ExtendsLast last.old last.new }
+    ensures extends { ExtendsLast now shutdown (L.state session.old.link) (L.state session.new.link) last.old last.new }
     ensures job { JobFrom SV.begins SV.pends stage.old stage.new }
+    ensures few { (L.state session.new.link).read_waits ≤ (L.state session.old.link).read_waits + 1 }
     ensures outcome { OutcomeCause L.state SV.pends (SV.runs server.now.app) session.old session.new last.new stage.old stage.new result }
 {
     match session.poll_read_request(now) {

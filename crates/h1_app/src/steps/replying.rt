@@ -1,5 +1,5 @@
 //! The reply is written: its header, its body, and the end of its body.
-ghost use Rattle.std.specs.Prelude.{◌≡◌, ◌<◌, ◌/◌, IsSome, IfSome, IfOk, IfErr, None, Some, true};
+ghost use Rattle.std.specs.Prelude.{◌≡◌, Bool, ◌<◌, ◌/◌, IsSome, IfSome, IfOk, IfErr, None, Some, true};
 ghost use Rattle.h1_error.specs.declared.error.ErrorType.TheVariants.{NoMemory};
 ghost use Rattle.h1_head.specs.Date.{IsDateAt};
 ghost use Rattle.h1_app.specs.declared.exchange.Stage.TheVariants as at;
@@ -46,8 +46,9 @@ where
     ensures since { (before : LinkState) → Since L.state before session.old last.old → Since L.state before session.new last.new }
     ensures allowed { IfSome last.new (IsAllowed (SV.gives server.now.app)) }
     ensures kept { IfSome last.new (IsKept session.new) }
-    ensures extends { ExtendsLast last.old last.new }
+    ensures extends { (shutdown : Bool) → ExtendsLast now shutdown (L.state session.old.link) (L.state session.new.link) last.old last.new }
     ensures job { JobFrom SV.begins SV.pends stage.old stage.new }
+    ensures few { (L.state session.new.link).read_waits ≡ (L.state session.old.link).read_waits }
     ensures outcome { OutcomeCause L.state SV.pends (SV.runs server.now.app) session.old session.new last.new stage.old stage.new result }
 {
     let Some(entry) = last else { unreachable!() };
@@ -118,8 +119,9 @@ where
     ensures since { (before : LinkState) → Since L.state before session.old last.old → Since L.state before session.new last.new }
     ensures allowed { IfSome last.new (IsAllowed (SV.gives server.now.app)) }
     ensures kept { IfSome last.new (IsKept session.new) }
-    ensures extends { ExtendsLast last.old last.new }
+    ensures extends { (shutdown : Bool) → ExtendsLast now shutdown (L.state session.old.link) (L.state session.new.link) last.old last.new }
     ensures job { JobFrom SV.begins SV.pends stage.old stage.new }
+    ensures few { (L.state session.new.link).read_waits ≡ (L.state session.old.link).read_waits }
     ensures outcome { OutcomeCause L.state SV.pends (SV.runs server.now.app) session.old session.new last.new stage.old stage.new result }
 {
     let Some(entry) = last else { unreachable!() };
@@ -162,8 +164,9 @@ where
     ensures since { (before : LinkState) → Since L.state before session.old last.old → Since L.state before session.new last.new }
     ensures allowed { IfSome last.new (IsAllowed (SV.gives server.now.app)) }
     ensures kept { IfSome last.new (IsKept session.new) }
-    ensures extends { ExtendsLast last.old last.new }
+    ensures extends { (shutdown : Bool) → ExtendsLast now shutdown (L.state session.old.link) (L.state session.new.link) last.old last.new }
     ensures job { JobFrom SV.begins SV.pends stage.old stage.new }
+    ensures few { (L.state session.new.link).read_waits ≡ (L.state session.old.link).read_waits }
     ensures outcome { OutcomeCause L.state SV.pends (SV.runs server.now.app) session.old session.new last.new stage.old stage.new result }
 {
     let Some(entry) = last else { unreachable!() };
@@ -216,8 +219,9 @@ where
     ensures since { (before : LinkState) → Since L.state before session.old last.old → Since L.state before session.new last.new }
     ensures allowed { IfSome last.new (IsAllowed (SV.gives server.now.app)) }
     ensures kept { IfSome last.new (IsKept session.new) }
-    ensures extends { ExtendsLast last.old last.new }
+    ensures extends { (shutdown : Bool) → ExtendsLast now shutdown (L.state session.old.link) (L.state session.new.link) last.old last.new }
     ensures job { JobFrom SV.begins SV.pends stage.old stage.new }
+    ensures few { (L.state session.new.link).read_waits ≡ (L.state session.old.link).read_waits }
     ensures outcome { OutcomeCause L.state SV.pends (SV.runs server.now.app) session.old session.new last.new stage.old stage.new result }
 {
     let Some(entry) = last else { unreachable!() };
@@ -259,8 +263,9 @@ where
     ensures since { (before : LinkState) → Since L.state before session.old last.old → Since L.state before session.new last.new }
     ensures allowed { IfSome last.new (IsAllowed (SV.gives server.now.app)) }
     ensures kept { IfSome last.new (IsKept session.new) }
-    ensures extends { ExtendsLast last.old last.new }
+    ensures extends { (shutdown : Bool) → ExtendsLast now shutdown (L.state session.old.link) (L.state session.new.link) last.old last.new }
     ensures job { JobFrom SV.begins SV.pends stage.old stage.new }
+    ensures few { (L.state session.new.link).read_waits ≡ (L.state session.old.link).read_waits }
     ensures outcome { OutcomeCause L.state SV.pends (SV.runs server.now.app) session.old session.new last.new stage.old stage.new result }
 {
     let Some(entry) = last else { unreachable!() };

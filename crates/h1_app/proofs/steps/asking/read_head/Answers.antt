@@ -1,6 +1,6 @@
 use Rattle.h1_app.proofs.HeadLemmas.{at_head, none_since, head_waits, closed_since, failed_ends}
 use Rattle.h1_app.proofs.SinceLemmas.{went_received}
-use Rattle.h1_app.proofs.BeginLemmas.{headed_by, begun_since, begun_outcome}
+use Rattle.h1_app.proofs.BeginLemmas.{headed_by, begun_since, begun_outcome, begun_extends, none_extends}
 use Rattle.h1_app.proofs.steps.asking.read_head.Goals as goal
 
 pub returns-in-Pending-clause-since : goal.returns-in-Pending-clause-since
@@ -46,3 +46,27 @@ returns-in-Ready-Ok-Head-clause-went g c =
     let reads = rw (c.in-Ready-Ok-Head.is, c.in-Ready-Ok-Head.field-0-is, c.in-Ready-Ok-Head.field-0-0-is) at c.poll_read_request.ensures.reads in
     let h = at_head g.L.Link.state (g.SV.ServeHttp.runs c.args.server.now.app) _ _ _ _ _ c.requires.sound c.requires.at reads in
     rw c.begin.ensures.session (went_received g.L.Link.state _ _ _ _ h.reads.received h.reads.budget)
+
+pub returns-in-Ready-Ok-Head-clause-extends : goal.returns-in-Ready-Ok-Head-clause-extends
+returns-in-Ready-Ok-Head-clause-extends g c =
+    let reads = rw (c.in-Ready-Ok-Head.is, c.in-Ready-Ok-Head.field-0-is, c.in-Ready-Ok-Head.field-0-0-is) at c.poll_read_request.ensures.reads in
+    let h = at_head g.L.Link.state (g.SV.ServeHttp.runs c.args.server.now.app) _ _ _ _ _ c.requires.sound c.requires.at reads in
+    begun_extends g.L.Link.state g.SV.ServeHttp.begins (g.SV.ServeHttp.runs c.args.server.now.app) c.args.now c.args.shutdown
+    _ _ _ _ _ _ _ _ h c.begin.ensures.session c.begin.ensures.begun
+
+pub returns-in-Pending-clause-extends : goal.returns-in-Pending-clause-extends
+returns-in-Pending-clause-extends g c =
+    let h = at_head g.L.Link.state (g.SV.ServeHttp.runs c.args.server.now.app) _ _ _ _ _ c.requires.sound c.requires.at c.in-Pending.ensures.reads in
+    none_extends c.args.now c.args.shutdown _ _ _ h.alone
+
+pub returns-in-Ready-Ok-None-clause-extends : goal.returns-in-Ready-Ok-None-clause-extends
+returns-in-Ready-Ok-None-clause-extends g c =
+    let reads = rw (c.in-Ready-Ok-None.is, c.in-Ready-Ok-None.field-0-is, c.in-Ready-Ok-None.field-0-0-is) at c.poll_read_request.ensures.reads in
+    let h = at_head g.L.Link.state (g.SV.ServeHttp.runs c.args.server.now.app) _ _ _ _ _ c.requires.sound c.requires.at reads in
+    none_extends c.args.now c.args.shutdown _ _ _ h.alone
+
+pub returns-in-Ready-Err-clause-extends : goal.returns-in-Ready-Err-clause-extends
+returns-in-Ready-Err-clause-extends g c =
+    let reads = rw (c.in-Ready-Err.is, c.in-Ready-Err.field-0-is) at c.poll_read_request.ensures.reads in
+    let h = at_head g.L.Link.state (g.SV.ServeHttp.runs c.args.server.now.app) _ _ _ _ _ c.requires.sound c.requires.at reads in
+    none_extends c.args.now c.args.shutdown _ _ _ h.alone

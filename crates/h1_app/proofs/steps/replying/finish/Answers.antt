@@ -1,11 +1,11 @@
 -- The end of the body is written.
-use Rattle.std.proofs.Common.{ap, inl, false, Ok, Err}
+use Rattle.std.proofs.Common.{ap, inl, false, Ok, Err, ◌∙◌}
 use Rattle.h1_link.specs.LinkState.{LinkState}
 use Rattle.h1_app.specs.Exchange.{IsAllowed}
 use Rattle.h1_app.specs.Sound.{IsKept}
 use Rattle.h1_app.proofs.ReplyLemmas.{at_some, ready_is, went_wrote}
 use Rattle.h1_app.proofs.EndReplies.{went_shutdown, since_shutdown, kept_shutdown, stopped_cause}
-use Rattle.h1_app.proofs.FinishReplies.{at_finish, ending, finish_since, finish_grows, finish_kept, finish_waits, finish_done, finish_closed, finish_fails, not_kept}
+use Rattle.h1_app.proofs.FinishReplies.{at_finish, ending, finish_since, finish_grows, finish_kept, finish_waits, finish_done, finish_closed, finish_fails, finish_long, not_kept}
 use Rattle.h1_app.proofs.steps.replying.finish.Goals as goal
 
 pub returns-in-Pending-clause-went : goal.returns-in-Pending-clause-went
@@ -30,13 +30,13 @@ returns-in-Pending-clause-since g c =
     c.in-Some.entry.owed c.written_bytes-entry.result h w (rw c.in-Some.is at s)
 
 pub returns-in-Pending-clause-extends : goal.returns-in-Pending-clause-extends
-returns-in-Pending-clause-extends g c =
+returns-in-Pending-clause-extends g c = λ shutdown.
     let h = at_finish (g.SV.ServeHttp.runs c.args.server.now.app) c.args.session.now c.args.last.now
     c.args.stage.now c.in-Some.entry c.requires.at c.in-Some.is c.requires.sound in
     let w = ending g.L.Link.state c.args.session.now c.poll_finish_body-answer.new.self
     c.in-Some.entry c.poll_finish_body-answer.result h
     c.poll_finish_body-answer.ensures.writes in
-    rw c.in-Some.is (finish_grows g.L.Link.state c.args.session.now
+    rw c.in-Some.is (finish_grows g.L.Link.state c.args.now _ c.args.session.now
     c.poll_finish_body-answer.new.self c.in-Some.entry c.poll_finish_body-answer.result
     c.in-Some.entry.owed c.written_bytes-entry.result h w c.written_bytes-entry.ensures)
 
@@ -74,13 +74,13 @@ returns-in-Some-body_error-clause-since g c =
     c.written_bytes-entry.result h w (rw c.in-Some.is at s)
 
 pub returns-in-Some-body_error-clause-extends : goal.returns-in-Some-body_error-clause-extends
-returns-in-Some-body_error-clause-extends g c =
+returns-in-Some-body_error-clause-extends g c = λ shutdown.
     let h = at_finish (g.SV.ServeHttp.runs c.args.server.now.app) c.args.session.now c.args.last.now
     c.args.stage.now c.in-Some.entry c.requires.at c.in-Some.is c.requires.sound in
     let w = ending g.L.Link.state c.args.session.now c.poll_finish_body-answer.new.self
     c.in-Some.entry c.poll_finish_body-answer.result h
     c.poll_finish_body-answer.ensures.writes in
-    rw c.in-Some.is (finish_grows g.L.Link.state c.args.session.now
+    rw c.in-Some.is (finish_grows g.L.Link.state c.args.now _ c.args.session.now
     c.poll_finish_body-answer.new.self c.in-Some.entry c.poll_finish_body-answer.result false
     c.written_bytes-entry.result h w c.written_bytes-entry.ensures)
 
@@ -94,7 +94,7 @@ returns-in-Some-body_error-clause-outcome g c =
     λ before s. stopped_cause g.L.Link.state before (g.L.Link.state c.args.session.now.link)
     c.poll_finish_body-answer.new.self _ c.in-Some-body_error.error s c.in-Some-body_error.is
     (inl (finish_done g.L.Link.state before c.args.session.now c.poll_finish_body-answer.new.self
-    c.in-Some.entry c.poll_finish_body-answer.result c.in-Ready-Ok.field-0-0 false
+    c.in-Some.entry c.poll_finish_body-answer.result c.in-Ready-Ok.field-0-0
     c.written_bytes-entry.result h w c.written_bytes-entry.ensures
     (ready_is _ c.in-Ready-Ok.field-0 (Ok c.in-Ready-Ok.field-0-0) c.in-Ready-Ok.is
     (rw c.in-Ready-Ok.is at c.in-Ready-Ok.field-0-is)) s))
@@ -125,13 +125,13 @@ returns-in-None-clause-since g c =
     (rw c.in-Some.is at s))
 
 pub returns-in-None-clause-extends : goal.returns-in-None-clause-extends
-returns-in-None-clause-extends g c =
+returns-in-None-clause-extends g c = λ shutdown.
     let h = at_finish (g.SV.ServeHttp.runs c.args.server.now.app) c.args.session.now c.args.last.now
     c.args.stage.now c.in-Some.entry c.requires.at c.in-Some.is c.requires.sound in
     let w = ending g.L.Link.state c.args.session.now c.poll_finish_body-answer.new.self
     c.in-Some.entry c.poll_finish_body-answer.result h
     c.poll_finish_body-answer.ensures.writes in
-    rw c.in-Some.is (finish_grows g.L.Link.state c.args.session.now
+    rw c.in-Some.is (finish_grows g.L.Link.state c.args.now _ c.args.session.now
     c.poll_finish_body-answer.new.self c.in-Some.entry c.poll_finish_body-answer.result false
     c.written_bytes-entry.result h w c.written_bytes-entry.ensures)
 
@@ -147,12 +147,16 @@ returns-in-None-clause-outcome g c =
     λ before s. (
       finish_closed g.L.Link.state before c.args.session.now
           c.poll_finish_body-answer.new.self c.shutdown.new.self c.in-Some.entry
-          c.poll_finish_body-answer.result c.in-Ready-Ok.field-0-0 false c.written_bytes-entry.result
+          c.poll_finish_body-answer.result c.in-Ready-Ok.field-0-0 c.written_bytes-entry.result
           h w c.written_bytes-entry.ensures
           (ready_is _ c.in-Ready-Ok.field-0 (Ok c.in-Ready-Ok.field-0-0) c.in-Ready-Ok.is
           (rw c.in-Ready-Ok.is at c.in-Ready-Ok.field-0-is))
           c.shutdown.ensures.rest (ap (λ (x : LinkState). x.bytes_out) c.shutdown.ensures.state)
           (ap (λ (x : LinkState). x.flushed) c.shutdown.ensures.state) s,
+      finish_long g.L.Link.state c.args.session.now c.poll_finish_body-answer.new.self c.in-Some.entry
+          c.poll_finish_body-answer.result c.in-Ready-Ok.field-0-0 false c.written_bytes-entry.result h w
+          (ready_is _ c.in-Ready-Ok.field-0 (Ok c.in-Ready-Ok.field-0-0) c.in-Ready-Ok.is
+          (rw c.in-Ready-Ok.is at c.in-Ready-Ok.field-0-is)),
       not_kept (g.SV.ServeHttp.gives c.args.server.now.app) c.args.session.now c.in-Some.entry h a,
       c.in-None.is,
     )
@@ -179,13 +183,13 @@ returns-in-Ready-Err-clause-since g c =
     c.in-Some.entry.owed c.written_bytes-entry.result h w (rw c.in-Some.is at s)
 
 pub returns-in-Ready-Err-clause-extends : goal.returns-in-Ready-Err-clause-extends
-returns-in-Ready-Err-clause-extends g c =
+returns-in-Ready-Err-clause-extends g c = λ shutdown.
     let h = at_finish (g.SV.ServeHttp.runs c.args.server.now.app) c.args.session.now c.args.last.now
     c.args.stage.now c.in-Some.entry c.requires.at c.in-Some.is c.requires.sound in
     let w = ending g.L.Link.state c.args.session.now c.poll_finish_body-answer.new.self
     c.in-Some.entry c.poll_finish_body-answer.result h
     c.poll_finish_body-answer.ensures.writes in
-    rw c.in-Some.is (finish_grows g.L.Link.state c.args.session.now
+    rw c.in-Some.is (finish_grows g.L.Link.state c.args.now _ c.args.session.now
     c.poll_finish_body-answer.new.self c.in-Some.entry c.poll_finish_body-answer.result
     c.in-Some.entry.owed c.written_bytes-entry.result h w c.written_bytes-entry.ensures)
 
@@ -254,3 +258,39 @@ returns-in-Ready-Err-clause-kept g c =
     finish_kept g.L.Link.state c.args.session.now c.poll_finish_body-answer.new.self c.in-Some.entry
     c.poll_finish_body-answer.result c.in-Some.entry.owed c.written_bytes-entry.result h w
     c.written_bytes-entry.ensures k
+
+pub returns-in-Pending-clause-few : goal.returns-in-Pending-clause-few
+returns-in-Pending-clause-few g c =
+    let h = at_finish (g.SV.ServeHttp.runs c.args.server.now.app) c.args.session.now c.args.last.now
+    c.args.stage.now c.in-Some.entry c.requires.at c.in-Some.is c.requires.sound in
+    let w = ending g.L.Link.state c.args.session.now c.poll_finish_body-answer.new.self
+    c.in-Some.entry c.poll_finish_body-answer.result h
+    c.poll_finish_body-answer.ensures.writes in
+    w.writes.sent.unread
+
+pub returns-in-Some-body_error-clause-few : goal.returns-in-Some-body_error-clause-few
+returns-in-Some-body_error-clause-few g c =
+    let h = at_finish (g.SV.ServeHttp.runs c.args.server.now.app) c.args.session.now c.args.last.now
+    c.args.stage.now c.in-Some.entry c.requires.at c.in-Some.is c.requires.sound in
+    let w = ending g.L.Link.state c.args.session.now c.poll_finish_body-answer.new.self
+    c.in-Some.entry c.poll_finish_body-answer.result h
+    c.poll_finish_body-answer.ensures.writes in
+    w.writes.sent.unread
+
+pub returns-in-None-clause-few : goal.returns-in-None-clause-few
+returns-in-None-clause-few g c =
+    let h = at_finish (g.SV.ServeHttp.runs c.args.server.now.app) c.args.session.now c.args.last.now
+    c.args.stage.now c.in-Some.entry c.requires.at c.in-Some.is c.requires.sound in
+    let w = ending g.L.Link.state c.args.session.now c.poll_finish_body-answer.new.self
+    c.in-Some.entry c.poll_finish_body-answer.result h
+    c.poll_finish_body-answer.ensures.writes in
+    ap (λ (x : LinkState). x.read_waits) c.shutdown.ensures.state ∙ w.writes.sent.unread
+
+pub returns-in-Ready-Err-clause-few : goal.returns-in-Ready-Err-clause-few
+returns-in-Ready-Err-clause-few g c =
+    let h = at_finish (g.SV.ServeHttp.runs c.args.server.now.app) c.args.session.now c.args.last.now
+    c.args.stage.now c.in-Some.entry c.requires.at c.in-Some.is c.requires.sound in
+    let w = ending g.L.Link.state c.args.session.now c.poll_finish_body-answer.new.self
+    c.in-Some.entry c.poll_finish_body-answer.result h
+    c.poll_finish_body-answer.ensures.writes in
+    w.writes.sent.unread

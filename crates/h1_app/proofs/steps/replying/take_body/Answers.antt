@@ -1,5 +1,5 @@
 -- The body is taken up.
-use Rattle.std.proofs.Common.{◌≡◌, Ok, arith}
+use Rattle.std.proofs.Common.{◌≡◌, Ok, arith, refl}
 use Rattle.h1_app.specs.Sound.{IsPieceOf}
 use Rattle.h1_app.proofs.ReplyLemmas.{at_some, ready_is, went_wrote, grows_itself}
 use Rattle.h1_app.proofs.BodyReplies.{at_take_body, untouched, empty_body, some_body, no_body_since, no_body_done, body_grows, taking_call, taken_since, taken_grows, taken_waits, taken_done}
@@ -14,8 +14,8 @@ returns-in-Err-clause-went g c =
     (untouched g.L.Link.state c.args.session.now c.in-Some.entry h)
 
 pub returns-in-Err-clause-extends : goal.returns-in-Err-clause-extends
-returns-in-Err-clause-extends g c =
-    rw c.in-Some.is (grows_itself c.in-Some.entry)
+returns-in-Err-clause-extends g c = λ shutdown.
+    rw c.in-Some.is (grows_itself c.args.now _ _ c.in-Some.entry)
 
 pub returns-then-is_none-clause-went : goal.returns-then-is_none-clause-went
 returns-then-is_none-clause-went g c =
@@ -38,11 +38,11 @@ returns-then-is_none-clause-since g c =
     c.in-Ok.bodies.0 h b.0 empty (rw c.in-Some.is at s)
 
 pub returns-then-is_none-clause-extends : goal.returns-then-is_none-clause-extends
-returns-then-is_none-clause-extends g c =
+returns-then-is_none-clause-extends g c = λ shutdown.
     let h = at_take_body (g.SV.ServeHttp.runs c.args.server.now.app) c.args.session.now
     c.args.last.now c.args.stage.now c.in-Some.entry c.requires.at c.in-Some.is
     c.requires.sound in
-    rw c.in-Some.is (body_grows c.in-Some.entry c.in-Ok.bodies.0 c.in-Some.entry.written h.sent_body
+    rw c.in-Some.is (body_grows c.args.now _ _ c.in-Some.entry c.in-Ok.bodies.0 c.in-Some.entry.written h.sent_body
     (omega arith))
 
 pub returns-then-is_none-clause-outcome : goal.returns-then-is_none-clause-outcome
@@ -93,7 +93,7 @@ returns-in-Pending-clause-since g c =
     (rw c.in-Some.is at s)
 
 pub returns-in-Pending-clause-extends : goal.returns-in-Pending-clause-extends
-returns-in-Pending-clause-extends g c =
+returns-in-Pending-clause-extends g c = λ shutdown.
     let h = at_take_body (g.SV.ServeHttp.runs c.args.server.now.app) c.args.session.now
     c.args.last.now c.args.stage.now c.in-Some.entry c.requires.at c.in-Some.is
     c.requires.sound in
@@ -104,7 +104,7 @@ returns-in-Pending-clause-extends g c =
     let w = taking_call g.L.Link.state c.args.session.now c.poll_write_body-answer.new.self
     c.in-Some.entry c.in-Ok.bodies.1 c.poll_write_body-answer.new.buf
     c.poll_write_body-answer.result h one c.poll_write_body-answer.ensures.writes in
-    rw c.in-Some.is (taken_grows g.L.Link.state c.args.session.now c.poll_write_body-answer.new.self
+    rw c.in-Some.is (taken_grows g.L.Link.state c.args.now c.args.session.now c.poll_write_body-answer.new.self
     c.in-Some.entry c.poll_write_body-answer.new.buf c.poll_write_body-answer.result
     c.in-Ok.bodies.0 c.written_bytes-entry.result h w c.written_bytes-entry.ensures)
 
@@ -158,7 +158,7 @@ returns-in-Ready-Ok-clause-since g c =
     (rw c.in-Some.is at s)
 
 pub returns-in-Ready-Ok-clause-extends : goal.returns-in-Ready-Ok-clause-extends
-returns-in-Ready-Ok-clause-extends g c =
+returns-in-Ready-Ok-clause-extends g c = λ shutdown.
     let h = at_take_body (g.SV.ServeHttp.runs c.args.server.now.app) c.args.session.now
     c.args.last.now c.args.stage.now c.in-Some.entry c.requires.at c.in-Some.is
     c.requires.sound in
@@ -169,7 +169,7 @@ returns-in-Ready-Ok-clause-extends g c =
     let w = taking_call g.L.Link.state c.args.session.now c.poll_write_body-answer.new.self
     c.in-Some.entry c.in-Ok.bodies.1 c.poll_write_body-answer.new.buf
     c.poll_write_body-answer.result h one c.poll_write_body-answer.ensures.writes in
-    rw c.in-Some.is (taken_grows g.L.Link.state c.args.session.now c.poll_write_body-answer.new.self
+    rw c.in-Some.is (taken_grows g.L.Link.state c.args.now c.args.session.now c.poll_write_body-answer.new.self
     c.in-Some.entry c.poll_write_body-answer.new.buf c.poll_write_body-answer.result
     c.in-Ok.bodies.0 c.written_bytes-entry.result h w c.written_bytes-entry.ensures)
 
@@ -228,7 +228,7 @@ returns-clause-since g c =
     (rw c.in-Some.is at s)
 
 pub returns-clause-extends : goal.returns-clause-extends
-returns-clause-extends g c =
+returns-clause-extends g c = λ shutdown.
     let h = at_take_body (g.SV.ServeHttp.runs c.args.server.now.app) c.args.session.now
     c.args.last.now c.args.stage.now c.in-Some.entry c.requires.at c.in-Some.is
     c.requires.sound in
@@ -239,6 +239,62 @@ returns-clause-extends g c =
     let w = taking_call g.L.Link.state c.args.session.now c.poll_write_body-answer.new.self
     c.in-Some.entry c.in-Ok.bodies.1 c.poll_write_body-answer.new.buf
     c.poll_write_body-answer.result h one c.poll_write_body-answer.ensures.writes in
-    rw c.in-Some.is (taken_grows g.L.Link.state c.args.session.now c.poll_write_body-answer.new.self
+    rw c.in-Some.is (taken_grows g.L.Link.state c.args.now c.args.session.now c.poll_write_body-answer.new.self
     c.in-Some.entry c.poll_write_body-answer.new.buf c.poll_write_body-answer.result
     c.in-Ok.bodies.0 c.written_bytes-entry.result h w c.written_bytes-entry.ensures)
+
+pub returns-in-Err-clause-few : goal.returns-in-Err-clause-few
+returns-in-Err-clause-few g c =
+    let h = at_take_body (g.SV.ServeHttp.runs c.args.server.now.app) c.args.session.now
+    c.args.last.now c.args.stage.now c.in-Some.entry c.requires.at c.in-Some.is
+    c.requires.sound in
+    refl
+
+pub returns-then-is_none-clause-few : goal.returns-then-is_none-clause-few
+returns-then-is_none-clause-few g c =
+    let h = at_take_body (g.SV.ServeHttp.runs c.args.server.now.app) c.args.session.now
+    c.args.last.now c.args.stage.now c.in-Some.entry c.requires.at c.in-Some.is
+    c.requires.sound in
+    refl
+
+pub returns-in-Pending-clause-few : goal.returns-in-Pending-clause-few
+returns-in-Pending-clause-few g c =
+    let h = at_take_body (g.SV.ServeHttp.runs c.args.server.now.app) c.args.session.now
+    c.args.last.now c.args.stage.now c.in-Some.entry c.requires.at c.in-Some.is
+    c.requires.sound in
+    let b = at_some (λ reply. (c.in-Ok.bodies.0 ≡ reply.body) × IsPieceOf reply.body
+    c.in-Ok.bodies.1) c.in-Some.entry.reply h.reply h.replied.is c.in-Ok.ensures.ok in
+    let one = some_body h.reply.body c.in-Ok.bodies.1 c.is_none.result b.1 c.is_none.ensures
+    c.if-is_none.false in
+    let w = taking_call g.L.Link.state c.args.session.now c.poll_write_body-answer.new.self
+    c.in-Some.entry c.in-Ok.bodies.1 c.poll_write_body-answer.new.buf
+    c.poll_write_body-answer.result h one c.poll_write_body-answer.ensures.writes in
+    w.writes.sent.unread
+
+pub returns-in-Ready-Ok-clause-few : goal.returns-in-Ready-Ok-clause-few
+returns-in-Ready-Ok-clause-few g c =
+    let h = at_take_body (g.SV.ServeHttp.runs c.args.server.now.app) c.args.session.now
+    c.args.last.now c.args.stage.now c.in-Some.entry c.requires.at c.in-Some.is
+    c.requires.sound in
+    let b = at_some (λ reply. (c.in-Ok.bodies.0 ≡ reply.body) × IsPieceOf reply.body
+    c.in-Ok.bodies.1) c.in-Some.entry.reply h.reply h.replied.is c.in-Ok.ensures.ok in
+    let one = some_body h.reply.body c.in-Ok.bodies.1 c.is_none.result b.1 c.is_none.ensures
+    c.if-is_none.false in
+    let w = taking_call g.L.Link.state c.args.session.now c.poll_write_body-answer.new.self
+    c.in-Some.entry c.in-Ok.bodies.1 c.poll_write_body-answer.new.buf
+    c.poll_write_body-answer.result h one c.poll_write_body-answer.ensures.writes in
+    w.writes.sent.unread
+
+pub returns-clause-few : goal.returns-clause-few
+returns-clause-few g c =
+    let h = at_take_body (g.SV.ServeHttp.runs c.args.server.now.app) c.args.session.now
+    c.args.last.now c.args.stage.now c.in-Some.entry c.requires.at c.in-Some.is
+    c.requires.sound in
+    let b = at_some (λ reply. (c.in-Ok.bodies.0 ≡ reply.body) × IsPieceOf reply.body
+    c.in-Ok.bodies.1) c.in-Some.entry.reply h.reply h.replied.is c.in-Ok.ensures.ok in
+    let one = some_body h.reply.body c.in-Ok.bodies.1 c.is_none.result b.1 c.is_none.ensures
+    c.if-is_none.false in
+    let w = taking_call g.L.Link.state c.args.session.now c.poll_write_body-answer.new.self
+    c.in-Some.entry c.in-Ok.bodies.1 c.poll_write_body-answer.new.buf
+    c.poll_write_body-answer.result h one c.poll_write_body-answer.ensures.writes in
+    w.writes.sent.unread

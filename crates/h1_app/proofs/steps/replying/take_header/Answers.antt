@@ -1,5 +1,5 @@
 -- The header is taken up.
-use Rattle.std.proofs.Common.{◌≡◌, ◌/◌, Some, Ok, Err, arith}
+use Rattle.std.proofs.Common.{◌≡◌, ◌/◌, Some, Ok, Err, arith, refl, ap}
 use Rattle.h1_app.specs.Exchange.{IsAllowed}
 use Rattle.h1_app.proofs.ReplyLemmas.{at_some, ready_is, went_wrote, went_itself, went_same, grows_itself}
 use Rattle.h1_server.proofs.MovedLemmas.{moved_itself}
@@ -83,7 +83,7 @@ returns-in-Pending-clause-allowed g c =
     c.note_header.ensures.date c.requires.moment c.reply_keeps.ensures c.requires.lawful a)
 
 pub returns-in-Pending-clause-extends : goal.returns-in-Pending-clause-extends
-returns-in-Pending-clause-extends g c =
+returns-in-Pending-clause-extends g c = λ shutdown.
     let h = at_take_header (g.SV.ServeHttp.runs c.args.server.now.app) c.args.session.now
     c.args.last.now c.args.stage.now c.in-Some.entry c.requires.at c.in-Some.is
     c.requires.sound in
@@ -104,7 +104,7 @@ returns-in-Pending-clause-extends g c =
     (headed_grows g.L.Link.state c.args.session.now c.poll_write_response_header.new.self
     c.in-Some.entry c.args.now c.poll_write_response_header.result c.in-Ok.headers.0
     (c.args.now / 1000) c.note_header.new.entry.date_text c.reply_keeps.result
-    c.written_bytes.result h w c.written_bytes.ensures)
+    c.written_bytes.result h w c.written_bytes.ensures refl)
 
 pub returns-in-Pending-clause-outcome : goal.returns-in-Pending-clause-outcome
 returns-in-Pending-clause-outcome g c =
@@ -211,7 +211,7 @@ returns-in-Ready-Ok-clause-allowed g c =
     c.requires.moment c.reply_keeps-in-Ready-Ok.ensures c.requires.lawful a)
 
 pub returns-in-Ready-Ok-clause-extends : goal.returns-in-Ready-Ok-clause-extends
-returns-in-Ready-Ok-clause-extends g c =
+returns-in-Ready-Ok-clause-extends g c = λ shutdown.
     let h = at_take_header (g.SV.ServeHttp.runs c.args.server.now.app) c.args.session.now
     c.args.last.now c.args.stage.now c.in-Some.entry c.requires.at c.in-Some.is
     c.requires.sound in
@@ -235,7 +235,7 @@ returns-in-Ready-Ok-clause-extends g c =
     c.in-Some.entry c.args.now c.poll_write_response_header.result c.in-Ok.headers.0
     (c.args.now / 1000) c.note_header-in-Ready-Ok.new.entry.date_text
     c.reply_keeps-in-Ready-Ok.result c.written_bytes-in-Ready-Ok.result h w
-    c.written_bytes-in-Ready-Ok.ensures)
+    c.written_bytes-in-Ready-Ok.ensures refl)
 
 pub returns-in-Ready-Ok-clause-outcome : goal.returns-in-Ready-Ok-clause-outcome
 returns-in-Ready-Ok-clause-outcome g c =
@@ -338,7 +338,7 @@ returns-then-is_none-clause-allowed g c =
     c.requires.moment c.reply_keeps-then-is_none.ensures c.requires.lawful a)
 
 pub returns-then-is_none-clause-extends : goal.returns-then-is_none-clause-extends
-returns-then-is_none-clause-extends g c =
+returns-then-is_none-clause-extends g c = λ shutdown.
     let h = at_take_header (g.SV.ServeHttp.runs c.args.server.now.app) c.args.session.now
     c.args.last.now c.args.stage.now c.in-Some.entry c.requires.at c.in-Some.is
     c.requires.sound in
@@ -358,7 +358,7 @@ returns-then-is_none-clause-extends g c =
     c.in-Some.entry c.args.now c.poll_write_response_header.result c.in-Ok.headers.0
     (c.args.now / 1000) c.note_header-then-is_none.new.entry.date_text
     c.reply_keeps-then-is_none.result c.written_bytes-then-is_none.result h w
-    c.written_bytes-then-is_none.ensures)
+    c.written_bytes-then-is_none.ensures refl)
 
 pub returns-then-is_none-clause-outcome : goal.returns-then-is_none-clause-outcome
 returns-then-is_none-clause-outcome g c =
@@ -401,5 +401,86 @@ returns-else-is_none-clause-went g c =
     (moved_itself (g.L.Link.state c.args.session.now.link)) c.requires.budget
 
 pub returns-else-is_none-clause-extends : goal.returns-else-is_none-clause-extends
-returns-else-is_none-clause-extends g c =
-    rw c.in-Some.is (grows_itself c.in-Some.entry)
+returns-else-is_none-clause-extends g c = λ shutdown.
+    rw c.in-Some.is (grows_itself c.args.now _ _ c.in-Some.entry)
+
+pub returns-in-Err-clause-few : goal.returns-in-Err-clause-few
+returns-in-Err-clause-few g c =
+    refl
+
+pub returns-in-Pending-clause-few : goal.returns-in-Pending-clause-few
+returns-in-Pending-clause-few g c =
+    let h = at_take_header (g.SV.ServeHttp.runs c.args.server.now.app) c.args.session.now
+    c.args.last.now c.args.stage.now c.in-Some.entry c.requires.at c.in-Some.is
+    c.requires.sound in
+    let b = at_some (λ reply. (c.in-Ok.headers.0 ≡ reply.header) ×
+    (c.in-Ok.headers.1 ≡ Some reply.header)) c.in-Some.entry.reply h.reply h.replied.is
+    c.in-Ok.ensures.ok in
+    let t = taking_header g.L.Link.state c.args.session.now c.poll_write_response_header.new.self
+    c.in-Some.entry c.in-Ok.headers.1 c.poll_write_response_header.new.header c.args.now
+    c.poll_write_response_header.result h b.1 c.poll_write_response_header.ensures.writes in
+    let none = out_where_pending g.L.Link.state c.args.session.now
+    c.poll_write_response_header.new.self h.request (Some h.reply.header)
+    c.poll_write_response_header.new.header c.args.now c.poll_write_response_header.result t
+    c.in-Pending.is in
+    let w = writes_header g.L.Link.state c.args.session.now c.poll_write_response_header.new.self
+    h.request (Some h.reply.header) c.poll_write_response_header.new.header c.args.now
+    c.poll_write_response_header.result t none in
+    w.writes.sent.unread
+
+pub returns-in-Ready-Ok-clause-few : goal.returns-in-Ready-Ok-clause-few
+returns-in-Ready-Ok-clause-few g c =
+    let h = at_take_header (g.SV.ServeHttp.runs c.args.server.now.app) c.args.session.now
+    c.args.last.now c.args.stage.now c.in-Some.entry c.requires.at c.in-Some.is
+    c.requires.sound in
+    let b = at_some (λ reply. (c.in-Ok.headers.0 ≡ reply.header) ×
+    (c.in-Ok.headers.1 ≡ Some reply.header)) c.in-Some.entry.reply h.reply h.replied.is
+    c.in-Ok.ensures.ok in
+    let t = taking_header g.L.Link.state c.args.session.now c.poll_write_response_header.new.self
+    c.in-Some.entry c.in-Ok.headers.1 c.poll_write_response_header.new.header c.args.now
+    c.poll_write_response_header.result h b.1 c.poll_write_response_header.ensures.writes in
+    let ready = ready_is _ c.in-Ready-Ok.field-0 (Ok c.in-Ready-Ok.field-0-0) c.in-Ready-Ok.is
+    c.in-Ready-Ok.field-0-is in
+    let none = out_where_done g.L.Link.state c.args.session.now
+    c.poll_write_response_header.new.self h.request (Some h.reply.header)
+    c.poll_write_response_header.new.header c.args.now c.poll_write_response_header.result
+    c.in-Ready-Ok.field-0-0 t ready in
+    let w = writes_header g.L.Link.state c.args.session.now c.poll_write_response_header.new.self
+    h.request (Some h.reply.header) c.poll_write_response_header.new.header c.args.now
+    c.poll_write_response_header.result t none in
+    w.writes.sent.unread
+
+pub returns-then-is_none-clause-few : goal.returns-then-is_none-clause-few
+returns-then-is_none-clause-few g c =
+    let h = at_take_header (g.SV.ServeHttp.runs c.args.server.now.app) c.args.session.now
+    c.args.last.now c.args.stage.now c.in-Some.entry c.requires.at c.in-Some.is
+    c.requires.sound in
+    let b = at_some (λ reply. (c.in-Ok.headers.0 ≡ reply.header) ×
+    (c.in-Ok.headers.1 ≡ Some reply.header)) c.in-Some.entry.reply h.reply h.replied.is
+    c.in-Ok.ensures.ok in
+    let t = taking_header g.L.Link.state c.args.session.now c.poll_write_response_header.new.self
+    c.in-Some.entry c.in-Ok.headers.1 c.poll_write_response_header.new.header c.args.now
+    c.poll_write_response_header.result h b.1 c.poll_write_response_header.ensures.writes in
+    let none = out_where_none c.poll_write_response_header.new.header c.is_none.result
+    c.is_none.ensures c.if-is_none.true in
+    let w = writes_header g.L.Link.state c.args.session.now c.poll_write_response_header.new.self
+    h.request (Some h.reply.header) c.poll_write_response_header.new.header c.args.now
+    c.poll_write_response_header.result t none in
+    w.writes.sent.unread
+
+pub returns-else-is_none-clause-few : goal.returns-else-is_none-clause-few
+returns-else-is_none-clause-few g c =
+    let h = at_take_header (g.SV.ServeHttp.runs c.args.server.now.app) c.args.session.now
+    c.args.last.now c.args.stage.now c.in-Some.entry c.requires.at c.in-Some.is
+    c.requires.sound in
+    let b = at_some (λ reply. (c.in-Ok.headers.0 ≡ reply.header) ×
+    (c.in-Ok.headers.1 ≡ Some reply.header)) c.in-Some.entry.reply h.reply h.replied.is
+    c.in-Ok.ensures.ok in
+    let t = taking_header g.L.Link.state c.args.session.now c.poll_write_response_header.new.self
+    c.in-Some.entry c.in-Ok.headers.1 c.poll_write_response_header.new.header c.args.now
+    c.poll_write_response_header.result h b.1 c.poll_write_response_header.ensures.writes in
+    let same = same_where_kept g.L.Link.state c.args.session.now
+    c.poll_write_response_header.new.self h.request (Some h.reply.header)
+    c.poll_write_response_header.new.header c.args.now c.poll_write_response_header.result
+    c.is_none.result t c.is_none.ensures c.if-is_none.false in
+    ap (λ x. (g.L.Link.state x.link).read_waits) same

@@ -16,13 +16,13 @@ returns-in-Pending-clause-since g c =
     c.poll_write_body-answer.result c.written_bytes-entry.result w (rw c.in-Some.is at s)
 
 pub returns-in-Pending-clause-extends : goal.returns-in-Pending-clause-extends
-returns-in-Pending-clause-extends g c =
+returns-in-Pending-clause-extends g c = λ shutdown.
     let h = at_body (g.SV.ServeHttp.runs c.args.server.now.app) c.args.session.now c.args.last.now
     c.args.stage.now c.in-Some.entry c.requires.at c.in-Some.is c.requires.sound in
     let w = body_call g.L.Link.state c.args.session.now c.poll_write_body-answer.new.self
     c.in-Some.entry c.poll_write_body-answer.new.buf c.poll_write_body-answer.result h
     c.poll_write_body-answer.ensures.writes in
-    rw c.in-Some.is (piece_grows g.L.Link.state c.args.session.now c.poll_write_body-answer.new.self
+    rw c.in-Some.is (piece_grows g.L.Link.state c.args.now c.args.session.now c.poll_write_body-answer.new.self
     c.in-Some.entry c.poll_write_body-answer.new.buf c.poll_write_body-answer.result
     c.written_bytes-entry.result h w c.written_bytes-entry.ensures)
 
@@ -51,13 +51,13 @@ returns-in-Ready-Ok-clause-since g c =
     c.poll_write_body-answer.result c.written_bytes-entry.result w (rw c.in-Some.is at s)
 
 pub returns-in-Ready-Ok-clause-extends : goal.returns-in-Ready-Ok-clause-extends
-returns-in-Ready-Ok-clause-extends g c =
+returns-in-Ready-Ok-clause-extends g c = λ shutdown.
     let h = at_body (g.SV.ServeHttp.runs c.args.server.now.app) c.args.session.now c.args.last.now
     c.args.stage.now c.in-Some.entry c.requires.at c.in-Some.is c.requires.sound in
     let w = body_call g.L.Link.state c.args.session.now c.poll_write_body-answer.new.self
     c.in-Some.entry c.poll_write_body-answer.new.buf c.poll_write_body-answer.result h
     c.poll_write_body-answer.ensures.writes in
-    rw c.in-Some.is (piece_grows g.L.Link.state c.args.session.now c.poll_write_body-answer.new.self
+    rw c.in-Some.is (piece_grows g.L.Link.state c.args.now c.args.session.now c.poll_write_body-answer.new.self
     c.in-Some.entry c.poll_write_body-answer.new.buf c.poll_write_body-answer.result
     c.written_bytes-entry.result h w c.written_bytes-entry.ensures)
 
@@ -90,12 +90,39 @@ returns-clause-since g c =
     c.poll_write_body-answer.result c.written_bytes-entry.result w (rw c.in-Some.is at s)
 
 pub returns-clause-extends : goal.returns-clause-extends
-returns-clause-extends g c =
+returns-clause-extends g c = λ shutdown.
     let h = at_body (g.SV.ServeHttp.runs c.args.server.now.app) c.args.session.now c.args.last.now
     c.args.stage.now c.in-Some.entry c.requires.at c.in-Some.is c.requires.sound in
     let w = body_call g.L.Link.state c.args.session.now c.poll_write_body-answer.new.self
     c.in-Some.entry c.poll_write_body-answer.new.buf c.poll_write_body-answer.result h
     c.poll_write_body-answer.ensures.writes in
-    rw c.in-Some.is (piece_grows g.L.Link.state c.args.session.now c.poll_write_body-answer.new.self
+    rw c.in-Some.is (piece_grows g.L.Link.state c.args.now c.args.session.now c.poll_write_body-answer.new.self
     c.in-Some.entry c.poll_write_body-answer.new.buf c.poll_write_body-answer.result
     c.written_bytes-entry.result h w c.written_bytes-entry.ensures)
+
+pub returns-in-Pending-clause-few : goal.returns-in-Pending-clause-few
+returns-in-Pending-clause-few g c =
+    let h = at_body (g.SV.ServeHttp.runs c.args.server.now.app) c.args.session.now c.args.last.now
+    c.args.stage.now c.in-Some.entry c.requires.at c.in-Some.is c.requires.sound in
+    let w = body_call g.L.Link.state c.args.session.now c.poll_write_body-answer.new.self
+    c.in-Some.entry c.poll_write_body-answer.new.buf c.poll_write_body-answer.result h
+    c.poll_write_body-answer.ensures.writes in
+    w.writes.sent.unread
+
+pub returns-in-Ready-Ok-clause-few : goal.returns-in-Ready-Ok-clause-few
+returns-in-Ready-Ok-clause-few g c =
+    let h = at_body (g.SV.ServeHttp.runs c.args.server.now.app) c.args.session.now c.args.last.now
+    c.args.stage.now c.in-Some.entry c.requires.at c.in-Some.is c.requires.sound in
+    let w = body_call g.L.Link.state c.args.session.now c.poll_write_body-answer.new.self
+    c.in-Some.entry c.poll_write_body-answer.new.buf c.poll_write_body-answer.result h
+    c.poll_write_body-answer.ensures.writes in
+    w.writes.sent.unread
+
+pub returns-clause-few : goal.returns-clause-few
+returns-clause-few g c =
+    let h = at_body (g.SV.ServeHttp.runs c.args.server.now.app) c.args.session.now c.args.last.now
+    c.args.stage.now c.in-Some.entry c.requires.at c.in-Some.is c.requires.sound in
+    let w = body_call g.L.Link.state c.args.session.now c.poll_write_body-answer.new.self
+    c.in-Some.entry c.poll_write_body-answer.new.buf c.poll_write_body-answer.result h
+    c.poll_write_body-answer.ensures.writes in
+    w.writes.sent.unread

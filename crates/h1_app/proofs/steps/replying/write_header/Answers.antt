@@ -19,7 +19,7 @@ returns-in-Pending-clause-since g c =
     (rw c.in-Some.is at s)
 
 pub returns-in-Pending-clause-extends : goal.returns-in-Pending-clause-extends
-returns-in-Pending-clause-extends g c =
+returns-in-Pending-clause-extends g c = λ shutdown.
     let h = at_header (g.SV.ServeHttp.runs c.args.server.now.app) c.args.session.now c.args.last.now
     c.args.stage.now c.in-Some.entry c.requires.at c.in-Some.is c.requires.sound in
     let w = header_call g.L.Link.state c.args.session.now
@@ -61,7 +61,7 @@ returns-in-Ready-Ok-clause-since g c =
     (rw c.in-Some.is at s)
 
 pub returns-in-Ready-Ok-clause-extends : goal.returns-in-Ready-Ok-clause-extends
-returns-in-Ready-Ok-clause-extends g c =
+returns-in-Ready-Ok-clause-extends g c = λ shutdown.
     let h = at_header (g.SV.ServeHttp.runs c.args.server.now.app) c.args.session.now c.args.last.now
     c.args.stage.now c.in-Some.entry c.requires.at c.in-Some.is c.requires.sound in
     let w = header_call g.L.Link.state c.args.session.now
@@ -108,7 +108,7 @@ returns-clause-since g c =
     (rw c.in-Some.is at s)
 
 pub returns-clause-extends : goal.returns-clause-extends
-returns-clause-extends g c =
+returns-clause-extends g c = λ shutdown.
     let h = at_header (g.SV.ServeHttp.runs c.args.server.now.app) c.args.session.now c.args.last.now
     c.args.stage.now c.in-Some.entry c.requires.at c.in-Some.is c.requires.sound in
     let w = header_call g.L.Link.state c.args.session.now
@@ -120,3 +120,36 @@ returns-clause-extends g c =
     c.poll_write_response_header-answer.new.self c.in-Some.entry c.args.now
     c.poll_write_response_header-answer.result c.written_bytes-entry.result h w
     c.written_bytes-entry.ensures)
+
+pub returns-in-Pending-clause-few : goal.returns-in-Pending-clause-few
+returns-in-Pending-clause-few g c =
+    let h = at_header (g.SV.ServeHttp.runs c.args.server.now.app) c.args.session.now c.args.last.now
+    c.args.stage.now c.in-Some.entry c.requires.at c.in-Some.is c.requires.sound in
+    let w = header_call g.L.Link.state c.args.session.now
+    c.poll_write_response_header-answer.new.self c.in-Some.entry
+    c.poll_write_response_header-answer.new.header c.args.now
+    c.poll_write_response_header-answer.result h
+    c.poll_write_response_header-answer.ensures.writes in
+    w.writes.sent.unread
+
+pub returns-in-Ready-Ok-clause-few : goal.returns-in-Ready-Ok-clause-few
+returns-in-Ready-Ok-clause-few g c =
+    let h = at_header (g.SV.ServeHttp.runs c.args.server.now.app) c.args.session.now c.args.last.now
+    c.args.stage.now c.in-Some.entry c.requires.at c.in-Some.is c.requires.sound in
+    let w = header_call g.L.Link.state c.args.session.now
+    c.poll_write_response_header-answer.new.self c.in-Some.entry
+    c.poll_write_response_header-answer.new.header c.args.now
+    c.poll_write_response_header-answer.result h
+    c.poll_write_response_header-answer.ensures.writes in
+    w.writes.sent.unread
+
+pub returns-clause-few : goal.returns-clause-few
+returns-clause-few g c =
+    let h = at_header (g.SV.ServeHttp.runs c.args.server.now.app) c.args.session.now c.args.last.now
+    c.args.stage.now c.in-Some.entry c.requires.at c.in-Some.is c.requires.sound in
+    let w = header_call g.L.Link.state c.args.session.now
+    c.poll_write_response_header-answer.new.self c.in-Some.entry
+    c.poll_write_response_header-answer.new.header c.args.now
+    c.poll_write_response_header-answer.result h
+    c.poll_write_response_header-answer.ensures.writes in
+    w.writes.sent.unread
