@@ -16,7 +16,8 @@ use Rattle.h1_app.specs.declared.exchange.Stage.{Stage}
 use Rattle.h1_app.specs.declared.exchange.Stage.TheVariants as stage
 use Rattle.h1_app.specs.View.{View, entries}
 use Rattle.h1_app.specs.Since.{Since}
-use Rattle.h1_app.specs.Agrees.{Agrees, Extends}
+use Rattle.h1_app.specs.Agrees.{Agrees}
+use Rattle.h1_app.specs.Growth.{Extends}
 use Rattle.h1_app.specs.Causes.{Cause, WaitCause, PendedBy}
 use Rattle.h1_app.specs.Echo.{EchoGives}
 use Rattle.h1_words.specs.declared.command.Command.TheVariants as command
@@ -28,13 +29,11 @@ use Rattle.h1_serve.specs.Done.{ObeysOnce}
 
 -- the job of an application that is never slow
 no_pending : {J : Type 0} (begins : J → Type 0) (from to : Stage J) → PendedBy begins (λ _. 0) from to → ⊥
-no_pending begins from (stage.Answer job) p = let rose = p.2 in absurd (omega arith)
-no_pending begins from stage.Head p = p
-no_pending begins from stage.TakeHeader p = p
-no_pending begins from stage.Header p = p
-no_pending begins from stage.TakeBody p = p
-no_pending begins from stage.Body p = p
-no_pending begins from stage.Finish p = p
+no_pending begins (stage.Answer before) (stage.Answer job) p = omega (arith, p)
+no_pending begins stage.Head (stage.Answer job) p = omega (arith, p.2)
+no_pending begins (stage.Answer before) _ p = p
+no_pending begins stage.Head _ p = p
+no_pending begins _ to p = p
 
 pends_for : {A J : Type 0} (begins : J → Type 0) (from to : View MemState A J) (what : Waiting)
     → NothingFailed to.session.link.state
@@ -124,20 +123,21 @@ waited old new plan before behind more =
     (all_given new behind (omega (arith, all.0)), ap is_some all.1)
 
 -- what a poll of the connection ensures
-pub record Polled {A J : Type 0} (begins : J → Type 0) (old : View MemState A J) (answer : Progress) (new : View MemState A J) : Type 0 where
+pub record Polled {A J : Type 0} (begins : J → Type 0) (moment : ℕ) (old : View MemState A J) (answer : Progress) (new : View MemState A J) : Type 0 where
   pub later : Later old.session.link.state new.session.link.state
   pub plan : SamePlan old.session.link new.session.link
   pub since : Since link_state new_mem_state.state new.session new.last
   pub agrees : Agrees EchoGives new_mem_state.state new.session.link.state (entries new)
-  pub extends : Extends (entries old) (entries new)
+  pub extends : Extends moment false old.session.link.state new.session.link.state (entries old) (entries new)
   pub most : new.session.link.state.moves ≤ old.session.link.state.moves + 64
+  pub few : new.session.link.state.read_waits ≤ old.session.link.state.read_waits + 1
   pub ended : IfSome old.end (λ reason. (answer ≡ progress.Ready reason) × (new ≡ old))
   pub cause : IfNone old.end (Cause link_state begins (λ _. 0) new_mem_state.state old new answer)
 
-polls : {A J : Type 0} (begins : J → Type 0) (place : Place) (old new : View MemState A J) (answer : Progress)
-    → IsRunning place old → Polled begins old answer new → Rule old.session.link → Rule new.session.link → IsAnswered answer
-    → Polls (state_of old) answer (state_of new)
-polls begins place old new answer running polled before behind answered =
+polls : {A J : Type 0} (begins : J → Type 0) (place : Place) (moment : ℕ) (old new : View MemState A J) (answer : Progress)
+    → IsRunning place old → Polled begins moment old answer new → Rule old.session.link → Rule new.session.link → IsAnswered answer
+    → Polls moment (state_of old) answer (state_of new)
+polls begins place moment old new answer running polled before behind answered =
     let link = stays_scripted place.ended old.session.link new.session.link running.link polled.plan in
     let faultless = nothing_failed place.ended new.session.link link behind in
     record {
@@ -151,19 +151,20 @@ polls begins place old new answer running polled before behind answered =
       waits = waited old.session.link new.session.link polled.plan before behind;
       faultless = faultless;
       most = polled.most;
+      few = polled.few;
       again = if_some old.end _ _ (λ reason same. (same.0, ap state_of same.1)) polled.ended;
       cause = if_none old.end _ _ (answer_cause begins old new answer faultless answered) polled.cause;
     }
 
 -- one poll obeys its line
 pub polls_once : {A J : Type 0} (begins : J → Type 0) (place : Place) (old new : View MemState A J) (moment : ℕ) (answer : Progress) (text behind_text : List ℕ)
-    → IsRunning place old → Polled begins old answer new → Rule old.session.link → Rule new.session.link → IsAnswered answer
+    → IsRunning place old → Polled begins moment old answer new → Rule old.session.link → Rule new.session.link → IsAnswered answer
     → behind_text ≡ text ++ poll_line moment answer
     → ObeysOnce place old (command.Poll moment) text new behind_text
 polls_once begins place old new moment answer text behind_text running polled before behind answered is = record {
   line = poll_line moment answer;
   text_is = is;
-  obeys = (answer, refl, polls begins place old new answer running polled before behind answered);
+  obeys = (answer, refl, polls begins place moment old new answer running polled before behind answered);
   running = record {
     since = polled.since;
     link = stays_scripted place.ended old.session.link new.session.link running.link polled.plan;

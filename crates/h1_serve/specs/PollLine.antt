@@ -12,7 +12,8 @@ use Rattle.h1_link.specs.LinkState.{LinkState}
 use Rattle.h1_link.specs.Counts.{Rose, RoseBy}
 use Rattle.h1_link.specs.Later.{Later}
 use Rattle.h1_words.specs.Report.{answer_text}
-use Rattle.h1_app.specs.Agrees.{Agrees, Extends}
+use Rattle.h1_app.specs.Agrees.{Agrees}
+use Rattle.h1_app.specs.Growth.{Extends}
 use Rattle.h1_app.specs.Causes.{EndCause, LacksSo, ToldGrowth}
 use Rattle.h1_app.specs.Echo.{EchoGives}
 use Rattle.h1_app.specs.Since.{IfTold}
@@ -51,14 +52,14 @@ AnswerCause s t (progress.Pending what) = (t.end ≡ None) × PendsFor s t what
 AnswerCause s t (progress.Ready reason) = (t.end ≡ Some reason) × HasMemory reason
     × EndCause start.link s.link t.link t.last reason
 
--- One poll, between two states: what was read and written agrees with the transcript, and goes on
+-- One poll at a moment, between two states: what was read and written agrees with the transcript, and goes on
 -- from the state before; the link gave only what was put ahead, and the answer has its cause.
-pub record Polls (s : State) (answer : Progress) (t : State) : Type 0 where
+pub record Polls (moment : ℕ) (s : State) (answer : Progress) (t : State) : Type 0 where
   pub put : t.put ≡ s.put
   pub said : t.said ≡ s.said
   pub later : Later s.link t.link
   pub agrees : Agrees EchoGives start.link t.link (transcript t)
-  pub extends : Extends (transcript s) (transcript t)
+  pub extends : Extends moment false s.link t.link (transcript s) (transcript t)
   pub given : t.link.given ≡ Some (take t.link.bytes_in t.put)
   -- the end was met only where it was said, behind all that was put ahead
   pub ended : IsTrue t.link.ended → (t.said ≡ true) × (t.link.given ≡ Some t.put)
@@ -66,6 +67,7 @@ pub record Polls (s : State) (answer : Progress) (t : State) : Type 0 where
   pub waits : s.link.read_waits < t.link.read_waits → (t.link.given ≡ Some t.put) × (t.said ≡ false)
   pub faultless : NothingFailed t.link
   pub most : t.link.moves ≤ s.link.moves + 64
+  pub few : t.link.read_waits ≤ s.link.read_waits + 1
   -- behind an end nothing more comes
   pub again : IfSome s.end (λ reason. (answer ≡ progress.Ready reason) × (t ≡ s))
   pub cause : IfNone s.end (AnswerCause s t answer)

@@ -13,7 +13,7 @@ abbrev pub Obeys : State → Command → List ℕ → State → Type 0
 Obeys s (command.Give bytes) text t = (text ≡ []) × (t ≡ record s { put = s.put ++ bytes })
 Obeys s command.End text t = (text ≡ []) × (t ≡ record s { said = true })
 Obeys s (command.Poll moment) text t =
-    (answer : Progress) × (text ≡ poll_line moment answer) × Polls s answer t
+    (answer : Progress) × (text ≡ poll_line moment answer) × Polls moment s answer t
 
 -- the commands one after the other, and what each writes
 abbrev pub Lines : State → List Command → List ℕ → State → Type 0

@@ -22,6 +22,7 @@ returns c =
       agrees = polled.agrees new_mem_state.state running.since;
       extends = polled.extends;
       most = polled.most;
+      few = polled.few;
       ended = polled.ended;
       cause = if_none c.args.connection.now.end _ _ (λ cause. cause new_mem_state.state running.since) polled.cause;
     }) before behind c.in_ok-check_memory.ensures is) c.push.ensures.ok
