@@ -1,11 +1,24 @@
 -- Lemmas on reads of a part of a body, one behind the other.
-use Rattle.std.proofs.Common.{◌≡◌, ℕ, ◌+◌, ◌-◌, ◌≤◌, List, [], ◌++◌, length, Option, Some, None, option_map, refl, sym, ap, ◌∙◌, append-nil, append_assoc, length-append, arith}
+use Rattle.std.proofs.Common.{◌≡◌, ℕ, ◌+◌, ◌-◌, ◌*◌, ◌<◌, ◌≤◌, inl, inr, List, [], ◌∷◌, ◌++◌, length, Option, Some, None, option_map, refl, sym, ap, ◌∙◌, append-nil, append_assoc, length-append, arith}
 use Rattle.h1_link.specs.LinkState.{LinkState}
-use Rattle.h1_body.specs.Body.{ahead}
-use Rattle.h1_body.specs.Reader.{reads}
+use Rattle.std.proofs.lemmas.Bool.{cases_lt}
+use Rattle.std.proofs.Math.Seq.{take-nil}
+use Rattle.h1_link.specs.Later.{Later}
+use Rattle.h1_link.proofs.Laters.{later_itself, rose_read_faults}
+use Rattle.h1_body.specs.Body.{Body, whole, unfinished, broken, ahead, payload_of, stop_of}
+use Rattle.h1_body.specs.Chunks.{state_of}
+use Rattle.h1_body.specs.declared.fed.FeedState.{FeedState}
+use Rattle.h1_body.specs.declared.fed.FeedState.TheVariants.{More, Done, Broken}
+use Rattle.h1_body.specs.declared.reader.Reading.{Reading}
+use Rattle.h1_body.specs.declared.reader.Reading.TheVariants as reading
+use Rattle.h1_body.proofs.CountedLemmas.{counted_has, counted_lacks}
+use Rattle.h1_body.specs.Reader.{reads, read_as}
 use Rattle.h1_body.specs.declared.reader.BodyReader.{BodyReader}
 use Rattle.h1_body.proofs.RunLemmas.{ahead-ahead, ahead_none}
-use Rattle.h1_server.specs.Decoding.{Decoded, ReadsBody}
+use Rattle.h1_server.specs.Decoding.{Decoded, ReadsBody, BodyCause, IsStopOf}
+use Rattle.h1_server.specs.Decoding as decoded
+use Rattle.h1_server.specs.declared.reading_body.BodyRead.{BodyRead}
+use Rattle.h1_server.specs.declared.reading_body.BodyRead.TheVariants as b
 use Rattle.h1_server.specs.Taking.{Uses}
 use Rattle.h1_server.specs.Receiving.{FillsBy, cost}
 use Rattle.h1_server.specs.declared.receiving.Filled.{Filled}
@@ -100,3 +113,91 @@ reads_body_free a b c x y z r s k l budget left filled free before fills =
 -- what is received stays empty where a read gives nothing
 pub stays_empty : (y z piece : List ℕ) → y ≡ [] → piece ≡ [] → z ≡ y ++ piece → z ≡ []
 stays_empty y z piece none nothing is = cc
+
+-- one reading behind another
+pub reads_body_on : (a b c : LinkState) (x y z : List ℕ) (r s t : BodyReader) (k l m : Option (List ℕ)) (budget between left : ℕ) (payload later : List ℕ)
+    → ReadsBody a b x y r s k l budget between payload → ReadsBody b c y z s t l m between left later
+    → ReadsBody a c x z r t k m budget left (payload ++ later)
+reads_body_on a b c x y z r s t k l m budget between left payload later first second = record {
+  piece = first.piece ++ second.piece;
+  used = first.used ++ second.used;
+  moved = let spent : budget - left ≡ (budget - between) + (between - left) = omega (arith, first.within, second.within) in
+      rw spent (moved_on a b c first.piece second.piece [] [] _ _ first.moved second.moved);
+  within = omega (arith, first.within, second.within);
+  flushed = second.flushed ∙ first.flushed;
+  bytes = bytes_on x y z first.piece second.piece first.used second.used first.bytes second.bytes;
+  decoded = decoded_on r s t first.used second.used payload later first.decoded second.decoded;
+  keeps_payload = kept_on k l m payload later first.keeps_payload second.keeps_payload;
+}
+
+pub payload_ahead : (front : List ℕ) (used : ℕ) (b : Body) → payload_of (ahead front used b) ≡ front ++ payload_of b
+payload_ahead front used (whole payload n) = refl
+payload_ahead front used (unfinished payload) = refl
+payload_ahead front used (broken payload) = refl
+
+-- a reader makes no payload of no bytes
+pub nothing_read : (reading : Reading) → payload_of (read_as reading []) ≡ []
+nothing_read (reading.Counted left) = elim (cases_lt 0 left) [
+  | inl some ↦ ap payload_of (counted_lacks left [] some)
+  | inr none ↦ ap payload_of (counted_has left [] none) ∙ take-nil left
+]
+nothing_read (reading.Chunked place) = stops (state_of place) where
+  stops : (s : FeedState) → payload_of (stop_of s) ≡ []
+  stops More = refl
+  stops Done = refl
+  stops Broken = refl
+nothing_read reading.UntilClose = refl
+nothing_read reading.Ended = refl
+
+-- payload comes of bytes that are used
+uses_some : (r s : BodyReader) (used payload : List ℕ) → Decoded r s used payload → 0 < length payload → 0 < length used
+uses_some r s [] payload d some =
+    let same : [] ≡ payload ++ payload_of (reads s []) =
+    sym (nothing_read r.reading) ∙ ap payload_of (d.reads []) ∙ payload_ahead payload 0 (reads s []) in
+    let long : 0 ≡ length payload + length (payload_of (reads s [])) = ap length same ∙ length-append payload (payload_of (reads s [])) in
+    absurd (omega (arith, long, some))
+uses_some r s (b ∷ used) payload d some = omega arith
+
+-- a read that gave payload spent budget, or used what was received
+pub drains_less : (a b : LinkState) (x y : List ℕ) (r s : BodyReader) (k l : Option (List ℕ)) (budget left : ℕ) (payload : List ℕ)
+    → ReadsBody a b x y r s k l budget left payload → 0 < length payload → length y < 9223372036854775808
+    → left * 9223372036854775808 + length y < budget * 9223372036854775808 + length x
+drains_less a b x y r s k l budget left payload read some bound = elim (cases_lt left budget) [
+  | inl less ↦ omega (arith, less, bound)
+  | inr same ↦
+      let none : budget - left ≡ 0 = omega (arith, same, read.within) in
+      let no_piece : read.piece ≡ [] = (read.moved.free none).0 in
+      let bytes : length x ≡ length read.used + length y =
+      ap length (sym (append-nil x) ∙ ap (λ p. x ++ p) (sym no_piece) ∙ read.bytes) ∙ length-append read.used y in
+      let used = uses_some r s read.used payload read.decoded some in
+      omega (arith, same, read.within, bytes, used)
+]
+
+-- a reading that goes on gave payload
+pub gave_payload : (before now : LinkState) (reader : BodyReader) (received : List ℕ) (left : ℕ) (read : BodyRead)
+    → IsStopOf read None → BodyCause before now reader received (decoded.payload_of read) left read
+    → (0 < length (decoded.payload_of read)) × (now.read_waits ≡ before.read_waits)
+gave_payload before now reader received left (b.Piece bytes) stop h = h
+gave_payload before now reader received left _ stop h = absurd cc
+
+-- why a drain stops is why its last read does
+pub drained_cause : (before mid now : LinkState) (reader : BodyReader) (received : List ℕ) (left : ℕ) (read stop : BodyRead)
+    → Later before mid → mid.read_waits ≡ before.read_waits → IsStopOf read (Some stop)
+    → BodyCause mid now reader received (decoded.payload_of read) left read → BodyCause before now reader received [] left stop
+drained_cause before mid now reader received left read stop later waits is h = by read is h
+  where
+    by : (read : BodyRead) → IsStopOf read (Some stop)
+        → BodyCause mid now reader received (decoded.payload_of read) left read → BodyCause before now reader received [] left stop
+    by (b.Piece bytes) is h = absurd cc
+    by b.Done is h = let same : stop ≡ b.Done = cc in rw same (h.0, h.1 ∙ waits)
+    by b.Broken is h = let same : stop ≡ b.Broken = cc in rw same (h.0, h.1 ∙ waits)
+    by b.Cut is h = let same : stop ≡ b.Cut = cc in rw same (h.0, h.1, h.2 ∙ waits)
+    by b.NotReady is h = let same : stop ≡ b.NotReady = cc in rw same (rw waits at h.0, h.1)
+    by b.Spent is h = let same : stop ≡ b.Spent = cc in rw same h
+    by b.Failed is h = let same : stop ≡ b.Failed = cc in
+        rw same (rose_read_faults 1 before mid now now later h.0 (later_itself now), h.1, h.2 ∙ waits)
+    by b.NoMemory is h = let same : stop ≡ b.NoMemory = cc in rw same (h ∙ waits)
+
+pub stop_pays_nothing : (read stop : BodyRead) → IsStopOf read (Some stop) → decoded.payload_of read ≡ []
+stop_pays_nothing (b.Piece bytes) stop is = absurd cc
+stop_pays_nothing _ stop is = refl

@@ -4,3 +4,4 @@ pub mod BodyLemmas
 pub mod SessionLemmas
 pub mod DeliveryLemmas
 pub mod ReplyLemmas
+pub mod ReuseLemmas

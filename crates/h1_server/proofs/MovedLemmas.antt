@@ -20,6 +20,7 @@ moved_itself s = record {
   rose = omega arith;
   most = omega arith;
   enough = omega arith;
+  free = λ none. (refl, refl);
   out = omega arith;
   later = later_itself s;
 }
@@ -37,6 +38,10 @@ moved_on a b c read more wrote further spent then first second = record {
   rose = omega arith;
   most = omega arith;
   enough = omega (arith, length-append read more, length-append wrote further);
+  free = λ none.
+      let front = first.free (omega (arith, none)) in
+      let back = second.free (omega (arith, none)) in
+      (rw (front.0, back.0) refl, rw (front.1, back.1) refl);
   out = omega (arith, length-append wrote further);
   later = later_on _ _ _ first.later second.later;
 }
@@ -90,6 +95,7 @@ sent_one s owed front n budget is some within spend = record {
     rose = omega arith;
     most = omega arith;
     enough = omega (arith, length-take-le n front within);
+    free = λ none. absurd (omega (arith, none, spend));
     out = let taken : length (take n front) ≡ n = length-take-le n front within in omega arith;
     later = later_bytes_taken s front n some;
   });

@@ -34,6 +34,7 @@ pub record IsWritten {L : Type 0} (state : L → LinkState) (old new : SessionVi
   pub refused : new.refused ≡ old.refused
   pub body : new.body ≡ old.body
   pub settings : new.settings ≡ old.settings
+  pub reusable : new.reusable ≡ old.reusable
 
 pub writes : {L : Type 0} (state : L → LinkState) (old new : SessionView L) (taken : ReplyState) (left : ℕ) (taking : List ℕ)
     → IsWritten state old new taken left → taken.owed ≡ old.reply.owed ++ taking → taken.sent ≡ old.reply.sent
@@ -54,6 +55,7 @@ writes {L} state old new taken left taking written owes counts done =
       refused = written.refused;
       body = written.body;
       settings = written.settings;
+      reusable = written.reusable;
       counted = done.counted ∙ counted_sent taken.sent taken.owed new.reply.owed written.sent.piece written.sent.bytes
           ∙ ap (λ n. min (n + length written.sent.piece) (2 ^ 64 - 1)) counts;
     }

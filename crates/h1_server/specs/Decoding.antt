@@ -1,5 +1,5 @@
 -- Reading a part of a body (RFC 9112, sections 6 and 8).
-use Rattle.std.specs.Prelude.{◌≡◌, ℕ, ◌-◌, ◌≤◌, ◌<◌, List, [], ◌++◌, length, true, Option, option_map}
+use Rattle.std.specs.Prelude.{◌≡◌, ℕ, ◌-◌, ◌≤◌, ◌<◌, List, [], ◌++◌, length, true, Option, Some, None, option_map}
 use Rattle.h1_link.specs.LinkState.{LinkState}
 use Rattle.h1_link.specs.Counts.{Rose}
 use Rattle.h1_body.specs.Body.{whole, unfinished, broken, ahead}
@@ -55,3 +55,14 @@ payload_of b.NotReady = []
 payload_of b.Spent = []
 payload_of b.Failed = []
 payload_of b.NoMemory = []
+
+-- behind payload there may be more, and all else is the end of a reading
+abbrev pub IsStopOf : BodyRead → Option BodyRead → Type 0
+IsStopOf (b.Piece bytes) stop = stop ≡ None
+IsStopOf b.Done stop = stop ≡ Some b.Done
+IsStopOf b.Broken stop = stop ≡ Some b.Broken
+IsStopOf b.Cut stop = stop ≡ Some b.Cut
+IsStopOf b.NotReady stop = stop ≡ Some b.NotReady
+IsStopOf b.Spent stop = stop ≡ Some b.Spent
+IsStopOf b.Failed stop = stop ≡ Some b.Failed
+IsStopOf b.NoMemory stop = stop ≡ Some b.NoMemory

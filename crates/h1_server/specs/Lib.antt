@@ -18,3 +18,4 @@ pub mod EndWrites
 pub mod Replies
 pub mod HeadBytes
 pub mod TakingUp
+pub mod Reuse

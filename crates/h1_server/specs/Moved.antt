@@ -13,6 +13,7 @@ pub record Moved (before now : LinkState) (read wrote : List ℕ) (spent : ℕ) 
   pub rose : RoseBy spent before.moves now.moves
   pub most : now.moves ≤ before.moves + spent
   pub enough : spent ≤ length read + length wrote
+  pub free : spent ≡ 0 → (read ≡ []) × (wrote ≡ [])
   pub out : RoseBy (length wrote) before.bytes_out now.bytes_out
   pub later : Later before now
 

@@ -50,6 +50,7 @@ pub record ReadsPayload {L : Type 0} (state : L → LinkState) (old new : Sessio
   pub request : new.request ≡ old.request
   pub refused : new.refused ≡ old.refused
   pub reply : new.reply ≡ old.reply
+  pub reusable : new.reusable ≡ old.reusable
   -- a read was not ready at most once
   pub few : (state new.link).read_waits ≤ (state old.link).read_waits + 1
   pub settings : new.settings ≡ old.settings

@@ -1,5 +1,5 @@
 -- When a connection persists behind a reply (RFC 9112, section 9.3).
-use Rattle.std.specs.Prelude.{Bool, true, false, ◌&&◌, ◌||◌, not, is_none, []}
+use Rattle.std.specs.Prelude.{ℕ, nat_lt, Bool, true, false, ◌&&◌, ◌||◌, not, Option, Some, None, is_none, []}
 use Rattle.h1_body.specs.Body.{Body, whole, unfinished, broken}
 use Rattle.h1_body.specs.Reader.{reads}
 use Rattle.h1_server.specs.declared.body.BodyState.{BodyState}
@@ -15,9 +15,14 @@ is_whole (broken payload) = false
 abbrev pub is_body_whole : BodyState → Bool
 is_body_whole body = is_whole (reads body.reader []) && is_none body.refused
 
--- The flag of a final header: the request wishes it, keep-alive is not off, and the request's body
--- is whole, or it may still be read behind the reply.
+-- there is no limit of requests, or some are left
+abbrev pub has_reuses : Option ℕ → Bool
+has_reuses None = true
+has_reuses (Some left) = nat_lt 0 left
+
+-- The flag of a final header: the request wishes it, keep-alive is not off, requests are left, and
+-- the request's body is whole, or it may still be read behind the reply.
 abbrev pub keep_flag : Bool → Settings → BodyState → Bool
 keep_flag wish settings body =
-    wish && not settings.keep_off
+    wish && not settings.keep_off && has_reuses settings.reuses
     && (is_body_whole body || (not settings.closing && is_none body.refused))

@@ -1,5 +1,5 @@
 -- Reading a request's head (RFC 9112, sections 2.2 and 3).
-use Rattle.std.specs.Prelude.{◌≡◌, ℕ, ◌+◌, ◌<◌, ◌≤◌, ◌⊎◌, List, [], length, take, drop, true, false, not, Option, Some, None, option_map, Result, Ok, Err}
+use Rattle.std.specs.Prelude.{◌≡◌, ℕ, ◌+◌, ◌<◌, ◌≤◌, ◌⊎◌, List, [], length, take, drop, true, false, Option, Some, None, option_map, Result, Ok, Err}
 use Rattle.futures.specs.declared.task.Poll.{Poll}
 use Rattle.futures.specs.declared.task.Poll.TheVariants.{Ready, Pending}
 use Rattle.h1_error.specs.declared.error.Error.{Error}
@@ -13,6 +13,7 @@ use Rattle.h1_head.specs.Wish.{wish}
 use Rattle.h1_body.specs.Reader.{body, reads}
 use Rattle.h1_server.specs.Moved.{Received}
 use Rattle.h1_body.specs.Framing.{framing}
+use Rattle.h1_server.specs.Keepalive.{keepalive_set, wished}
 use Rattle.h1_server.specs.SessionView.{SessionView, allowance}
 use Rattle.h1_server.specs.declared.request.Request.{Request}
 use Rattle.h1_server.specs.declared.request.ReadRequest.{ReadRequest}
@@ -35,7 +36,7 @@ pub record BeginsRequest {L : Type 0} (old new : SessionView L) (bytes : List �
   pub raw : n ≡ length request.raw
   pub reader : (rest : List ℕ) → reads new.body.reader rest ≡ body request.framing rest
   pub body : new.body ≡ record old.body { reader = new.body.reader; refused = None }
-  pub keep_off : new.settings ≡ record old.settings { keep_off = not request.wish }
+  pub settings : new.settings ≡ keepalive_set old.settings (wished request.wish)
   pub refused : new.refused ≡ None
 
 -- no head was read: the bytes are kept
@@ -82,6 +83,7 @@ pub record ReadsRequest {L : Type 0} (state : L → LinkState) (old new : Sessio
   pub received : Received (state old.link) (state new.link) old.received bytes (allowance old.budget) left
   pub budget : new.budget ≡ option_map (λ _. left) old.budget
   pub reply : new.reply ≡ old.reply
+  pub reusable : new.reusable ≡ old.reusable
   -- a read was not ready at most once
   pub few : (state new.link).read_waits ≤ (state old.link).read_waits + 1
   pub answer : HeadAnswer state old new bytes left outcome

@@ -1,5 +1,5 @@
 -- What contracts see of a server session.
-use Rattle.std.specs.Prelude.{◌≡◌, ℕ, List, [], Option, Some, None, true, false}
+use Rattle.std.specs.Prelude.{◌≡◌, ℕ, List, [], Bool, Option, Some, None, true, false}
 use Rattle.h1_error.specs.declared.error.Error.{Error}
 use Rattle.h1_server.specs.declared.request.Request.{Request}
 use Rattle.h1_server.specs.declared.body.BodyState.{BodyState}
@@ -21,6 +21,8 @@ pub record SessionView (L : Type 0) : Type 0 where
   pub reply : ReplyState
   pub settings : Settings
   pub budget : Option ℕ
+  -- the link may serve the next request
+  pub reusable : Bool
 
 -- how many link calls of this call may move bytes
 abbrev pub allowance : Option ℕ → ℕ
@@ -44,5 +46,6 @@ pub record IsNewSession {L : Type 0} (start : L) (view : SessionView L) : Type 0
   pub refused : view.refused ≡ None
   pub body : (view.body.kept ≡ None) × (view.body.refused ≡ None) × (view.body.waits ≡ false)
   pub reply : (view.reply.owed ≡ []) × (view.reply.step ≡ Free) × (view.reply.headed ≡ false) × (view.reply.refused ≡ None) × (view.reply.sent ≡ 0)
-  pub settings : (view.settings.keep_off ≡ true) × (view.settings.closing ≡ true) × (view.settings.pipelining ≡ false)
+  pub settings : (view.settings.keep_off ≡ true) × (view.settings.keepalive ≡ 0) × (view.settings.closing ≡ true) × (view.settings.pipelining ≡ false) × (view.settings.reuses ≡ None)
   pub budget : view.budget ≡ None
+  pub reusable : view.reusable ≡ false

@@ -20,6 +20,7 @@ pub record Writes {L : Type 0} (state : L → LinkState) (old new : SessionView 
   pub refused : new.refused ≡ old.refused
   pub body : new.body ≡ old.body
   pub settings : new.settings ≡ old.settings
+  pub reusable : new.reusable ≡ old.reusable
   -- how many bytes of the reply were written
   pub counted : new.reply.sent ≡ min (old.reply.sent + length sent.piece) (2 ^ 64 - 1)
 

@@ -1,6 +1,6 @@
 //! Reading a part of a request's body off the link (RFC 9112, section 6).
-ghost use Rattle.std.specs.Prelude.{◌≡◌, ◌≤◌, ◌+◌, ◌-◌};
-ghost use Rattle.h1_server.specs.Decoding.{ReadsBody, BodyCause, payload_of};
+ghost use Rattle.std.specs.Prelude.{◌≡◌, ◌≤◌, ◌+◌, ◌-◌, ℕ, List, []};
+ghost use Rattle.h1_server.specs.Decoding.{ReadsBody, BodyCause, IsStopOf, payload_of};
 
 use crate::receiving::{Filled, fill};
 use crate::taking::{Taken, take};
@@ -60,5 +60,38 @@ pub(crate) fn read_body<L: Link>(
             Filled::Failed => return BodyRead::Failed,
             Filled::NoMemory => return BodyRead::NoMemory,
         }
+    }
+}
+
+/// Reads on until the body ends or can't be read on. It answers no payload.
+pub(crate) fn drain_body<L: Link>(
+    alloc: Global,
+    link: &mut L,
+    received: &mut BytesMut,
+    reader: &mut BodyReader,
+    kept: &mut Option<BodyBytes>,
+    budget: &mut u32,
+) -> BodyRead
+    ensures reads { (payload : List ℕ) × ReadsBody (L.state link.old) (L.state link.new) received.old.items received.new.items reader.old reader.new kept.old kept.new budget.old budget.new payload }
+    ensures cause { BodyCause (L.state link.old) (L.state link.new) reader.new received.new.items [] budget.new result }
+    ensures few { (L.state link.new).read_waits ≤ (L.state link.old).read_waits + 1 }
+    ensures plan { L.same_plan link.old link.new }
+{
+    'drains: loop {
+        let read = read_body(alloc, link, received, reader, kept, budget);
+        let _left_over = received.len();
+        if let Some(stop) = stop_of(read) {
+            return stop;
+        }
+    }
+}
+
+/// What a read came to, unless it was payload.
+fn stop_of(read: BodyRead) -> Option<BodyRead>
+    ensures { IsStopOf read result }
+{
+    match read {
+        BodyRead::Piece(_) => None,
+        other => Some(other),
     }
 }

@@ -17,8 +17,10 @@ use std::alloc::Global;
 use std::marker::Model;
 use std::mem;
 
+mod keeping;
 mod replies;
 mod requests;
+mod reusing;
 
 /// A server's session for one request and its reply over a link.
 #[derive(Drop)]
@@ -34,6 +36,7 @@ pub struct HttpSession<L: Link + Drop, C: Drop> {
     reply: ReplyState,
     settings: Settings,
     budget: Option<u32>,
+    reusable: bool,
     context: Option<C>,
 }
 
@@ -42,7 +45,7 @@ impl<L: Link + Drop, C: Drop> Model for HttpSession<L, C> {
 
     ghost Value = { SessionView L };
 
-    ghost view = { λ s. record { link = s.link; received = s.received.items; request = s.request; refused = s.refused; body = s.body; reply = s.reply; settings = s.settings; budget = s.budget } };
+    ghost view = { λ s. record { link = s.link; received = s.received.items; request = s.request; refused = s.refused; body = s.body; reply = s.reply; settings = s.settings; budget = s.budget; reusable = s.reusable } };
 
     ghost invariant = { λ s. record { settled : Settled s.reply; searched : IsSearched s.request s.search s.received.items } };
 }
@@ -68,6 +71,7 @@ impl<L: Link + Drop, C: Drop> HttpSession<L, C> {
             reply: ReplyState::new(),
             settings: Settings::new(),
             budget: None,
+            reusable: false,
             context: None,
         })
     }

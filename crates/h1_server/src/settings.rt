@@ -1,6 +1,6 @@
 //! What a caller sets on a session.
-ghost use Rattle.std.specs.Prelude.{◌≡◌, true, false};
-ghost use Rattle.h1_server.specs.Keepalive.{keepalive_set};
+ghost use Rattle.std.specs.Prelude.{◌≡◌, None, true, false};
+ghost use Rattle.h1_server.specs.Keepalive.{keepalive_set, wished};
 
 /// How a session treats its connection. Times are in seconds.
 #[derive(Clone, Copy, Debug, PartialEq, Eq)]
@@ -13,6 +13,8 @@ pub struct Settings {
     pub closing: bool,
     /// Bytes behind the request begin the next one.
     pub pipelining: bool,
+    /// How many requests more may be served behind this one; None is no limit.
+    pub reuses: Option<u32>,
 }
 
 /// The settings with keep-alive off, or on with a deadline.
@@ -32,16 +34,24 @@ pub(crate) fn with_keepalive(settings: Settings, seconds: Option<u64>) -> Settin
     }
 }
 
+/// Keep-alive without a deadline where the request wishes it, and off where it doesn't.
+pub(crate) fn wished(wish: bool) -> Option<u64>
+    ensures { result ≡ wished wish }
+{
+    if wish { Some(0) } else { None }
+}
+
 impl Settings {
     /// Keep-alive is off, a reply in front of the request's end closes, and nothing is pipelined.
     pub(crate) fn new() -> Self
-        ensures { result ≡ record { keep_off = true; keepalive = 0; closing = true; pipelining = false } }
+        ensures { result ≡ record { keep_off = true; keepalive = 0; closing = true; pipelining = false; reuses = None } }
     {
         Settings {
             keep_off: true,
             keepalive: 0,
             closing: true,
             pipelining: false,
+            reuses: None,
         }
     }
 }

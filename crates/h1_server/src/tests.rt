@@ -46,6 +46,55 @@ fn a_link_that_ends_before_a_head_closes(rt: HostRuntime) -> Result<(), Fail> {
     Ok(())
 }
 
+#[test]
+fn a_link_is_handed_on_with_what_was_received_behind_the_request(
+    rt: HostRuntime,
+) -> Result<(), Fail> {
+    let mut link = MemLink::new(rt.alloc());
+    link.give(REQUEST)?;
+    link.give(b"GET /b HTTP/1.1\r\n\r\n")?;
+    let mut session: HttpSession<MemLink, ()> = HttpSession::new(rt.alloc(), link)?;
+    session.set_pipelining_enabled(true);
+    session.set_close_on_response_before_downstream_finish(false);
+    read_head(&rt, &mut session);
+    assert_eq!(rt; session.get_keepalive_timeout(), Some(0));
+    let mut header = ResponseHeader::build(rt.alloc(), 200, None)?;
+    header.set_content_length(2)?;
+    write_header(&rt, &mut session, header);
+    write_piece(&rt, &mut session);
+    finish(&rt, &mut session);
+    assert!(rt; session.has_request() && session.is_free());
+    assert!(rt; session.will_keepalive());
+    assert_eq!(rt; session.poll_reuse(NOW), Poll::Ready(Ok(true)));
+    assert!(rt; session.is_reusable());
+    let (link, prefix) = session.into_reusable().into_parts();
+    let prefix = prefix.expect(&rt, "the next request was received");
+    let mut next: HttpSession<MemLink, ()> = HttpSession::new(rt.alloc(), link)?;
+    next.set_pipelined_prefix(prefix);
+    assert!(rt; next.has_prefix());
+    assert_eq!(rt;
+        next.poll_read_request(NOW),
+        Poll::Ready(Ok(ReadRequest::Head(19)))
+    );
+    assert!(rt; next.has_request());
+    assert_eq!(rt; next.req_header().raw_path(), b"/b".as_slice());
+    Ok(())
+}
+
+#[test]
+fn a_link_that_is_not_kept_is_shut(rt: HostRuntime) -> Result<(), Fail> {
+    let mut link = MemLink::new(rt.alloc());
+    link.give(REQUEST)?;
+    let mut session: HttpSession<MemLink, ()> = HttpSession::new(rt.alloc(), link)?;
+    read_head(&rt, &mut session);
+    session.set_keepalive_reuses_remaining(Some(0));
+    assert!(rt; session.has_request() && session.is_free());
+    assert_eq!(rt; session.poll_reuse(NOW), Poll::Ready(Ok(false)));
+    assert!(rt; !session.is_reusable());
+    assert!(rt; session.link().is_shut());
+    Ok(())
+}
+
 fn read_head(rt: &impl Abort, session: &mut HttpSession<MemLink, ()>) {
     assert!(rt; !session.has_request());
     assert_eq!(rt;

@@ -8,6 +8,7 @@ use crate::budget::{allowance_of, budget_left};
 use crate::reading_body::{BodyRead, read_body};
 use crate::reading_head::{HeadRead, read_head};
 use crate::request::request_of;
+use crate::settings::{wished, with_keepalive};
 use crate::{NoRequest, ReadRequest};
 use bytes::Bytes;
 use futures::task::Poll;
@@ -16,7 +17,7 @@ use h1_error::{Error, ErrorType};
 use h1_link::Link;
 
 /// Refuses with an error of this kind, which every later call answers again.
-fn refuse<T>(refused: &mut Option<Error>, kind: ErrorType) -> Poll<Result<T, Error>>
+pub(super) fn refuse<T>(refused: &mut Option<Error>, kind: ErrorType) -> Poll<Result<T, Error>>
     ensures kept { refused.new ≡ Some (record { kind = kind; retry = false }) }
     ensures answer { result ≡ Ready (Err (record { kind = kind; retry = false })) }
 {
@@ -56,7 +57,7 @@ impl<L: Link + Drop, C: Drop> HttpSession<L, C> {
                 self.received.advance(used);
                 self.body.reader = BodyReader::new(request.framing);
                 self.body.refused = None;
-                self.settings.keep_off = !request.wish;
+                self.settings = with_keepalive(self.settings, wished(request.wish));
                 self.request = Some(request);
                 Poll::Ready(Ok(ReadRequest::Head(len)))
             }

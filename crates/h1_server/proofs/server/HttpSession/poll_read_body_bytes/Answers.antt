@@ -16,6 +16,7 @@ returns-in-Piece-clause-reads g c =
       request = refl;
       refused = refl;
       reply = refl;
+      reusable = refl;
       few = c.read_body-read.ensures.few;
       settings = refl;
       answer = (refl, cause.0, unrefused, record { waits = refl; link_waits = cause.1 });
@@ -34,6 +35,7 @@ returns-in-Done-clause-reads g c =
       request = refl;
       refused = refl;
       reply = refl;
+      reusable = refl;
       few = c.read_body-read.ensures.few;
       settings = refl;
       answer = (refl, cause.0, unrefused, record { waits = refl; link_waits = cause.1 });
@@ -52,6 +54,7 @@ returns-in-Broken-clause-reads g c =
       request = refl;
       refused = refl;
       reply = refl;
+      reusable = refl;
       few = c.read_body-read.ensures.few;
       settings = refl;
       answer = (refl, c.refuse.ensures.kept, cause.0, record { waits = refl; link_waits = cause.1 }, refl);
@@ -70,6 +73,7 @@ returns-in-Cut-clause-reads g c =
       request = refl;
       refused = refl;
       reply = refl;
+      reusable = refl;
       few = c.read_body-read.ensures.few;
       settings = refl;
       answer = (refl, c.refuse-in-Cut.ensures.kept, (cause.0, cause.1), record { waits = refl; link_waits = cause.2 }, refl);
@@ -88,6 +92,7 @@ returns-in-NotReady-clause-reads g c =
       request = refl;
       refused = refl;
       reply = refl;
+      reusable = refl;
       few = c.read_body-read.ensures.few;
       settings = refl;
       answer = (refl, cause.1, unrefused, refl, inl cause.0);
@@ -106,6 +111,7 @@ returns-in-Spent-clause-reads g c =
       request = refl;
       refused = refl;
       reply = refl;
+      reusable = refl;
       few = c.read_body-read.ensures.few;
       settings = refl;
       answer = (refl, cause.1, unrefused, refl, inr cause.0);
@@ -124,6 +130,7 @@ returns-in-Failed-clause-reads g c =
       request = refl;
       refused = refl;
       reply = refl;
+      reusable = refl;
       few = c.read_body-read.ensures.few;
       settings = refl;
       answer = (refl, c.refuse-in-Failed.ensures.kept, (cause.0, cause.1), record { waits = refl; link_waits = cause.2 }, refl);
@@ -142,6 +149,7 @@ returns-in-NoMemory-clause-reads g c =
       request = refl;
       refused = refl;
       reply = refl;
+      reusable = refl;
       few = c.read_body-read.ensures.few;
       settings = refl;
       answer = (refl, unrefused, tt, record { waits = refl; link_waits = cause }, refl);

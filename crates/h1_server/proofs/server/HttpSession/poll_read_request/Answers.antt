@@ -1,5 +1,6 @@
 -- What reading a head came to is what the call answers.
-use Rattle.std.proofs.Common.{refl, inl, inr}
+use Rattle.std.proofs.Common.{refl, inl, inr, ap, ◌∙◌}
+use Rattle.h1_server.specs.Keepalive.{keepalive_set}
 use Rattle.h1_server.proofs.SessionLemmas.{if_none, is_nothing, request_made}
 use Rattle.h1_server.proofs.server.HttpSession.poll_read_request.Goals as goal
 
@@ -14,6 +15,7 @@ returns-in-Whole-clause-reads g c =
       received = received;
       budget = c.budget_left-self-inside.ensures;
       reply = refl;
+      reusable = refl;
       few = c.read_head-read.ensures.few;
       answer = (
         c.request_of-request.result,
@@ -25,7 +27,7 @@ returns-in-Whole-clause-reads g c =
           raw = c.len-len.ensures.value;
           reader = c.new-self-inside.ensures.reads;
           body = refl;
-          keep_off = refl;
+          settings = c.with_keepalive-self-inside.ensures ∙ ap (keepalive_set c.self.inside.settings) c.wished.ensures;
           refused = unrefused;
         },
         cause.2,
@@ -44,6 +46,7 @@ returns-in-Refused-clause-reads g c =
       received = received;
       budget = c.budget_left-self-inside.ensures;
       reply = refl;
+      reusable = refl;
       few = c.read_head-read.ensures.few;
       answer = (record { request = unread; received = refl; body = refl; settings = refl }, c.refuse.ensures.kept, cause, refl);
     }))
@@ -60,6 +63,7 @@ returns-in-Closed-clause-reads g c =
       received = received;
       budget = c.budget_left-self-inside.ensures;
       reply = refl;
+      reusable = refl;
       few = c.read_head-read.ensures.few;
       answer = (record { request = unread; received = refl; body = refl; settings = refl }, unrefused, cause.0, cause.1);
     }))
@@ -76,6 +80,7 @@ returns-in-Cut-clause-reads g c =
       received = received;
       budget = c.budget_left-self-inside.ensures;
       reply = refl;
+      reusable = refl;
       few = c.read_head-read.ensures.few;
       answer = (record { request = unread; received = refl; body = refl; settings = refl }, c.refuse-in-Cut.ensures.kept, cause, refl);
     }))
@@ -92,6 +97,7 @@ returns-in-NotReady-clause-reads g c =
       received = received;
       budget = c.budget_left-self-inside.ensures;
       reply = refl;
+      reusable = refl;
       few = c.read_head-read.ensures.few;
       answer = (record { request = unread; received = refl; body = refl; settings = refl }, unrefused, cause.1, inl cause.0);
     }))
@@ -108,6 +114,7 @@ returns-in-Spent-clause-reads g c =
       received = received;
       budget = c.budget_left-self-inside.ensures;
       reply = refl;
+      reusable = refl;
       few = c.read_head-read.ensures.few;
       answer = (record { request = unread; received = refl; body = refl; settings = refl }, unrefused, cause.1, inr cause.0);
     }))
@@ -124,6 +131,7 @@ returns-in-Failed-clause-reads g c =
       received = received;
       budget = c.budget_left-self-inside.ensures;
       reply = refl;
+      reusable = refl;
       few = c.read_head-read.ensures.few;
       answer = (record { request = unread; received = refl; body = refl; settings = refl }, c.refuse-in-Failed.ensures.kept, cause, refl);
     }))
@@ -140,6 +148,7 @@ returns-in-NoMemory-clause-reads g c =
       received = received;
       budget = c.budget_left-self-inside.ensures;
       reply = refl;
+      reusable = refl;
       few = c.read_head-read.ensures.few;
       answer = (record { request = unread; received = refl; body = refl; settings = refl }, unrefused, tt, refl);
     }))

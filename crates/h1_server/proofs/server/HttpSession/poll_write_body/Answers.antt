@@ -21,4 +21,5 @@ returns-clause-writes g c =
       refused = refl;
       body = refl;
       settings = refl;
+      reusable = refl;
     }) c.deliver-answer.ensures.answer)))
