@@ -1,68 +1,47 @@
 -- A connection's transcript agrees with what its link gave and took.
-use Rattle.std.proofs.Common.{◌≡◌, ℕ, ◌+◌, ◌-◌, ◌^◌, ◌<◌, min, take, Bool, false, ap, subst, arith, inl, inr, length-append, append-nil, List, [], ◌∷◌, ◌++◌, length, option_to_list, Option, Some, None, IfSome, refl, sym, ◌∙◌, append_assoc}
+use Rattle.std.proofs.Common.{◌≡◌, ℕ, ◌+◌, ◌-◌, ◌^◌, ◌<◌, min, take, drop, Bool, false, ap, subst, arith, inl, inr, length-append, append-nil, List, [], ◌∷◌, ◌++◌, length, option_to_list, Option, Some, None, IfSome, refl, sym, ◌∙◌, append_assoc}
+use Rattle.std.specs.List.{AllByRecursion}
 use Rattle.std.proofs.lemmas.Bool.{cases_lt, false≢true}
-use Rattle.std.proofs.Math.Seq.{take-nil}
 use Rattle.h1_error.specs.declared.progress.End.{End}
 use Rattle.h1_error.specs.declared.error.Error.{Error}
 use Rattle.h1_error.specs.declared.error.ErrorType.{ErrorType}
 use Rattle.h1_error.specs.declared.error.ErrorType.TheVariants as kind
 use Rattle.h1_link.specs.LinkState.{LinkState}
 use Rattle.h1_head.specs.Views.{RequestView}
-use Rattle.h1_body.specs.Body.{Body, whole, unfinished, broken, ahead, payload_of, stop_of}
-use Rattle.h1_body.specs.Reader.{body, reads, read_as}
+use Rattle.h1_body.specs.Body.{Body, whole, unfinished, broken, ahead, payload_of}
+use Rattle.h1_body.specs.Reader.{body, reads}
 use Rattle.h1_body.specs.Read.{HasRead}
 use Rattle.h1_body.specs.Laws.{GrowsTo}
 use Rattle.h1_body.specs.Framing.{framing}
-use Rattle.h1_body.specs.Chunks.{state_of}
 use Rattle.h1_body.specs.declared.framing.Framing.{Framing}
 use Rattle.h1_body.specs.declared.framing.Framing.TheVariants.{Counted, Chunked, UntilClose}
-use Rattle.h1_body.specs.declared.fed.FeedState.{FeedState}
-use Rattle.h1_body.specs.declared.fed.FeedState.TheVariants.{More, Done, Broken}
 use Rattle.h1_body.specs.declared.reader.BodyReader.{BodyReader}
-use Rattle.h1_body.specs.declared.reader.Reading.{Reading}
-use Rattle.h1_body.specs.declared.reader.Reading.TheVariants as reading
 use Rattle.h1_body.proofs.CountedLemmas.{counted_has, counted_lacks}
 use Rattle.h1_body.proofs.ReadLemmas.{read_is}
 use Rattle.h1_body.proofs.LawLemmas.{bodies_grow}
 use Rattle.h1_server.specs.Persistence.{is_whole}
+use Rattle.h1_server.proofs.BodyLemmas.{payload_ahead, nothing_read}
 use Rattle.h1_server.specs.SessionView.{SessionView}
 use Rattle.h1_server.specs.declared.settings.Settings.{Settings}
 use Rattle.h1_app.specs.declared.application.Reply.{Reply}
 use Rattle.h1_app.specs.declared.transcript.Entry.{Entry}
 use Rattle.h1_app.specs.declared.exchange.Stage.{Stage}
-use Rattle.h1_app.specs.Agrees.{Agrees, AreOf, AreReplies, IsBelow, StoodAs, RefusalOf}
+use Rattle.h1_app.specs.Behind.{IsBelow, StoodAs, ReadBehind, WroteBehind, AfterRead, AfterWrote, DoneBehind, FlushedBy}
+use Rattle.h1_app.specs.Agrees.{Agrees, AreOf, AreReplies, AreDone, RefusalOf}
 use Rattle.h1_app.specs.Growth.{Extends}
 use Rattle.h1_app.specs.Application.{Given, how_stands, how_of}
-use Rattle.h1_app.specs.Exchange.{IsAllowed}
-use Rattle.h1_app.specs.Since.{Since, ReadEntry, WroteSo, StopsBody, coming}
+use Rattle.h1_app.specs.Exchange.{render, IsAllowed}
+use Rattle.h1_app.specs.Since.{Since, ReadEntry, ReadSo, WroteSo, StoppedSo, StopsBody, coming}
 use Rattle.h1_app.specs.Sound.{Sound, IsKept}
 use Rattle.h1_app.specs.Stream.{Message, Begins, BehindBody}
 use Rattle.h1_app.specs.Turns.{ExtendsLast}
-use Rattle.h1_app.proofs.SinceLemmas.{told_map}
+use Rattle.h1_app.proofs.BehindLemmas.{told_map}
+use Rattle.h1_app.proofs.ReplyLemmas.{grows_itself}
 
 nothing_behind : (b : Body) (none : List Message) → none ≡ [] → BehindBody b (λ k. Unit {0}) (none ≡ [])
 nothing_behind (whole payload n) none is = tt
 nothing_behind (unfinished payload) none is = is
 nothing_behind (broken payload) none is = is
-
-payload_ahead : (front : List ℕ) (used : ℕ) (b : Body) → payload_of (ahead front used b) ≡ front ++ payload_of b
-payload_ahead front used (whole payload n) = refl
-payload_ahead front used (unfinished payload) = refl
-payload_ahead front used (broken payload) = refl
-
--- a reader makes no payload of no bytes
-nothing_read : (reading : Reading) → payload_of (read_as reading []) ≡ []
-nothing_read (reading.Counted left) = elim (cases_lt 0 left) [
-  | inl some ↦ ap payload_of (counted_lacks left [] some)
-  | inr none ↦ ap payload_of (counted_has left [] none) ∙ take-nil left
-]
-nothing_read (reading.Chunked place) = stops (state_of place) where
-  stops : (s : FeedState) → payload_of (stop_of s) ≡ []
-  stops More = refl
-  stops Done = refl
-  stops Broken = refl
-nothing_read reading.UntilClose = refl
-nothing_read reading.Ended = refl
 
 -- with a stated length and no end of the body, fewer bytes were handed in
 below : (f : Framing) (handed : ℕ) (used payload : List ℕ) (reader : BodyReader) (b : Body) → handed ≡ length payload
@@ -173,39 +152,97 @@ one_reply since session e kept h sent = (
   kept.written ∙ sent,
 )
 
-agrees_last : {L : Type 0} (gives : Given → Reply → Type 0) (state : L → LinkState) (session : SessionView L) (last : Option Entry) (before : LinkState)
-    → IfSome last (IsAllowed gives) → IfSome last (IsKept session) → Since state before session last
-    → Agrees gives before (state session.link) (option_to_list last)
-agrees_last gives state session None before allowed kept s = record {
-  read = told_map before.given (state session.link).given _ _ (λ since h. ([], tt, tt)) s.read;
-  allowed = tt;
-  written = told_map before.written (state session.link).written _ _ (λ since h. h.0.0) s.wrote;
-  done = tt;
-}
-agrees_last gives state session (Some e) before allowed kept s = record {
-  read = told_map before.given (state session.link).given _ _ (λ since h. one_request gives state since session e allowed kept s.stopped h) s.read;
-  allowed = (allowed, tt);
-  written = told_map before.written (state session.link).written _ _ (λ since h. one_reply since session e kept h.0 h.1) s.wrote;
-  done = tt;
-}
+-- one exchange more in front of those that agree
+front_of : (now : LinkState) (e : Entry) (k : ℕ) (more : List Entry) (requests : List Message)
+    → e.body_error ≡ None → IfSome e.reply (λ reply. StoodAs e.how e (whole e.body k)) → AreOf now more requests
+    → AreOf now (e ∷ more) (record { head = e.head; both = e.both; body = whole e.body k } ∷ requests)
+front_of now e k [] [] unrefused stood h =
+    (refl, refl, ([], sym (append-nil e.body)), record { refused = rw unrefused tt; replied = stood })
+front_of now e k [] (m ∷ requests) unrefused stood h = absurd h
+front_of now e k (f ∷ more) [] unrefused stood h = absurd h
+front_of now e k (f ∷ more) (m ∷ requests) unrefused stood h =
+    (refl, refl, (k, refl), record { refused = rw unrefused tt; replied = stood }, h)
+
+-- the requests of the exchanges that ended, in front of those of the rest
+read_agrees : (now : LinkState) (done behind : List Entry) (since rest : List ℕ) → ReadBehind since done rest
+    → (requests : List Message) × Begins rest requests × AreOf now behind requests
+    → (requests : List Message) × Begins since requests × AreOf now (done ++ behind) requests
+read_agrees now [] behind since rest h last = (last.0, rw h last.1, last.2)
+read_agrees now (e ∷ more) behind since rest h last =
+    let next = read_agrees now more behind (drop h.2 (drop h.0 since)) rest h.6 last in (
+      record { head = e.head; both = e.both; body = whole e.body h.2 } ∷ next.0,
+      (h.0, h.1, h.3, next.1),
+      front_of now e h.2 (more ++ behind) next.0 h.4 h.5 next.2,
+    )
+
+-- their replies, in front of those of the rest
+wrote_agrees : (done behind : List Entry) (since rest : List ℕ) → WroteBehind since done rest
+    → AreReplies rest behind → AreReplies since (done ++ behind)
+wrote_agrees [] behind since rest h last = rw h last
+wrote_agrees (e ∷ more) behind since rest h last = on (more ++ behind) (wrote_agrees more behind h.0 rest h.3 last) where
+  on : (entries : List Entry) → AreReplies h.0 entries → AreReplies since (e ∷ entries)
+  on [] none =
+      let all : since ≡ render e = h.1 ∙ ap (λ xs. render e ++ xs) none ∙ append-nil (render e) in
+      (([], sym all ∙ sym (append-nil since)), h.2 ∙ ap (λ xs. min (length xs) (2 ^ 64 - 1)) (sym all))
+  on (f ∷ entries) replies = (h.0, h.1, h.2, replies)
+
+-- the exchanges that ended are done
+done_agrees : (flushed : ℕ → Type 0) (total : ℕ) (done : List Entry) (last : Option Entry) → DoneBehind flushed total done
+    → AreDone flushed total (done ++ option_to_list last)
+done_agrees flushed total [] None h = tt
+done_agrees flushed total [] (Some e) h = tt
+done_agrees flushed total (e ∷ []) None h = tt
+done_agrees flushed total (e ∷ []) (Some f) h = (h.0, tt)
+done_agrees flushed total (e ∷ f ∷ more) last h = (h.0, done_agrees flushed (total + e.written) (f ∷ more) last h.1)
+
+allowed_all : (gives : Given → Reply → Type 0) (done : List Entry) (last : Option Entry) → AllByRecursion (IsAllowed gives) done
+    → IfSome last (IsAllowed gives) → AllByRecursion (IsAllowed gives) (done ++ option_to_list last)
+allowed_all gives [] None ended h = tt
+allowed_all gives [] (Some e) ended h = (h, tt)
+allowed_all gives (e ∷ more) last ended h = (ended.0, allowed_all gives more last ended.1 h)
+
+-- the last exchange agrees with what was read behind the others
+last_read : {L : Type 0} (gives : Given → Reply → Type 0) (state : L → LinkState) (rest : List ℕ) (session : SessionView L) (last : Option Entry)
+    → IfSome last (IsAllowed gives) → IfSome last (IsKept session) → StoppedSo state session last → ReadSo rest session last
+    → (requests : List Message) × Begins rest requests × AreOf (state session.link) (option_to_list last) requests
+last_read gives state rest session None allowed kept stopped h = ([], tt, tt)
+last_read gives state rest session (Some e) allowed kept stopped h = one_request gives state rest session e allowed kept stopped h
+
+last_wrote : {L : Type 0} (rest : List ℕ) (session : SessionView L) (last : Option Entry) → IfSome last (IsKept session)
+    → WroteSo rest session last → session.reply.sent ≡ min (length rest) (2 ^ 64 - 1) → AreReplies rest (option_to_list last)
+last_wrote rest session None kept h sent = h.0
+last_wrote rest session (Some e) kept h sent = one_reply rest session e kept h sent
 
 -- a sound connection's transcript agrees
 pub agrees_sound : {L J : Type 0} (gives : Given → Reply → Type 0) (runs : J → RequestView → Settings → Settings → List ℕ → Type 0) (state : L → LinkState)
     (session : SessionView L) (done : List Entry) (last : Option Entry) (at : Stage J) (end : Option End) (before : LinkState)
-    → Sound gives runs session done last at end → Since state before session last
+    → Sound gives runs session done last at end → Since state before session done last
     → Agrees gives before (state session.link) (done ++ option_to_list last)
-agrees_sound gives runs state session done last at end before sound s =
-    rw sound.alone (agrees_last gives state session last before sound.allowed sound.kept s)
+agrees_sound gives runs state session done last at end before sound s = record {
+  read = told_map before.given (state session.link).given (AfterRead done (λ rest. ReadSo rest session last)) _
+      (λ since h. read_agrees (state session.link) done (option_to_list last) since h.0 h.1
+      (last_read gives state h.0 session last sound.allowed sound.kept s.stopped h.2)) s.read;
+  allowed = allowed_all gives done last sound.ended sound.allowed;
+  written = told_map before.written (state session.link).written
+      (AfterWrote done (λ rest. WroteSo rest session last × (session.reply.sent ≡ min (length rest) (2 ^ 64 - 1)))) _
+      (λ since h. wrote_agrees done (option_to_list last) since h.0 h.1 (last_wrote h.0 session last sound.kept h.2.0 h.2.1)) s.wrote;
+  done = done_agrees (FlushedBy before (state session.link)) 0 done last s.flushed;
+}
 
--- the last exchange extends the transcript
+-- the last exchange extends the transcript, behind those that ended
 pub extends_last : (now : ℕ) (shutdown : Bool) (first second : LinkState) (before after : List Entry) (old new : Option Entry)
-    → before ≡ [] → after ≡ [] → ExtendsLast now shutdown first second old new
+    → after ≡ before → ExtendsLast now shutdown first second old new
     → Extends now shutdown first second (before ++ option_to_list old) (after ++ option_to_list new)
-extends_last now shutdown first second before after old new none still h = rw (none, still) (on old new h)
+extends_last now shutdown first second before after old new same h = rw same (on before old new h)
   where
-    on : (old new : Option Entry) → ExtendsLast now shutdown first second old new
-        → Extends now shutdown first second (option_to_list old) (option_to_list new)
-    on None None h = tt
-    on None (Some b) h = (h, tt)
-    on (Some a) None h = absurd h
-    on (Some a) (Some b) h = (h, tt)
+    on : (done : List Entry) (old new : Option Entry) → ExtendsLast now shutdown first second old new
+        → Extends now shutdown first second (done ++ option_to_list old) (done ++ option_to_list new)
+    on [] None None h = tt
+    on [] None (Some b) h = (h, tt)
+    on [] (Some a) None h = absurd h
+    on [] (Some a) (Some b) h = (h, tt)
+    on (e ∷ []) None None h = (grows_itself now first second e, tt)
+    on (e ∷ []) None (Some b) h = (grows_itself now first second e, (h, tt))
+    on (e ∷ []) (Some a) None h = absurd h
+    on (e ∷ []) (Some a) (Some b) h = (refl, on [] (Some a) (Some b) h)
+    on (e ∷ f ∷ more) old new h = (refl, on (f ∷ more) old new h)

@@ -1,5 +1,5 @@
 -- Steps in which the application goes on.
-use Rattle.std.proofs.Common.{◌≡◌, ◌≢◌, ℕ, ◌-◌, ◌^◌, min, List, [], ◌++◌, length, drop, false, Option, Some, None, IfSome, unwrap_or, refl, sym, ◌∙◌, ap, subst, append_assoc, append-nil, length-append, arith}
+use Rattle.std.proofs.Common.{◌≡◌, ◌≢◌, ℕ, ◌+◌, ◌-◌, ◌^◌, ◌⊎◌, min, List, [], ◌++◌, length, drop, true, false, Option, Some, None, IfSome, unwrap_or, refl, sym, ◌∙◌, ap, subst, append_assoc, append-nil, length-append, arith}
 use Rattle.std.proofs.lemmas.List.{drop-append-le}
 use Rattle.h1_error.specs.declared.error.Error.{Error}
 use Rattle.h1_error.specs.declared.error.ErrorType.{ErrorType}
@@ -26,14 +26,17 @@ use Rattle.h1_app.specs.declared.transcript.Entry.{Entry}
 use Rattle.h1_app.specs.declared.exchange.Stage.{Stage}
 use Rattle.h1_app.specs.declared.exchange.Stage.TheVariants as stage
 use Rattle.h1_app.specs.declared.steps.answering.Asked.{Asked}
-use Rattle.h1_app.specs.Application.{ReadsOnly, RefusedBy, payload_of}
+use Rattle.h1_app.specs.declared.steps.answering.Asked.TheVariants as asked
+use Rattle.h1_app.specs.Application.{ReadsOnly, RefusedBy, WaitsBy, payload_of}
 use Rattle.h1_app.specs.Asking.{AsksAs, noted}
+use Rattle.h1_app.specs.Behind.{AfterRead, written_of}
 use Rattle.h1_app.specs.Causes.{LacksSo}
-use Rattle.h1_app.specs.Since.{Since, ReadEntry, WroteSo, StopsBody}
+use Rattle.h1_app.specs.Since.{Since, IfTold, ReadEntry, WroteSo, StopsBody}
 use Rattle.h1_app.specs.Sound.{SoundStage, IsAnswering, lent}
 use Rattle.h1_app.specs.Growth.{Grows, Stays, RefusedIn}
 use Rattle.h1_app.proofs.ReplyLemmas.{stays_itself}
-use Rattle.h1_app.proofs.SinceLemmas.{told_on, told_same, rose_later}
+use Rattle.h1_app.proofs.BehindLemmas.{told_map, read_on, wrote_same, flushed_on}
+use Rattle.h1_app.proofs.SinceLemmas.{rose_later}
 
 -- what is read behind what was read
 read_decoded : (f : Framing) (used more payload later : List ℕ) (old new : BodyReader) → HasRead f used payload old → Decoded old new more later → HasRead f (used ++ more) (payload ++ later) new
@@ -85,26 +88,27 @@ stopped_by state old behind (Some error) h s =
     rw h.0 (stops_on state old behind error.kind h.1 h.2 h.3 s)
 
 -- what was given and taken goes on as the application reads
-pub asked_since : {L : Type 0} (state : L → LinkState) (old behind new : SessionView L) (e e2 : Entry) (before : LinkState)
+pub asked_since : {L : Type 0} (state : L → LinkState) (old behind new : SessionView L) (e e2 : Entry) (before : LinkState) (done : List Entry)
     → ReadsOnly state (lent old e.body) behind → new ≡ record behind { body = record behind.body { kept = None; waits = false } }
     → e2.head ≡ e.head → e2.both ≡ e.both → e2.body ≡ payload_of behind → e.body_error ≡ old.body.refused → e2.body_error ≡ behind.body.refused → e.sent_head ≡ None → e.sent_body ≡ None → e2.sent_head ≡ None → e2.sent_body ≡ None
-    → Since state before old (Some e) → Since state before new (Some e2)
-asked_since {L} state old behind new e e2 before r is head both body error0 error2 h0 b0 h2 b2 s =
-    subst (λ (x : SessionView L). Since state before x (Some e2)) (sym is) (record {
+    → Since state before old done (Some e) → Since state before new done (Some e2)
+asked_since {L} state old behind new e e2 before done r is head both body error0 error2 h0 b0 h2 b2 s =
+    subst (λ (x : SessionView L). Since state before x done (Some e2)) (sym is) (record {
       later = later_on before (state old.link) (state behind.link) s.later r.moved.later;
-      read = told_on before.given (state old.link).given (state behind.link).given r.piece (λ since. ReadEntry since e old) (λ since. ReadEntry since e2 (record behind { body = record behind.body { kept = None; waits = false } })) r.moved.given
-          (λ since p. record {
+      read = read_on done before.given (state old.link).given (state behind.link).given r.piece (λ rest. ReadEntry rest e old) (λ rest. ReadEntry rest e2 (record behind { body = record behind.body { kept = None; waits = false } })) r.moved.given
+          (λ rest p. record {
             n = p.n;
             used = p.used ++ r.used;
-            head = rw (head, both) (HeadAt-append since r.piece p.n e.head e.both p.head);
-            bytes = drop-append-le p.n since r.piece p.head.cuts.within ∙ ap (λ xs. xs ++ r.piece) p.bytes ∙ append_assoc p.used old.received r.piece ∙ ap (λ xs. p.used ++ xs) r.bytes ∙ sym (append_assoc p.used r.used behind.received);
+            head = rw (head, both) (HeadAt-append rest r.piece p.n e.head e.both p.head);
+            bytes = drop-append-le p.n rest r.piece p.head.cuts.within ∙ ap (λ xs. xs ++ r.piece) p.bytes ∙ append_assoc p.used old.received r.piece ∙ ap (λ xs. p.used ++ xs) r.bytes ∙ sym (append_assoc p.used r.used behind.received);
             decoded = rw (head, body ∙ payload_is state old behind e.body r) (read_decoded (framing e.head) p.used r.used e.body r.payload old.body.reader behind.body.reader p.decoded r.decoded);
           }) s.read;
-      wrote = told_same before.written (state old.link).written (state behind.link).written (λ since. WroteSo since old (Some e) × (old.reply.sent ≡ min (length since) (2 ^ 64 - 1)))
-          (λ since. WroteSo since (record behind { body = record behind.body { kept = None; waits = false } }) (Some e2) × (behind.reply.sent ≡ min (length since) (2 ^ 64 - 1))) r.moved.written
-          (λ since h. rw (r.reply, h2, b2) (let w = rw (h0, b0) at h.0 in w, h.1)) s.wrote;
+      wrote = wrote_same done before.written (state old.link).written (state behind.link).written (λ rest. WroteSo rest old (Some e) × (old.reply.sent ≡ min (length rest) (2 ^ 64 - 1)))
+          (λ rest. WroteSo rest (record behind { body = record behind.body { kept = None; waits = false } }) (Some e2) × (behind.reply.sent ≡ min (length rest) (2 ^ 64 - 1))) r.moved.written
+          (λ rest h. rw (r.reply, h2, b2) (let w = rw (h0, b0) at h.0 in w, h.1)) s.wrote;
       stopped = rw error2 (stopped_by state (lent old e.body) behind old.body.refused r.refused (let was = s.stopped in rw error0 at was));
-      out = rw r.reply (rose_later old.reply.sent before.bytes_out _ _ r.moved.later.counts.bytes_out s.out);
+      flushed = flushed_on before (state old.link) (state behind.link) 0 done r.moved.later.flushed s.flushed;
+      out = rw r.reply (rose_later (written_of done + old.reply.sent) before.bytes_out _ _ r.moved.later.counts.bytes_out s.out);
     })
 
 -- the exchange still awaits its reply
@@ -135,20 +139,40 @@ still_answers {L} state old new e e2 answer a h =
     }))
 
 -- the body isn't whole, and nothing of it is left among the received bytes
-pub lacks_body : {L : Type 0} (session : SessionView L) (e : Entry) (since : List ℕ) → Lacks session.body.reader session.received → e.reply ≡ None → ReadEntry since e session → LacksSo since (Some e)
-lacks_body session e since lacks none p =
-    let all : drop p.n since ≡ p.used = p.bytes ∙ ap (λ xs. p.used ++ xs) lacks.0 ∙ append-nil p.used in
-    let so : body (framing e.head) (drop p.n since) ≡ unfinished e.body = ap (body (framing e.head)) all ∙ read_is (framing e.head) p.used e.body session.body.reader p.decoded ∙ ap (ahead e.body (length p.used)) lacks.1 ∙ ap unfinished (append-nil e.body) in
-    (record { n = p.n; head = p.head; body = so }, none)
+lacks_body : {L : Type 0} (session : SessionView L) (done : List Entry) (e : Entry) (since : List ℕ) → Lacks session.body.reader session.received → e.reply ≡ None
+    → AfterRead done (λ rest. ReadEntry rest e session) since → LacksSo since done (Some e)
+lacks_body session done e since lacks none h =
+    let p = h.2 in
+    let all : drop p.n h.0 ≡ p.used = p.bytes ∙ ap (λ xs. p.used ++ xs) lacks.0 ∙ append-nil p.used in
+    let so : body (framing e.head) (drop p.n h.0) ≡ unfinished e.body = ap (body (framing e.head)) all ∙ read_is (framing e.head) p.used e.body session.body.reader p.decoded ∙ ap (ahead e.body (length p.used)) lacks.1 ∙ ap unfinished (append-nil e.body) in
+    ((h.0, h.1, record { n = p.n; head = p.head; body = so }), none)
+
+-- why an application that reads waits
+pub reads_why : {L : Type 0} (state : L → LinkState) (old new : SessionView L) (e e2 : Entry) (answer : Asked)
+    → IsAnswering e old → AsksAs state old new e e2 answer → answer ≡ asked.Reads
+    → (Rose (state old.link).read_waits (state new.link).read_waits ⊎ (new.budget ≡ Some 0))
+    × ((before : LinkState) (done : List Entry) → Since state before new done (Some e2) → IfTold before.given (state new.link).given (λ since. LacksSo since done (Some e2)))
+reads_why {L} state old new e e2 answer a h is =
+    let waits : WaitsBy state (lent old e.body) h.behind true =
+    subst (λ b. WaitsBy state (lent old e.body) h.behind b) (h.reading is) (h.reads.waits a.asked.waits) in
+    let left : SessionView L = record h.behind { body = record h.behind.body { kept = None; waits = false } } in
+    let none : e2.reply ≡ None = ap (λ (x : Entry). x.reply) h.entry ∙ a.reply in
+    subst (λ (x : SessionView L). (Rose (state old.link).read_waits (state x.link).read_waits ⊎ (x.budget ≡ Some 0))
+    × ((before : LinkState) (done : List Entry) → Since state before x done (Some e2) → IfTold before.given (state x.link).given (λ since. LacksSo since done (Some e2))))
+    (sym h.session) (
+      waits.2,
+      λ before done s. told_map before.given (state h.behind.link).given (AfterRead done (λ rest. ReadEntry rest e2 left)) (λ since. LacksSo since done (Some e2))
+          (λ since p. lacks_body left done e2 since waits.0 none p) s.read,
+    )
 
 -- the step goes on with what was given and taken; a reply that joins the exchange changes nothing of it
 pub asked_on : {L : Type 0} (state : L → LinkState) (old new : SessionView L) (last : Option Entry) (e e2 e3 : Entry) (answer : Asked)
     → last ≡ Some e → e3 ≡ record e2 { reply = e3.reply } → IsAnswering e old → AsksAs state old new e e2 answer
-    → (before : LinkState) → Since state before old last → Since state before new (Some e3)
-asked_on {L} state old new last e e2 e3 answer some like a h before s =
-    let start : Since state before old (Some e) = subst (λ x. Since state before old x) some s in
+    → (before : LinkState) (done : List Entry) → Since state before old done last → Since state before new done (Some e3)
+asked_on {L} state old new last e e2 e3 answer some like a h before done s =
+    let start : Since state before old done (Some e) = subst (λ x. Since state before old done x) some s in
     let noted_so : e3 ≡ record (noted e h.behind) { reply = e3.reply } = like ∙ ap (λ (x : Entry). record x { reply = e3.reply }) h.entry in
-    asked_since state old h.behind new e e3 before h.reads h.session (ap (λ (x : Entry). x.head) noted_so) (ap (λ (x : Entry). x.both) noted_so) (ap (λ (x : Entry). x.body) noted_so) a.asked.body_error (ap (λ (x : Entry). x.body_error) noted_so)
+    asked_since state old h.behind new e e3 before done h.reads h.session (ap (λ (x : Entry). x.head) noted_so) (ap (λ (x : Entry). x.both) noted_so) (ap (λ (x : Entry). x.body) noted_so) a.asked.body_error (ap (λ (x : Entry). x.body_error) noted_so)
     a.sent_head a.sent_body (ap (λ (x : Entry). x.sent_head) noted_so ∙ a.sent_head) (ap (λ (x : Entry). x.sent_body) noted_so ∙ a.sent_body) start
 
 -- a refusal in the call for a failed read is one that the link had in it

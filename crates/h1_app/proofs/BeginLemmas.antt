@@ -22,10 +22,11 @@ use Rattle.h1_app.specs.declared.exchange.Outcome.TheVariants as outcome
 use Rattle.h1_app.specs.Causes.{FailureCause}
 use Rattle.h1_app.specs.Since.{Since, ReadAhead, ReadHead}
 use Rattle.h1_app.specs.Sound.{SoundStage, IsAwaiting, IsAnswering, BegunAs, NotBegun, IsNewEntry, head_time}
-use Rattle.h1_server.specs.Keepalive.{keepalive_set}
+use Rattle.h1_server.specs.Keepalive.{keepalive_set, wished}
 use Rattle.h1_app.specs.Growth.{IsFirstSetting}
 use Rattle.h1_app.specs.Turns.{OutcomeCause, IfAnswering, ExtendsLast, rank}
-use Rattle.h1_app.proofs.SinceLemmas.{told_map, since_headed, since_begun}
+use Rattle.h1_app.proofs.BehindLemmas.{read_map}
+use Rattle.h1_app.proofs.SinceLemmas.{since_headed, since_begun}
 use Rattle.h1_app.proofs.HeadLemmas.{AtHead}
 
 -- a head was read, and only what is set on the session changed behind it
@@ -74,18 +75,18 @@ some_same a b e = cc
 
 -- what was given and taken goes on as the exchange begins, or as none does
 pub begun_since : {L J : Type 0} (state : L → LinkState) (begins : J → Type 0) (runs : J → RequestView → Settings → Settings → List ℕ → Type 0) (old new : SessionView L) (last last' : Option Entry) (to : Stage J) (o : Outcome)
-    → Headed state old new last → BegunAs begins runs new last' to o → (before : LinkState) → Since state before old last → Since state before new last'
-begun_since state begins runs old new last last' to outcome.Done h b before s =
-    let start : Since state before old None = subst (λ x. Since state before old x) h.alone s in
+    → Headed state old new last → BegunAs begins runs new last' to o → (before : LinkState) (done : List Entry) → Since state before old done last → Since state before new done last'
+begun_since state begins runs old new last last' to outcome.Done h b before done s =
+    let start : Since state before old done None = subst (λ x. Since state before old done x) h.alone s in
     let same : h.request ≡ b.0 = some_same h.request b.0 (sym h.is ∙ b.3) in
     let entry : IsNewEntry h.request new.settings b.1 = subst (λ x. IsNewEntry x new.settings b.1) (sym same) b.6 in
-    subst (λ x. Since state before new x) (sym b.5)
-    (since_begun state old new h.bytes (allowance old.budget) h.left h.used h.request new.settings b.1 before h.received h.head h.rest h.reader h.reply h.awaiting.request entry start)
-begun_since state begins runs old new last last' to (outcome.Waits what) h b before s = absurd b
-begun_since state begins runs old new last last' to (outcome.Ends reason) h b before s =
-    let start : Since state before old None = subst (λ x. Since state before old x) h.alone s in
-    subst (λ x. Since state before new x) (sym b.0)
-    (since_headed state old new h.bytes (allowance old.budget) h.left h.used h.request before h.received h.head h.wish h.rest h.reply h.awaiting.request h.is start)
+    subst (λ x. Since state before new done x) (sym b.5)
+    (since_begun state old new h.bytes (allowance old.budget) h.left h.used h.request new.settings b.1 before done h.received h.head h.rest h.reader h.reply h.awaiting.request entry start)
+begun_since state begins runs old new last last' to (outcome.Waits what) h b before done s = absurd b
+begun_since state begins runs old new last last' to (outcome.Ends reason) h b before done s =
+    let start : Since state before old done None = subst (λ x. Since state before old done x) h.alone s in
+    subst (λ x. Since state before new done x) (sym b.0)
+    (since_headed state old new h.bytes (allowance old.budget) h.left h.used h.request before done h.received h.head h.wish h.rest h.reply h.awaiting.request h.is start)
 
 -- the application is started for the request that was read
 begun_sound : {L : Type 0} (state : L → LinkState) (old new : SessionView L) (last : Option Entry) (e : Entry)
@@ -113,20 +114,20 @@ begun_sound state old new last e h denied is = record {
 }
 
 not_begun : {L : Type 0} (state : L → LinkState) (old new : SessionView L) (last last' : Option Entry) (error : Error)
-    → Headed state old new last → last' ≡ None → NotBegun new (end.Failed error) → (before : LinkState) → Since state before new last'
-    → FailureCause before (state old.link) (state new.link) last' error error.kind
-not_begun state old new last last' error h none (inl built) before s =
-    let start : Since state before new None = subst (λ x. Since state before new x) none s in
+    → Headed state old new last → last' ≡ None → NotBegun new (end.Failed error) → (before : LinkState) (done : List Entry) → Since state before new done last'
+    → FailureCause before (state old.link) (state new.link) done last' error error.kind
+not_begun state old new last last' error h none (inl built) before done s =
+    let start : Since state before new done None = subst (λ x. Since state before new done x) none s in
     let wished : h.request.wish ≡ true = subst (λ x. IfSome x (λ request. request.wish ≡ true)) h.is built.1 in
-    subst (λ k. FailureCause before (state old.link) (state new.link) last' error k) (sym built.0) (
+    subst (λ k. FailureCause before (state old.link) (state new.link) done last' error k) (sym built.0) (
       none,
-      told_map before.given (state new.link).given (λ since. ReadAhead since new.received new.request)
-          (λ since. (n : ℕ) × (head : RequestView) × (both : Bool) × HeadAt since n head both × (wish head both ≡ true))
-          (λ since r. let p : ReadHead since new.received h.request = subst (λ x. ReadAhead since new.received x) h.is r in
+      read_map done before.given (state new.link).given (λ rest. ReadAhead rest new.received new.request)
+          (λ rest. (n : ℕ) × (head : RequestView) × (both : Bool) × HeadAt rest n head both × (wish head both ≡ true))
+          (λ rest r. let p : ReadHead rest new.received h.request = subst (λ x. ReadAhead rest new.received x) h.is r in
           (p.n, h.request.header, h.request.both, p.head, sym p.wish ∙ wished)) start.read,
     )
-not_begun state old new last last' error h none (inr memory) before s =
-    subst (λ k. FailureCause before (state old.link) (state new.link) last' error k) (sym memory) tt
+not_begun state old new last last' error h none (inr memory) before done s =
+    subst (λ k. FailureCause before (state old.link) (state new.link) done last' error k) (sym memory) tt
 
 -- why a step that begins an exchange goes on or ends
 pub begun_outcome : {L J : Type 0} (state : L → LinkState) (begins : J → Type 0) (pends : J → ℕ) (runs : J → RequestView → Settings → Settings → List ℕ → Type 0) (old new : SessionView L) (last last' : Option Entry) (from to : Stage J) (o : Outcome)
@@ -141,10 +142,19 @@ begun_outcome {L} {J} state begins pends runs old new last last' from to outcome
     (sound, lower, subst (λ (x : Stage J). IfAnswering x ((state new.link).read_waits ≡ (state old.link).read_waits)) (sym b.7) h.waits)
 begun_outcome state begins pends runs old new last last' from to (outcome.Waits what) at h b = absurd b
 begun_outcome state begins pends runs old new last last' from to (outcome.Ends (end.Failed error)) at h b =
-    λ before s. not_begun state old new last last' error h b.0 b.2 before s
+    λ before done s. not_begun state old new last last' error h b.0 b.2 before done s
 begun_outcome state begins pends runs old new last last' from to (outcome.Ends end.Finished) at h b = absurd b.2
 begun_outcome state begins pends runs old new last last' from to (outcome.Ends end.NotKept) at h b = absurd b.2
 begun_outcome state begins pends runs old new last last' from to (outcome.Ends end.Overread) at h b = absurd b.2
+
+-- the setting of keep-alive changes nothing else
+set_closing : (settings : Settings) (seconds : Option ℕ) → (keepalive_set settings seconds).closing ≡ settings.closing
+set_closing settings None = refl
+set_closing settings (Some n) = refl
+
+set_pipelining : (settings : Settings) (seconds : Option ℕ) → (keepalive_set settings seconds).pipelining ≡ settings.pipelining
+set_pipelining settings None = refl
+set_pipelining settings (Some n) = refl
 
 -- the settings that keep-alive is set in
 first_setting : (shutdown : Bool) (settings : Settings) → settings.closing ≡ true → settings.pipelining ≡ false
@@ -160,7 +170,9 @@ pub begun_extends : {L J : Type 0} (state : L → LinkState) (begins : J → Typ
 begun_extends {L} {J} state begins runs now shutdown old mid new last last' to outcome.Done n h set b =
     let request = h.reads.answer.2 in
     let first : IsFirstSetting shutdown (keepalive_set mid.settings (head_time shutdown)) =
-    first_setting shutdown mid.settings (rw request.keep_off h.awaiting.closing) (rw request.keep_off h.awaiting.pipelining) in
+    first_setting shutdown mid.settings
+    (ap (λ (x : Settings). x.closing) request.settings ∙ set_closing old.settings (wished h.reads.answer.0.wish) ∙ h.awaiting.closing)
+    (ap (λ (x : Settings). x.pipelining) request.settings ∙ set_pipelining old.settings (wished h.reads.answer.0.wish) ∙ h.awaiting.pipelining) in
     let began : b.1.began ≡ keepalive_set mid.settings (head_time shutdown) = b.6.began ∙ ap (λ (x : SessionView L). x.settings) set in
     rw (h.alone, b.5) (record {
       began = rw began first;

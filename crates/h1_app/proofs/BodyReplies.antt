@@ -131,19 +131,19 @@ parts_bodied method r b date keep h reply sent is none headed bodied =
     rw (is, none, headed) all
 
 -- a body that is taken up as one piece, or none where it is empty
-pub body_since : {L : Type 0} (state : L → LinkState) (before : LinkState) (old new : SessionView L)
+pub body_since : {L : Type 0} (state : L → LinkState) (before : LinkState) (done : List Entry) (old new : SessionView L)
     (taking : List ℕ) (left : ℕ) (e : Entry) (sent : List ℕ) (written : ℕ)
     (h : AtTakeBody e old) → Writes state old new taking left → sent ≡ h.reply.body
     → taking ≡ piece_bytes (fresh e h.reply) h.reply.body → new.reply.writer ≡ filled e h.reply
-    → Since state before old (Some e)
-    → Since state before new (Some (record e { sent_body = Some sent; written = written }))
-body_since state before old new taking left e sent written h w is takes writer s =
+    → Since state before old done (Some e)
+    → Since state before new done (Some (record e { sent_body = Some sent; written = written }))
+body_since state before done old new taking left e sent written h w is takes writer s =
     let f : Framing = out e.head.method h.reply.header in
     let bytes : taking ++ end_bytes new.reply.writer ≡ body_bytes f h.reply.body =
     ap (λ xs. xs ++ end_bytes new.reply.writer) takes ∙ ap
     (λ x. piece_bytes (begun f) h.reply.body ++ end_bytes x) writer ∙ one_piece f
     h.reply.body in
-    since_wrote state before old new taking left e e.sent_head (Some sent) e.date e.date_text e.keep
+    since_wrote state before done old new taking left e e.sent_head (Some sent) e.date e.date_text e.keep
     e.owed written (body_bytes f h.reply.body) w
     (bytes ∙ ap (λ x. coming x old.reply.writer ++ body_bytes f h.reply.body) (sym h.sent_body))
     (parts_bodied e.head.method e.reply e.sent_body e.date_text e.keep e.sent_head h.reply sent
@@ -168,6 +168,7 @@ writes_nothing state session limit = record {
   refused = refl;
   body = refl;
   settings = refl;
+  reusable = refl;
   counted = none session.reply.sent limit;
 }
   where
@@ -210,13 +211,13 @@ some_body body None none h is false_is = absurd (false≢true (is ∙ ap not fal
 some_body body (Some piece) none h is false_is = ap Some h.0
 
 -- an empty body needs no call
-pub no_body_since : {L : Type 0} (state : L → LinkState) (before : LinkState)
+pub no_body_since : {L : Type 0} (state : L → LinkState) (before : LinkState) (done : List Entry)
     (session : SessionView L) (e : Entry) (sent : List ℕ)
     (h : AtTakeBody e session) → sent ≡ h.reply.body → h.reply.body ≡ []
-    → Since state before session (Some e)
-    → Since state before session (Some (record e { sent_body = Some sent }))
-no_body_since state before session e sent h is empty s =
-    body_since state before session session [] (allowance session.budget) e sent e.written h
+    → Since state before session done (Some e)
+    → Since state before session done (Some (record e { sent_body = Some sent }))
+no_body_since state before done session e sent h is empty s =
+    body_since state before done session session [] (allowance session.budget) e sent e.written h
     (untouched state session e h) is
     (sym (ap (λ xs. piece_bytes (fresh e h.reply) xs) empty ∙ no_piece_bytes
     (out e.head.method h.reply.header)))
@@ -254,15 +255,15 @@ taking_call state old new e piece kept outcome h is call =
     subst (λ (p : Option (List ℕ)). WritesPiece state old new p kept outcome) is
     (at_none _ old.reply.refused h.headed.refused call)
 
-pub taken_since : {L : Type 0} (state : L → LinkState) (before : LinkState)
+pub taken_since : {L : Type 0} (state : L → LinkState) (before : LinkState) (done : List Entry)
     (old new : SessionView L) (e : Entry) (kept : Option (List ℕ))
     (outcome : Poll (Result (Option ℕ) Error)) (sent : List ℕ) (written : ℕ)
     (h : AtTakeBody e old) → WritesPiece state old new (Some h.reply.body) kept outcome
     → sent ≡ h.reply.body
-    → Since state before old (Some e)
-    → Since state before new (Some (record e { sent_body = Some sent; written = written }))
-taken_since state before old new e kept outcome sent written h w is s =
-    body_since state before old new w.taking w.left e sent written h w.writes is
+    → Since state before old done (Some e)
+    → Since state before new done (Some (record e { sent_body = Some sent; written = written }))
+taken_since state before done old new e kept outcome sent written h w is s =
+    body_since state before done old new w.taking w.left e sent written h w.writes is
     (w.takes.0 ∙ ap (λ x. piece_bytes x h.reply.body) h.writer)
     (w.takes.3 ∙ ap (λ x. after_piece x h.reply.body) h.writer) s
 
@@ -379,13 +380,13 @@ taken_done runs state old new e kept outcome told_count sent written h w count r
     (taken_replied state old new e kept outcome sent written h w count told.0.refused is)
     told.0.free told.0.owed
 
-pub piece_fails : {L : Type 0} (state : L → LinkState) (before : LinkState)
+pub piece_fails : {L : Type 0} (state : L → LinkState) (before : LinkState) (done : List Entry)
     (old new : SessionView L) (last : Option Entry) (piece kept : Option (List ℕ))
     (outcome : Poll (Result (Option ℕ) Error)) (error : Error)
     → WritesPiece state old new piece kept outcome → outcome ≡ Ready (Err error)
-    → FailureCause before (state old.link) (state new.link) last error error.kind
-piece_fails state before old new last piece kept outcome error w failed =
-    refused_cause before (state old.link) (state new.link) new.reply
+    → FailureCause before (state old.link) (state new.link) done last error error.kind
+piece_fails state before done old new last piece kept outcome error w failed =
+    refused_cause before (state old.link) (state new.link) done new.reply
     (step.Piece (piece_count old.reply piece)) last error error.kind
     (piece_answer state old new piece kept outcome (Ready (Err error)) w failed).0
 
@@ -396,14 +397,14 @@ pub body_call : {L : Type 0} (state : L → LinkState) (old new : SessionView L)
     → WritesPiece state old new None kept outcome
 body_call state old new e kept outcome h call = at_none _ old.reply.refused h.headed.refused call
 
-pub piece_since : {L : Type 0} (state : L → LinkState) (before : LinkState)
+pub piece_since : {L : Type 0} (state : L → LinkState) (before : LinkState) (done : List Entry)
     (old new : SessionView L) (e : Entry) (kept : Option (List ℕ))
     (outcome : Poll (Result (Option ℕ) Error)) (written : ℕ)
     → WritesPiece state old new None kept outcome
-    → Since state before old (Some e)
-    → Since state before new (Some (record e { written = written }))
-piece_since state before old new e kept outcome written w s =
-    since_goes_on state before old new w.taking w.left e e.owed written w.writes w.takes.0
+    → Since state before old done (Some e)
+    → Since state before new done (Some (record e { written = written }))
+piece_since state before done old new e kept outcome written w s =
+    since_goes_on state before done old new w.taking w.left e e.owed written w.writes w.takes.0
     w.takes.1.writer s
 
 pub piece_grows : {L : Type 0} (state : L → LinkState) (now : ℕ) (old new : SessionView L) (e : Entry)

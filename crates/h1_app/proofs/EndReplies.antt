@@ -34,12 +34,13 @@ use Rattle.h1_server.specs.Moved.{Moved}
 use Rattle.h1_server.specs.SessionView.{SessionView}
 use Rattle.h1_app.specs.declared.application.Reply.{Reply}
 use Rattle.h1_app.specs.declared.transcript.Entry.{Entry}
+use Rattle.h1_app.specs.Behind.{WroteBehind, AfterRead, AfterWrote, DoneBehind, FlushedBy, written_of}
 use Rattle.h1_app.specs.Causes.{FailureCause, IsComplete, IsWrittenShort, EndsBody, LastStands}
 use Rattle.h1_app.specs.Exchange.{render, is_short, shown}
 use Rattle.h1_app.specs.Since.{Since, IfTold, ReadEntry, WroteSo, coming, StopsBody}
 use Rattle.h1_app.specs.Sound.{IsKept}
 use Rattle.h1_app.specs.Turns.{Went}
-use Rattle.h1_app.proofs.SinceLemmas.{told_map}
+use Rattle.h1_app.proofs.BehindLemmas.{told_map, read_map, flushed_on}
 
 -- a chunked body that is broken stays so
 chunks_broken : (s : Chunking) (bytes : List ℕ) → chunked s [] ≡ broken []
@@ -93,44 +94,44 @@ stands_unfinished since e session r none h = record {
 }
 
 -- an error of the request's body ends the connection for its own cause
-stop_cause : {L : Type 0} (state : L → LinkState) (before old : LinkState) (session : SessionView L)
+stop_cause : {L : Type 0} (state : L → LinkState) (before old : LinkState) (done : List Entry) (session : SessionView L)
     (e : Entry) (error : Error) (k : ErrorType)
-    → Since state before session (Some e) → EndsBody before (state session.link) e error
+    → Since state before session done (Some e) → EndsBody before (state session.link) done e error
     → StopsBody state session k
-    → FailureCause before old (state session.link) (Some e) error k
-stop_cause state before old session e error kind.InvalidBody s ends h = (
+    → FailureCause before old (state session.link) done (Some e) error k
+stop_cause state before old done session e error kind.InvalidBody s ends h = (
   ends,
-  told_map before.given (state session.link).given (λ since. ReadEntry since e session)
-      (λ since. LastStands since e (broken e.body))
-      (λ since r. stands_broken since e session r h) s.read,
+  read_map done before.given (state session.link).given (λ rest. ReadEntry rest e session)
+      (λ rest. LastStands rest e (broken e.body))
+      (λ rest r. stands_broken rest e session r h) s.read,
 )
-stop_cause state before old session e error kind.ConnectionClosed s ends h = (
+stop_cause state before old done session e error kind.ConnectionClosed s ends h = (
   h.0,
   inr (
     ends,
-    told_map before.given (state session.link).given
-        (λ since. ReadEntry since e session) (λ since. LastStands since e (unfinished e.body))
-        (λ since r. stands_unfinished since e session r h.1.0 h.1.1) s.read,
+    read_map done before.given (state session.link).given
+        (λ rest. ReadEntry rest e session) (λ rest. LastStands rest e (unfinished e.body))
+        (λ rest r. stands_unfinished rest e session r h.1.0 h.1.1) s.read,
   ),
 )
-stop_cause state before old session e error kind.ReadError s ends h = inr (
+stop_cause state before old done session e error kind.ReadError s ends h = inr (
   ends,
-  told_map before.given (state session.link).given
-      (λ since. ReadEntry since e session) (λ since. LastStands since e (unfinished e.body))
-      (λ since r. stands_unfinished since e session r h.0 h.1) s.read,
+  read_map done before.given (state session.link).given
+      (λ rest. ReadEntry rest e session) (λ rest. LastStands rest e (unfinished e.body))
+      (λ rest r. stands_unfinished rest e session r h.0 h.1) s.read,
 )
-stop_cause state before old session e error _ s ends h = absurd h
+stop_cause state before old done session e error _ s ends h = absurd h
 
-pub stopped_cause : {L : Type 0} (state : L → LinkState) (before old : LinkState)
+pub stopped_cause : {L : Type 0} (state : L → LinkState) (before old : LinkState) (done : List Entry)
     (session : SessionView L) (e : Entry) (error : Error)
-    → Since state before session (Some e) → e.body_error ≡ Some error
-    → IsComplete before (state session.link) e ⊎ IsWrittenShort before (state session.link) e
-    → FailureCause before old (state session.link) (Some e) error error.kind
-stopped_cause state before old session e error s is replied =
+    → Since state before session done (Some e) → e.body_error ≡ Some error
+    → IsComplete before (state session.link) done e ⊎ IsWrittenShort before (state session.link) done e
+    → FailureCause before old (state session.link) done (Some e) error error.kind
+stopped_cause state before old done session e error s is replied =
     let stops : IfSome (Some error) (λ error. StopsBody state session error.kind) =
     subst (λ (x : Option Error). IfSome x (λ error. StopsBody state session error.kind)) is
     s.stopped in
-    stop_cause state before old session e error error.kind s (record { is = is; replied = replied })
+    stop_cause state before old done session e error error.kind s (record { is = is; replied = replied })
     stops
 
 -- all of the reply is written
@@ -142,28 +143,29 @@ written_whole since session e sent none is ended h =
     (λ xs. since ++ session.reply.owed ++ xs) ended
     ∙ append-nil (since ++ session.reply.owed) ∙ ap (λ xs. since ++ xs) none ∙ append-nil since) ∙ h
 
-pub told_whole : {L : Type 0} (state : L → LinkState) (before : LinkState) (session : SessionView L)
+pub told_whole : {L : Type 0} (state : L → LinkState) (before : LinkState) (done : List Entry) (session : SessionView L)
     (e : Entry) (sent : List ℕ)
-    → Since state before session (Some e) → session.reply.owed ≡ [] → e.sent_body ≡ Some sent
+    → Since state before session done (Some e) → session.reply.owed ≡ [] → e.sent_body ≡ Some sent
     → end_bytes session.reply.writer ≡ []
-    → IfTold before.written (state session.link).written (λ since. since ≡ render e)
-told_whole state before session e sent s none is ended =
+    → IfTold before.written (state session.link).written (λ since. WroteBehind since done (render e))
+told_whole state before done session e sent s none is ended =
     told_map before.written (state session.link).written
-    (λ since. WroteSo since session (Some e) ×
-    (session.reply.sent ≡ min (length since) (2 ^ 64 - 1))) (λ since. since ≡ render e)
-    (λ since h. written_whole since session e sent none is ended h.0) s.wrote
+    (AfterWrote done (λ rest. WroteSo rest session (Some e) ×
+    (session.reply.sent ≡ min (length rest) (2 ^ 64 - 1)))) (λ since. WroteBehind since done (render e))
+    (λ since h. subst (λ xs. WroteBehind since done xs)
+    (written_whole h.0 session e sent none is ended h.2.0) h.1) s.wrote
 
-pub complete : {L : Type 0} (state : L → LinkState) (before : LinkState) (session : SessionView L)
+pub complete : {L : Type 0} (state : L → LinkState) (before : LinkState) (done : List Entry) (session : SessionView L)
     (e : Entry) (head : ResponseView) (sent : List ℕ)
-    → e.owed ≡ false → Since state before session (Some e) → session.reply.owed ≡ []
+    → e.owed ≡ false → Since state before session done (Some e) → session.reply.owed ≡ []
     → end_bytes session.reply.writer ≡ []
     → e.sent_head ≡ Some head → e.sent_body ≡ Some sent → e.written ≡ session.reply.sent
     → (state session.link).bytes_out ≤ (state session.link).flushed
-    → IsComplete before (state session.link) e
-complete state before session e head sent unowed s none ended headed is count flushed = record {
+    → IsComplete before (state session.link) done e
+complete state before done session e head sent unowed s none ended headed is count flushed = record {
   sent_head = λ p. none-some head (sym p ∙ headed);
   sent_body = λ p. none-some sent (sym p ∙ is);
-  written = told_whole state before session e sent s none is ended;
+  written = told_whole state before done session e sent s none is ended;
   flushed = omega (arith, s.out, count, flushed);
   unowed = unowed;
 }
@@ -179,6 +181,7 @@ moved_shutdown before now later read wrote spent e m =
       rose = m.rose;
       most = m.most;
       enough = m.enough;
+      free = m.free;
       out = m.out;
       later = later_on before now (after_shutdown now) m.later (later_shutdown now);
     } in
@@ -221,19 +224,19 @@ stopped_shutdown : {L : Type 0} (state : L → LinkState) (now : SessionView L) 
 stopped_shutdown state now link None e h = tt
 stopped_shutdown state now link (Some error) e h = stops_shutdown state now link error.kind e h
 
-since_linked : {L : Type 0} (state : L → LinkState) (before : LinkState) (now : SessionView L)
+since_linked : {L : Type 0} (state : L → LinkState) (before : LinkState) (done : List Entry) (now : SessionView L)
     (link : L) (e : Entry) → state link ≡ after_shutdown (state now.link)
-    → Since state before now (Some e) → Since state before (record now { link = link }) (Some e)
-since_linked state before now link e same s = record {
+    → Since state before now done (Some e) → Since state before (record now { link = link }) done (Some e)
+since_linked state before done now link e same s = record {
   later = subst (λ x. Later before x) (sym same)
       (later_on before (state now.link) (after_shutdown (state now.link)) s.later
       (later_shutdown (state now.link)));
   read = subst (λ x. IfTold before.given x
-      (λ since. ReadEntry since e (record now { link = link })))
+      (AfterRead done (λ rest. ReadEntry rest e (record now { link = link }))))
       (sym (ap (λ (s : LinkState). s.given) same))
-      (told_map before.given (state now.link).given (λ since. ReadEntry since e now)
-      (λ since. ReadEntry since e (record now { link = link }))
-      (λ since h. record {
+      (read_map done before.given (state now.link).given (λ rest. ReadEntry rest e now)
+      (λ rest. ReadEntry rest e (record now { link = link }))
+      (λ rest h. record {
         n = h.n;
         used = h.used;
         head = h.head;
@@ -241,20 +244,23 @@ since_linked state before now link e same s = record {
         decoded = h.decoded;
       }) s.read);
   wrote = subst (λ x. IfTold before.written x
-      (λ since. WroteSo since now (Some e) × (now.reply.sent ≡ min (length since) (2 ^ 64 - 1))))
+      (AfterWrote done (λ rest. WroteSo rest now (Some e) × (now.reply.sent ≡ min (length rest) (2 ^ 64 - 1)))))
       (sym (ap (λ (s : LinkState). s.written) same)) s.wrote;
   stopped = stopped_shutdown state now link e.body_error same s.stopped;
-  out = subst (λ n. RoseBy now.reply.sent before.bytes_out n)
+  flushed = subst (λ x. DoneBehind (FlushedBy before x) 0 done) (sym same)
+      (flushed_on before (state now.link) (after_shutdown (state now.link)) 0 done
+      (later_shutdown (state now.link)).flushed s.flushed);
+  out = subst (λ n. RoseBy (written_of done + now.reply.sent) before.bytes_out n)
       (sym (ap (λ (s : LinkState). s.bytes_out) same)) s.out;
 }
 
-pub since_shutdown : {L : Type 0} (state : L → LinkState) (before : LinkState)
+pub since_shutdown : {L : Type 0} (state : L → LinkState) (before : LinkState) (done : List Entry)
     (now new : SessionView L) (e : Entry)
     → state new.link ≡ after_shutdown (state now.link) → new ≡ record now { link = new.link }
-    → Since state before now (Some e) → Since state before new (Some e)
-since_shutdown state before now new e same rest s =
-    subst (λ x. Since state before x (Some e)) (sym rest)
-    (since_linked state before now new.link e same s)
+    → Since state before now done (Some e) → Since state before new done (Some e)
+since_shutdown state before done now new e same rest s =
+    subst (λ x. Since state before x done (Some e)) (sym rest)
+    (since_linked state before done now new.link e same s)
 
 -- a stated length is below 2 ^ 64
 length_limit : (lines : List Line) (n : ℕ) → content_length lines ≡ stated.Number n → n < 2 ^ 64

@@ -147,6 +147,7 @@ short_writes state old end limit =
       refused = refl;
       body = refl;
       settings = refl;
+      reusable = refl;
       counted = same.counted;
     }
 
@@ -208,14 +209,14 @@ ending state old new e outcome h call =
     (omega (arith, h.replied.asked.written, h.replied.asked.limit)) h.finishing
     (at_none _ old.reply.refused h.headed.refused call)
 
-pub finish_since : {L : Type 0} (state : L → LinkState) (before : LinkState)
+pub finish_since : {L : Type 0} (state : L → LinkState) (before : LinkState) (done : List Entry)
     (old new : SessionView L) (e : Entry) (outcome : Poll (Result (Option ℕ) Error)) (owed : Bool)
     (written : ℕ) (h : AtFinish e old)
     → Ending state old new e h.reply outcome
-    → Since state before old (Some e)
-    → Since state before new (Some (record e { owed = owed; written = written }))
-finish_since state before old new e outcome owed written h w s =
-    since_wrote state before old new w.taking w.left e e.sent_head e.sent_body e.date e.date_text
+    → Since state before old done (Some e)
+    → Since state before new done (Some (record e { owed = owed; written = written }))
+finish_since state before done old new e outcome owed written h w s =
+    since_wrote state before done old new w.taking w.left e e.sent_head e.sent_body e.date e.date_text
     e.keep owed written [] w.writes
     (ap (λ x. w.taking ++ coming x new.reply.writer) h.sent_body ∙ w.bytes ∙ ap
     (λ x. coming x old.reply.writer ++ []) (sym h.sent_body))
@@ -309,22 +310,22 @@ nothing_comes : {L : Type 0} (state : L → LinkState) (old new : SessionView L)
 nothing_comes state old new e reply outcome w = ap (λ x. end_bytes x) w.ended
 
 -- the reply is whole behind the call
-pub finish_done : {L : Type 0} (state : L → LinkState) (before : LinkState)
+pub finish_done : {L : Type 0} (state : L → LinkState) (before : LinkState) (done : List Entry)
     (old new : SessionView L) (e : Entry) (outcome : Poll (Result (Option ℕ) Error))
     (told_count : Option ℕ) (written : ℕ) (h : AtFinish e old)
     → Ending state old new e h.reply outcome → written ≡ new.reply.sent
     → outcome ≡ Ready (Ok told_count)
-    → Since state before new (Some (record e { owed = false; written = written }))
-    → IsComplete before (state new.link) (record e { owed = false; written = written })
-finish_done state before old new e outcome told_count written h w count ready s =
+    → Since state before new done (Some (record e { owed = false; written = written }))
+    → IsComplete before (state new.link) done (record e { owed = false; written = written })
+finish_done state before done old new e outcome told_count written h w count ready s =
     let told = answers state old new e h.reply outcome (Ready (Ok told_count)) w ready
     (not_done told_count) in
-    complete state before new (record e { owed = false; written = written }) h.reply.header
+    complete state before done new (record e { owed = false; written = written }) h.reply.header
     h.reply.body refl s told.0.owed
     (nothing_comes state old new e h.reply outcome w) h.headed.sent_head h.sent_body count told.2
 
 -- the same behind a shutdown
-pub finish_closed : {L : Type 0} (state : L → LinkState) (before : LinkState)
+pub finish_closed : {L : Type 0} (state : L → LinkState) (before : LinkState) (done : List Entry)
     (old new closed : SessionView L) (e : Entry) (outcome : Poll (Result (Option ℕ) Error))
     (told_count : Option ℕ) (written : ℕ) (h : AtFinish e old)
     → Ending state old new e h.reply outcome → written ≡ new.reply.sent
@@ -332,14 +333,14 @@ pub finish_closed : {L : Type 0} (state : L → LinkState) (before : LinkState)
     → closed ≡ record new { link = closed.link }
     → (state closed.link).bytes_out ≡ (state new.link).bytes_out
     → (state closed.link).flushed ≡ (state new.link).flushed
-    → Since state before closed (Some (record e { owed = false; written = written }))
-    → IsComplete before (state closed.link) (record e { owed = false; written = written })
-finish_closed {L} state before old new closed e outcome told_count written h w count ready rest
+    → Since state before closed done (Some (record e { owed = false; written = written }))
+    → IsComplete before (state closed.link) done (record e { owed = false; written = written })
+finish_closed {L} state before done old new closed e outcome told_count written h w count ready rest
     out flushed s =
     let told = answers state old new e h.reply outcome (Ready (Ok told_count)) w ready
     (not_done told_count) in
     let same : closed.reply ≡ new.reply = ap (λ (x : SessionView L). x.reply) rest in
-    complete state before closed (record e { owed = false; written = written }) h.reply.header
+    complete state before done closed (record e { owed = false; written = written }) h.reply.header
     h.reply.body refl s
     (ap (λ (r : ReplyState). r.owed) same ∙ told.0.owed)
     (ap (λ (r : ReplyState). end_bytes r.writer) same ∙ nothing_comes state old new e h.reply
@@ -371,67 +372,67 @@ fails_as_body : (body_error error : Error) → error.kind ≡ kind.PrematureBody
     → failure_of (Some body_error) error ≡ body_error
 fails_as_body body_error error is = rw is refl
 
-plain_cause : (before old now : LinkState) (last : Option Entry) (body_error : Option Error)
+plain_cause : (before old now : LinkState) (done : List Entry) (last : Option Entry) (body_error : Option Error)
     (error : Error) (k : ErrorType)
     → error.kind ≡ k → (k ≡ kind.WriteError) ⊎ (k ≡ kind.NoMemory)
-    → FailureCause before old now last error k
-    → FailureCause before old now last (failure_of body_error error)
+    → FailureCause before old now done last error k
+    → FailureCause before old now done last (failure_of body_error error)
     (failure_of body_error error).kind
-plain_cause before old now last body_error error k is which cause =
-    subst (λ (x : Error). FailureCause before old now last x x.kind)
+plain_cause before old now done last body_error error k is which cause =
+    subst (λ (x : Error). FailureCause before old now done last x x.kind)
     (sym (fails_as_is body_error error k is which))
-    (subst (λ k. FailureCause before old now last error k) (sym is) cause)
+    (subst (λ k. FailureCause before old now done last error k) (sym is) cause)
 
-short_cause : {L : Type 0} (state : L → LinkState) (before old : LinkState)
+short_cause : {L : Type 0} (state : L → LinkState) (before old : LinkState) (done : List Entry)
     (session : SessionView L) (f : Entry) (body_error : Option Error) (error : Error)
     → error.kind ≡ kind.PrematureBodyEnd → f.body_error ≡ body_error
-    → Since state before session (Some f) → IsWrittenShort before (state session.link) f
-    → FailureCause before old (state session.link) (Some f) (failure_of body_error error)
+    → Since state before session done (Some f) → IsWrittenShort before (state session.link) done f
+    → FailureCause before old (state session.link) done (Some f) (failure_of body_error error)
     (failure_of body_error error).kind
-short_cause state before old session f None error is body s short =
-    subst (λ k. FailureCause before old (state session.link) (Some f) error k) (sym is) (short, body)
-short_cause state before old session f (Some body_error) error is body s short =
-    subst (λ (x : Error). FailureCause before old (state session.link) (Some f) x x.kind)
+short_cause state before old done session f None error is body s short =
+    subst (λ k. FailureCause before old (state session.link) done (Some f) error k) (sym is) (short, body)
+short_cause state before old done session f (Some body_error) error is body s short =
+    subst (λ (x : Error). FailureCause before old (state session.link) done (Some f) x x.kind)
     (sym (fails_as_body body_error error is))
-    (stopped_cause state before old session f body_error s body (inr short))
+    (stopped_cause state before old done session f body_error s body (inr short))
 
-refusal_cause : (before old now : LinkState) (reply : ReplyState) (last : Option Entry)
+refusal_cause : (before old now : LinkState) (done : List Entry) (reply : ReplyState) (last : Option Entry)
     (body_error : Option Error) (error : Error) (k : ErrorType)
     → error.kind ≡ k → IsRefused old now reply step.Finish error k
-    → FailureCause before old now last (failure_of body_error error)
+    → FailureCause before old now done last (failure_of body_error error)
     (failure_of body_error error).kind
-refusal_cause before old now reply last body_error error kind.WriteError is h =
-    plain_cause before old now last body_error error kind.WriteError is (inl refl) h.0
-refusal_cause before old now reply last body_error error kind.NoMemory is h =
-    plain_cause before old now last body_error error kind.NoMemory is (inr refl) tt
-refusal_cause before old now reply last body_error error _ is h = absurd h
+refusal_cause before old now done reply last body_error error kind.WriteError is h =
+    plain_cause before old now done last body_error error kind.WriteError is (inl refl) h.0
+refusal_cause before old now done reply last body_error error kind.NoMemory is h =
+    plain_cause before old now done last body_error error kind.NoMemory is (inr refl) tt
+refusal_cause before old now done reply last body_error error _ is h = absurd h
 
 same_error : (a b : Error) → ◌≡◌ {A = Poll (Result (Option ℕ) Error)} (Ready (Err a))
     (Ready (Err b)) → a ≡ b
 same_error a b h = cc
 
-pub finish_fails : {L : Type 0} (state : L → LinkState) (before : LinkState)
+pub finish_fails : {L : Type 0} (state : L → LinkState) (before : LinkState) (done : List Entry)
     (old new : SessionView L) (e : Entry) (outcome : Poll (Result (Option ℕ) Error))
     (error reason : Error) (written : ℕ) (h : AtFinish e old)
     → Ending state old new e h.reply outcome → outcome ≡ Ready (Err error)
     → reason ≡ failure_of e.body_error error
-    → Since state before new (Some (record e { written = written }))
-    → FailureCause before (state old.link) (state new.link) (Some (record e { written = written }))
+    → Since state before new done (Some (record e { written = written }))
+    → FailureCause before (state old.link) (state new.link) done (Some (record e { written = written }))
     reason reason.kind
-finish_fails state before old new e outcome error reason written h w failed is s =
+finish_fails state before done old new e outcome error reason written h w failed is s =
     let f : Entry = record e { written = written } in
-    subst (λ (x : Error). FailureCause before (state old.link) (state new.link) (Some f) x x.kind)
+    subst (λ (x : Error). FailureCause before (state old.link) (state new.link) done (Some f) x x.kind)
     (sym is) (elim w.answer [
-      | inl answer ↦ refusal_cause before (state old.link) (state new.link) new.reply (Some f)
+      | inl answer ↦ refusal_cause before (state old.link) (state new.link) done new.reply (Some f)
           e.body_error error error.kind refl
           (subst (λ (o : Poll (Result (Option ℕ) Error)). EndAnswer (state old.link) (state new.link)
           old.reply new.reply w.left o) failed answer.1).0
-      | inr short ↦ short_cause state before (state old.link) new f e.body_error error
+      | inr short ↦ short_cause state before (state old.link) done new f e.body_error error
           (ap (λ (x : Error). x.kind) (same_error error cut_off (sym failed ∙ short.answer))) refl s
           (record {
             short = short_where_writer f h.reply h.replied.is h.headed.sent_head h.sent_body
                 short.short;
-            written = told_whole state before new f h.reply.body s short.owed h.sent_body
+            written = told_whole state before done new f h.reply.body s short.owed h.sent_body
                 (nothing_comes state old new e h.reply outcome w);
           })
     ])

@@ -1,5 +1,5 @@
 -- What steps of a connection leave, one behind the other.
-use Rattle.std.proofs.Common.{◌≡◌, ℕ, ◌+◌, ◌-◌, ◌/◌, ◌<◌, ◌≤◌, ◌⊎◌, inl, inr, List, [], ◌++◌, length, Bool, true, false, Option, Some, None, IfSome, IfNone, IsSome, option_map, refl, sym, ◌∙◌, ap, append_assoc, length-append, arith}
+use Rattle.std.proofs.Common.{◌≡◌, ℕ, ◌+◌, ◌-◌, ◌/◌, ◌<◌, ◌≤◌, ◌⊎◌, inl, inr, List, ◌++◌, length, Bool, true, false, Option, Some, None, IfSome, IfNone, IsSome, option_map, refl, sym, ◌∙◌, ap, append_assoc, length-append, arith}
 use Rattle.std.specs.Prelude.{◌==◌, if◌then◌else◌}
 use Rattle.std.proofs.lemmas.Bool.{false≢true}
 use Rattle.std.proofs.lemmas.Bool.Decides.{nat_tests}
@@ -169,12 +169,11 @@ job_itself begins pends (stage.Answer job) = (job, inl refl, omega arith)
 job_itself begins pends _ = tt
 
 pub gone_itself : {L A J : Type 0} (state : L → LinkState) (begins : J → Type 0) (pends : J → ℕ) (same_plan : L → L → Type 0)
-    (now : ℕ) (shutdown : Bool) (at : View L A J) → same_plan at.session.link at.session.link → at.done ≡ [] → IsSome at.session.budget
+    (now : ℕ) (shutdown : Bool) (at : View L A J) → same_plan at.session.link at.session.link → IsSome at.session.budget
     → Gone state begins pends same_plan now shutdown at at
-gone_itself state begins pends same_plan now shutdown at plan alone some = record {
+gone_itself state begins pends same_plan now shutdown at plan some = record {
   app = refl;
-  alone = alone;
-  still_alone = alone;
+  done = refl;
   plan = plan;
   went = went_itself state at.session (moved_itself (state at.session.link)) some;
   since = λ before s. s;
@@ -189,8 +188,7 @@ pub gone_on : {L A J : Type 0} (state : L → LinkState) (begins : J → Type 0)
     → Gone state begins pends same_plan now shutdown a c
 gone_on state begins pends same_plan now shutdown a b c on x y = record {
   app = y.app ∙ x.app;
-  alone = x.alone;
-  still_alone = y.still_alone;
+  done = y.done ∙ x.done;
   plan = on x.plan y.plan;
   went = went_on state a.session b.session c.session x.went y.went;
   since = λ before s. y.since before (x.since before s);
@@ -222,21 +220,21 @@ reads_on (stage.Answer job) stage.Head first second third less same before at = 
 reads_on _ stage.Head first second third less same before at = absurd (omega arith)
 reads_on a _ first second third less same before at = absurd (omega arith)
 
-failure_back : (before older old now : LinkState) → Later older old → (last : Option Entry) (error : Error) (k : ErrorType)
-    → FailureCause before old now last error k → FailureCause before older now last error k
-failure_back before older old now later last error kind.ReadError (inl h) =
+failure_back : (before older old now : LinkState) → Later older old → (done : List Entry) (last : Option Entry) (error : Error) (k : ErrorType)
+    → FailureCause before old now done last error k → FailureCause before older now done last error k
+failure_back before older old now later done last error kind.ReadError (inl h) =
     inl (h.0, rose_read_faults 1 older old now now later h.1 (later_itself now), h.2)
-failure_back before older old now later last error kind.ReadError (inr h) = inr h
-failure_back before older old now later last error kind.WriteError h =
+failure_back before older old now later done last error kind.ReadError (inr h) = inr h
+failure_back before older old now later done last error kind.WriteError h =
     rose_write_faults 1 older old now now later h (later_itself now)
-failure_back before older old now later last error _ h = h
+failure_back before older old now later done last error _ h = h
 
 -- an end has its cause since an earlier state too
-pub end_back : (before older old now : LinkState) → Later older old → (last : Option Entry) (reason : End)
-    → EndCause before old now last reason → EndCause before older now last reason
-end_back before older old now later last (end.Failed error) h =
-    failure_back before older old now later last error error.kind h
-end_back before older old now later last _ h = h
+pub end_back : (before older old now : LinkState) → Later older old → (done : List Entry) (last : Option Entry) (reason : End)
+    → EndCause before old now done last reason → EndCause before older now done last reason
+end_back before older old now later done last (end.Failed error) h =
+    failure_back before older old now later done last error error.kind h
+end_back before older old now later done last _ h = h
 
 -- where the application is asked on, its job is the one that was there, further on
 abbrev pub JobKept : {J : Type 0} → (J → ℕ) → Stage J → Stage J → Type 0
@@ -310,13 +308,13 @@ step_waits : {L A J : Type 0} (state : L → LinkState) (begins : J → Type 0) 
     (a b c : View L A J) (left : ℕ) → Gone state begins pends same_plan now shutdown a b
     → rank b.stage ≤ rank a.stage → JobKept pends a.stage b.stage
     → (5 ≤ rank b.stage → (state b.session.link).read_waits ≡ (state a.session.link).read_waits)
-    → c.session.budget ≡ Some left → 0 < left → Since state before c.session c.last
+    → c.session.budget ≡ Some left → 0 < left → Since state before c.session c.done c.last
     → (what : Waiting) → WaitsOn state pends b.session c.session c.last b.stage c.stage what
     → WaitCause begins pends before (state a.session.link) (state c.session.link) a c what
 step_waits state begins pends same_plan now shutdown before a b c left x falls kept reads is some s waiting.Read w = (
   rose_read_waits 1 (state a.session.link) (state b.session.link) (state c.session.link) (state c.session.link) x.went.moved.later
       (rose_of _ _ left is some w.0) (later_itself (state c.session.link)),
-  w.1 before s,
+  w.1 before c.done s,
 )
 step_waits state begins pends same_plan now shutdown before a b c left x falls kept reads is some s waiting.Write w = (
   rose_write_waits 1 (state a.session.link) (state b.session.link) (state c.session.link) (state c.session.link) x.went.moved.later
@@ -332,7 +330,7 @@ pub poll_waits : {L A J : Type 0} (state : L → LinkState) (begins : J → Type
     (a b c : View L A J) → Gone state begins pends same_plan now shutdown a b → Gone state begins pends same_plan now shutdown a c
     → rank b.stage ≤ rank a.stage → JobKept pends a.stage b.stage
     → (5 ≤ rank b.stage → (state b.session.link).read_waits ≡ (state a.session.link).read_waits)
-    → a.session.budget ≡ Some 64 → Since state before c.session c.last
+    → a.session.budget ≡ Some 64 → Since state before c.session c.done c.last
     → (what : Waiting) → WaitsOn state pends b.session c.session c.last b.stage c.stage what
     → (budget : Option ℕ) → c.session.budget ≡ budget
     → WaitCause begins pends before (state a.session.link) (state c.session.link) a c (waiting_for budget what)
@@ -366,11 +364,11 @@ cause_same state begins pends before a b to link same (progress.Pending waiting.
 -- a poll's cause is that of the steps it made
 pub caused_poll : {L A J : Type 0} (state : L → LinkState) (begins : J → Type 0) (pends : J → ℕ) (a b to : View L A J) (result : Progress)
     → a.session.link ≡ b.session.link → a.stage ≡ b.stage
-    → ((before : LinkState) → Since state before b.session b.last → Since state before a.session a.last)
-    → ((before : LinkState) → Since state before a.session a.last → Cause state begins pends before a to result)
-    → IfNone b.end ((before : LinkState) → Since state before b.session b.last → Cause state begins pends before b to result)
+    → ((before : LinkState) → Since state before b.session b.done b.last → Since state before a.session a.done a.last)
+    → ((before : LinkState) → Since state before a.session a.done a.last → Cause state begins pends before a to result)
+    → IfNone b.end ((before : LinkState) → Since state before b.session b.done b.last → Cause state begins pends before b to result)
 caused_poll {L} {A} {J} state begins pends a b to result link same since cause = on b.end
   where
-    on : (end : Option End) → IfNone end ((before : LinkState) → Since state before b.session b.last → Cause state begins pends before b to result)
+    on : (end : Option End) → IfNone end ((before : LinkState) → Since state before b.session b.done b.last → Cause state begins pends before b to result)
     on None = λ before s. cause_same state begins pends before a b to link same result (cause before (since before s))
     on (Some reason) = tt

@@ -18,11 +18,13 @@ use Rattle.h1_app.specs.declared.transcript.Entry.{Entry}
 use Rattle.h1_app.specs.declared.exchange.Stage.{Stage}
 use Rattle.h1_app.specs.declared.exchange.Stage.TheVariants as stage
 use Rattle.h1_app.specs.declared.exchange.Outcome.TheVariants as outcome
+use Rattle.h1_app.specs.Behind.{AfterRead}
 use Rattle.h1_app.specs.Causes.{LacksSo, FailureCause, EndCause}
 use Rattle.h1_app.specs.Since.{Since, IfTold}
 use Rattle.h1_app.specs.Sound.{SoundStage, IsAwaiting}
 use Rattle.h1_app.specs.Turns.{OutcomeCause}
-use Rattle.h1_app.proofs.SinceLemmas.{told_map, told_ahead, since_received, lacks_head, head_failed}
+use Rattle.h1_app.proofs.BehindLemmas.{read_map}
+use Rattle.h1_app.proofs.SinceLemmas.{told_ahead, told_lacks, since_received, head_failed}
 
 -- the step's call, at a stage that awaits a head
 pub record AtHead {L : Type 0} (state : L → LinkState) (old new : SessionView L) (last : Option Entry) (answer : Poll (Result ReadRequest Error)) : Type 0 where
@@ -39,11 +41,11 @@ at_head state runs old new last from answer sound at read =
 -- a session that kept its bytes
 pub none_since : {L : Type 0} (state : L → LinkState) (old new : SessionView L) (last : Option Entry) (answer : Poll (Result ReadRequest Error))
     → (h : AtHead state old new last answer) → BeginsNone old new h.reads.bytes
-    → (before : LinkState) → Since state before old last → Since state before new last
-none_since state old new last answer h got before s =
-    let start : Since state before old None = subst (λ x. Since state before old x) h.alone s in
-    subst (λ x. Since state before new x) (sym h.alone)
-    (since_received state old new h.reads.bytes (allowance old.budget) h.reads.left before h.reads.received got.received h.reads.reply h.awaiting.request got.request start)
+    → (before : LinkState) (done : List Entry) → Since state before old done last → Since state before new done last
+none_since state old new last answer h got before done s =
+    let start : Since state before old done None = subst (λ x. Since state before old done x) h.alone s in
+    subst (λ x. Since state before new done x) (sym h.alone)
+    (since_received state old new h.reads.bytes (allowance old.budget) h.reads.left before done h.reads.received got.received h.reads.reply h.awaiting.request got.request start)
 
 -- the session still awaits a head
 pub still_awaits : {L : Type 0} (state : L → LinkState) (old new : SessionView L) (last : Option Entry) (answer : Poll (Result ReadRequest Error))
@@ -74,10 +76,11 @@ head_waits state pends runs old new last from some at h =
       subst (λ x. SoundStage runs new last x) (sym at) (h.alone, awaits),
       (
         elim a.3 [ inl rose ↦ inl rose | inr z ↦ inr (left_none old.budget h.reads.left new.budget some h.reads.budget z) ],
-        (λ before s. subst (λ x. IfTold before.given (state new.link).given (λ since. LacksSo since x)) (sym h.alone)
-            (let start : Since state before new None = subst (λ x. Since state before new x) h.alone s in
-            told_map before.given (state new.link).given (λ since. since ≡ new.received) (λ since. LacksSo since None)
-            (λ since e. subst (λ x. LacksSo x None) (sym (e ∙ a.0.received)) (lacks_head h.reads.bytes a.2)) (told_ahead new before.given (state new.link).given awaits.request start.read))),
+        (λ before done s. subst (λ x. IfTold before.given (state new.link).given (λ since. LacksSo since done x)) (sym h.alone)
+            (let start : Since state before new done None = subst (λ x. Since state before new done x) h.alone s in
+            told_lacks done before.given (state new.link).given h.reads.bytes
+            (subst (λ xs. IfTold before.given (state new.link).given (AfterRead done (λ rest. rest ≡ xs))) a.0.received
+            (told_ahead new done before.given (state new.link).given awaits.request start.read)) a.2)),
       ),
     )
 
@@ -88,31 +91,31 @@ none_parts state old new bytes left IdleTimeout a = absurd a
 
 -- no request comes: the link ended, and no byte was received
 pub closed_since : {L : Type 0} (state : L → LinkState) (old new : SessionView L) (last : Option Entry) (why : NoRequest)
-    → AtHead state old new last (Ready (Ok (read.None why))) → (before : LinkState) → Since state before old last → Since state before new last
+    → AtHead state old new last (Ready (Ok (read.None why))) → (before : LinkState) (done : List Entry) → Since state before old done last → Since state before new done last
 closed_since state old new last why h =
     let a = none_parts state old new h.reads.bytes h.reads.left why h.reads.answer in
     none_since state old new last (Ready (Ok (read.None why))) h a.0
 
 pub closed_ends : {L : Type 0} (state : L → LinkState) (old new : SessionView L) (last : Option Entry) (why : NoRequest)
-    → AtHead state old new last (Ready (Ok (read.None why))) → (before : LinkState) → Since state before new last
-    → EndCause before (state old.link) (state new.link) last end.Finished
-closed_ends state old new last why h before s =
+    → AtHead state old new last (Ready (Ok (read.None why))) → (before : LinkState) (done : List Entry) → Since state before new done last
+    → EndCause before (state old.link) (state new.link) done last end.Finished
+closed_ends state old new last why h before done s =
     let a = none_parts state old new h.reads.bytes h.reads.left why h.reads.answer in
-    let start : Since state before new None = subst (λ x. Since state before new x) h.alone s in (
+    let start : Since state before new done None = subst (λ x. Since state before new done x) h.alone s in (
       h.alone,
       a.2,
-      told_map before.given (state new.link).given (λ since. since ≡ new.received) (λ since. since ≡ [])
-          (λ since e. e ∙ a.0.received ∙ a.3) (told_ahead new before.given (state new.link).given a.0.request start.read),
+      read_map done before.given (state new.link).given (λ rest. rest ≡ new.received) (λ rest. rest ≡ [])
+          (λ rest e. e ∙ a.0.received ∙ a.3) (told_ahead new done before.given (state new.link).given a.0.request start.read),
     )
 
 -- a head read that failed
 pub failed_ends : {L : Type 0} (state : L → LinkState) (old new : SessionView L) (last : Option Entry) (error : Error)
-    → AtHead state old new last (Ready (Err error)) → (before : LinkState) → Since state before new last
-    → FailureCause before (state old.link) (state new.link) last error error.kind
-failed_ends state old new last error h before s =
+    → AtHead state old new last (Ready (Err error)) → (before : LinkState) (done : List Entry) → Since state before new done last
+    → FailureCause before (state old.link) (state new.link) done last error error.kind
+failed_ends state old new last error h before done s =
     let a = h.reads.answer in
-    let start : Since state before new None = subst (λ x. Since state before new x) h.alone s in
-    subst (λ x. FailureCause before (state old.link) (state new.link) x error error.kind) (sym h.alone)
-    (head_failed before (state old.link) (state new.link) h.reads.bytes error error.kind
-    (told_map before.given (state new.link).given (λ since. since ≡ new.received) (λ since. since ≡ h.reads.bytes) (λ since e. e ∙ a.0.received)
-    (told_ahead new before.given (state new.link).given a.0.request start.read)) a.2)
+    let start : Since state before new done None = subst (λ x. Since state before new done x) h.alone s in
+    subst (λ x. FailureCause before (state old.link) (state new.link) done x error error.kind) (sym h.alone)
+    (head_failed before (state old.link) (state new.link) done h.reads.bytes error error.kind
+    (read_map done before.given (state new.link).given (λ rest. rest ≡ new.received) (λ rest. rest ≡ h.reads.bytes) (λ rest e. e ∙ a.0.received)
+    (told_ahead new done before.given (state new.link).given a.0.request start.read)) a.2)

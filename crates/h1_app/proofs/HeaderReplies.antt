@@ -69,14 +69,14 @@ header_call {L} state old new e kept now outcome h call =
     written None w = w
     written (Some header) w = absurd (none-some header w.back)
 
-pub header_since : {L : Type 0} (state : L → LinkState) (before : LinkState)
+pub header_since : {L : Type 0} (state : L → LinkState) (before : LinkState) (done : List Entry)
     (old new : SessionView L) (e : Entry) (now : ℕ) (outcome : Poll (Result (Unit {0}) Error))
     (written : ℕ)
     (h : AtHeader e old) → WritesHeader state old new h.request None now outcome
-    → Since state before old (Some e)
-    → Since state before new (Some (record e { written = written }))
-header_since state before old new e now outcome written h w s =
-    since_goes_on state before old new w.taking w.left e e.owed written w.writes w.takes.0
+    → Since state before old done (Some e)
+    → Since state before new done (Some (record e { written = written }))
+header_since state before done old new e now outcome written h w s =
+    since_goes_on state before done old new w.taking w.left e e.owed written w.writes w.takes.0
     w.takes.1.writer s
 
 pub header_grows : {L : Type 0} (state : L → LinkState) (old new : SessionView L) (e : Entry)
@@ -157,13 +157,13 @@ header_done runs state old new e now outcome done written h w count ready =
       told.0.owed,
     )
 
-pub header_fails : {L : Type 0} (state : L → LinkState) (before : LinkState)
+pub header_fails : {L : Type 0} (state : L → LinkState) (before : LinkState) (done : List Entry)
     (old new : SessionView L) (last : Option Entry) (e : Entry) (now : ℕ)
     (outcome : Poll (Result (Unit {0}) Error)) (error : Error)
     (h : AtHeader e old) → WritesHeader state old new h.request None now outcome
     → outcome ≡ Ready (Err error)
-    → FailureCause before (state old.link) (state new.link) last error error.kind
-header_fails state before old new last e now outcome error h w failed =
+    → FailureCause before (state old.link) (state new.link) done last error error.kind
+header_fails state before done old new last e now outcome error h w failed =
     let told = header_answer state old new e now outcome (Ready (Err error)) h w failed in
-    refused_cause before (state old.link) (state new.link) new.reply step.Head last error error.kind
+    refused_cause before (state old.link) (state new.link) done new.reply step.Head last error error.kind
     told.0

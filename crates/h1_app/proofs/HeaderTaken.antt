@@ -160,15 +160,15 @@ parts_headed : (method : List ℕ) (r : Option Reply) (b : Option (List ℕ)) (d
 parts_headed method r b date old_date keep old_keep h sent none no_head = rw (none, no_head)
     (append-nil (head_bytes (reply_head sent date keep)))
 
-pub headed_since : {L : Type 0} (state : L → LinkState) (before : LinkState)
+pub headed_since : {L : Type 0} (state : L → LinkState) (before : LinkState) (done : List Entry)
     (old new : SessionView L) (e : Entry) (now : ℕ) (outcome : Poll (Result (Unit {0}) Error))
     (sent : ResponseView) (text : List ℕ) (keep : Bool) (written : ℕ)
     (h : AtTakeHeader e old) → WritesHeader state old new h.request (Some h.reply.header) now
     outcome
     → sent ≡ h.reply.header → IsDateAt (now / 1000) text → keep ≡ new.reply.keep
-    → Since state before old (Some e)
-    → Since state before new (Some (headed_as e sent (now / 1000) text keep written))
-headed_since state before old new e now outcome sent text keep written h w is dated keeps s =
+    → Since state before old done (Some e)
+    → Since state before new done (Some (headed_as e sent (now / 1000) text keep written))
+headed_since state before done old new e now outcome sent text keep written h w is dated keeps s =
     let t = w.takes in
     let date : t.date ≡ text = same_date (now / 1000) t.date text t.is_date dated in
     let flag : keep_flag h.request.wish old.settings old.body ≡ keep = sym t.keep ∙ sym keeps in
@@ -177,7 +177,7 @@ headed_since state before old new e now outcome sent text keep written h w is da
     (keep_flag h.request.wish old.settings old.body))) date
     ∙ ap (λ x. head_bytes (reply_head h.reply.header text x)) flag ∙ ap
     (λ x. head_bytes (reply_head x text keep)) (sym is) in
-    since_wrote state before old new w.taking w.left e (Some sent) e.sent_body (now / 1000) text
+    since_wrote state before done old new w.taking w.left e (Some sent) e.sent_body (now / 1000) text
     keep true written (head_bytes (reply_head sent text keep)) w.writes
     (ap (λ x. w.taking ++ coming x new.reply.writer) h.sent_body ∙ append-nil w.taking ∙ bytes
     ∙ ap (λ x. coming x old.reply.writer ++ head_bytes (reply_head sent text keep))
@@ -319,12 +319,12 @@ headed_done runs state old new e now outcome done sent date text keep written h 
       told.0.owed,
     )
 
-pub headed_fails : {L : Type 0} (state : L → LinkState) (before : LinkState)
+pub headed_fails : {L : Type 0} (state : L → LinkState) (before : LinkState) (done : List Entry)
     (old new : SessionView L) (last : Option Entry) (request : Request)
     (header : Option ResponseView) (now : ℕ) (outcome : Poll (Result (Unit {0}) Error))
     (error : Error)
     → WritesHeader state old new request header now outcome → outcome ≡ Ready (Err error)
-    → FailureCause before (state old.link) (state new.link) last error error.kind
-headed_fails state before old new last request header now outcome error w failed =
-    refused_cause before (state old.link) (state new.link) new.reply step.Head last error error.kind
+    → FailureCause before (state old.link) (state new.link) done last error error.kind
+headed_fails state before done old new last request header now outcome error w failed =
+    refused_cause before (state old.link) (state new.link) done new.reply step.Head last error error.kind
     (answers state old new request header now outcome (Ready (Err error)) w failed).0

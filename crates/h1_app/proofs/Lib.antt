@@ -3,6 +3,7 @@ pub mod AgreesLemmas
 pub mod AnswerLemmas
 pub mod AskLemmas
 pub mod BeginLemmas
+pub mod BehindLemmas
 pub mod BodyReplies
 pub mod EndReplies
 pub mod FinishReplies
@@ -14,3 +15,4 @@ pub mod LinkedLemmas
 pub mod ReadLemmas
 pub mod ReplyLemmas
 pub mod SinceLemmas
+pub mod JoinLemmas

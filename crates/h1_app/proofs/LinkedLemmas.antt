@@ -1,12 +1,14 @@
 -- What was read and written since, where a connection is new or its link was used by others.
-use Rattle.std.proofs.Common.{◌≡◌, ℕ, ◌-◌, ◌^◌, min, List, [], ◌++◌, length, Option, Some, None, refl, sym, ◌∙◌, ap, append-nil, arith}
+use Rattle.std.proofs.Common.{◌≡◌, ℕ, ◌+◌, ◌-◌, ◌^◌, min, List, [], ◌++◌, length, Option, Some, None, refl, sym, ◌∙◌, ap, append-nil, arith}
 use Rattle.h1_link.specs.LinkState.{LinkState}
 use Rattle.h1_link.specs.Later.{KeepsBytes}
 use Rattle.h1_link.proofs.Laters.{keeps_itself, later_itself, later_on, later_keeps, append_known-nil}
 use Rattle.h1_server.specs.SessionView.{SessionView, IsNewSession}
 use Rattle.h1_app.specs.declared.transcript.Entry.{Entry}
+use Rattle.h1_app.specs.Behind.{AfterRead, AfterWrote, written_of}
 use Rattle.h1_app.specs.Since.{Since, IfTold, ReadSo, WroteSo, StoppedSo}
-use Rattle.h1_app.proofs.SinceLemmas.{told_same, rose_later}
+use Rattle.h1_app.proofs.BehindLemmas.{read_same, wrote_same, flushed_on}
+use Rattle.h1_app.proofs.SinceLemmas.{rose_later}
 use Rattle.h1_app.proofs.ReplyLemmas.{stopped_on}
 
 told_new : (known : Option (List ℕ)) (P : List ℕ → Type 0) → P [] → IfTold known known P
@@ -14,14 +16,15 @@ told_new None P p = tt
 told_new (Some bytes) P p = ([], sym (append-nil bytes), p)
 
 -- nothing was read or written over a link since the session over it was made
-pub since_made : {L : Type 0} (state : L → LinkState) (link : L) (session : SessionView L) (last : Option Entry)
-    → IsNewSession link session → last ≡ None → Since state (state link) session last
-since_made state link session last is none = rw (none, is.link) (record {
+pub since_made : {L : Type 0} (state : L → LinkState) (link : L) (session : SessionView L) (done : List Entry) (last : Option Entry)
+    → IsNewSession link session → done ≡ [] → last ≡ None → Since state (state link) session done last
+since_made state link session done last is nothing none = rw (nothing, none, is.link) (record {
   later = later_itself (state link);
-  read = told_new (state link).given (λ since. ReadSo since session None) (rw (is.request, is.received) refl);
-  wrote = told_new (state link).written (λ since. WroteSo since session None × (session.reply.sent ≡ min (length since) (2 ^ 64 - 1)))
-      ((refl, is.reply.0), rw is.reply.4 refl);
+  read = told_new (state link).given (AfterRead [] (λ rest. ReadSo rest session None)) ([], refl, rw (is.request, is.received) refl);
+  wrote = told_new (state link).written (AfterWrote [] (λ rest. WroteSo rest session None × (session.reply.sent ≡ min (length rest) (2 ^ 64 - 1))))
+      ([], refl, ((refl, is.reply.0), rw is.reply.4 refl));
   stopped = tt;
+  flushed = tt;
   out = omega (arith, is.reply.4);
 })
 
@@ -43,22 +46,23 @@ wrote_as old new None since reply h = rw reply h
 wrote_as old new (Some e) since reply h = rw reply h
 
 -- the link was used, and no byte of it moved
-pub since_linked : {L : Type 0} (state : L → LinkState) (old new : SessionView L) (last : Option Entry) (before : LinkState)
+pub since_linked : {L : Type 0} (state : L → LinkState) (old new : SessionView L) (last : Option Entry) (before : LinkState) (done : List Entry)
     → KeepsBytes (state old.link) (state new.link) → new.received ≡ old.received → new.request ≡ old.request
-    → new.body ≡ old.body → new.reply ≡ old.reply → Since state before old last → Since state before new last
-since_linked {L} state old new last before kept received request body reply s =
+    → new.body ≡ old.body → new.reply ≡ old.reply → Since state before old done last → Since state before new done last
+since_linked {L} state old new last before done kept received request body reply s =
     let later = later_keeps (state old.link) (state new.link) kept in
     record {
       later = later_on before (state old.link) (state new.link) s.later later;
-      read = told_same before.given (state old.link).given (state new.link).given
-          (λ since. ReadSo since old last) (λ since. ReadSo since new last)
-          (kept.given ∙ sym (append_known-nil _)) (λ since h. read_as old new last since received request body h) s.read;
-      wrote = told_same before.written (state old.link).written (state new.link).written
-          (λ since. WroteSo since old last × (old.reply.sent ≡ min (length since) (2 ^ 64 - 1)))
-          (λ since. WroteSo since new last × (new.reply.sent ≡ min (length since) (2 ^ 64 - 1)))
-          (kept.written ∙ sym (append_known-nil _)) (λ since h. (wrote_as old new last since reply h.0, rw reply h.1)) s.wrote;
+      read = read_same done before.given (state old.link).given (state new.link).given
+          (λ rest. ReadSo rest old last) (λ rest. ReadSo rest new last)
+          (kept.given ∙ sym (append_known-nil _)) (λ rest h. read_as old new last rest received request body h) s.read;
+      wrote = wrote_same done before.written (state old.link).written (state new.link).written
+          (λ rest. WroteSo rest old last × (old.reply.sent ≡ min (length rest) (2 ^ 64 - 1)))
+          (λ rest. WroteSo rest new last × (new.reply.sent ≡ min (length rest) (2 ^ 64 - 1)))
+          (kept.written ∙ sym (append_known-nil _)) (λ rest h. (wrote_as old new last rest reply h.0, rw reply h.1)) s.wrote;
       stopped = stays last s.stopped;
-      out = rw reply (rose_later old.reply.sent before.bytes_out _ _ kept.counts.bytes_out s.out);
+      flushed = flushed_on before (state old.link) (state new.link) 0 done later.flushed s.flushed;
+      out = rw reply (rose_later (written_of done + old.reply.sent) before.bytes_out _ _ kept.counts.bytes_out s.out);
     }
   where
     stays : (last : Option Entry) → StoppedSo state old last → StoppedSo state new last
@@ -66,8 +70,8 @@ since_linked {L} state old new last before kept received request body reply s =
     stays (Some e) h = stopped_on state old new e.body_error body received (later_keeps (state old.link) (state new.link) kept) h
 
 -- a poll's budget is no part of it
-pub since_budget : {L : Type 0} (state : L → LinkState) (old new : SessionView L) (budget : Option ℕ) (last : Option Entry) (before : LinkState)
-    → new ≡ record old { budget = budget } → Since state before old last → Since state before new last
-since_budget {L} state old new budget last before is s =
+pub since_budget : {L : Type 0} (state : L → LinkState) (old new : SessionView L) (budget : Option ℕ) (last : Option Entry) (before : LinkState) (done : List Entry)
+    → new ≡ record old { budget = budget } → Since state before old done last → Since state before new done last
+since_budget {L} state old new budget last before done is s =
     let set : SessionView L = record old { budget = budget } in
-    rw is (since_linked state old set last before (keeps_itself (state old.link)) refl refl refl refl s)
+    rw is (since_linked state old set last before done (keeps_itself (state old.link)) refl refl refl refl s)

@@ -20,12 +20,13 @@ use Rattle.h1_server.specs.declared.reply.Step.{Step}
 use Rattle.h1_app.specs.declared.application.Reply.{Reply}
 use Rattle.h1_app.specs.declared.transcript.Entry.{Entry}
 use Rattle.h1_app.specs.Growth.{Grows, Stays, DatedAt, RepliedOn, RefusedIn}
+use Rattle.h1_app.specs.Behind.{written_of}
 use Rattle.h1_app.specs.Causes.{FailureCause}
 use Rattle.h1_app.specs.Exchange.{render}
 use Rattle.h1_app.specs.Since.{Since, ReadSo, WroteSo, coming, StopsBody}
 use Rattle.h1_app.specs.Sound.{IsAsked, IsReplied, IsHeaded, IsKept}
 use Rattle.h1_app.specs.Turns.{Went}
-use Rattle.h1_app.proofs.SinceLemmas.{told_on, told_same}
+use Rattle.h1_app.proofs.BehindLemmas.{read_same, wrote_on, flushed_on}
 
 pub at_none : {A : Type 0} (P : Type 0) (o : Option A) → o ≡ None → IfNone o P → P
 at_none P o e h = rw e at h
@@ -151,31 +152,31 @@ count_on : (old new by all more : ℕ) → new ≡ min (old + by) (2 ^ 64 - 1)
     → new ≡ min more (2 ^ 64 - 1)
 count_on old new by all more counted is e = omega arith
 
-rose_on : (old new by before mid now : ℕ) → new ≡ min (old + by) (2 ^ 64 - 1)
-    → RoseBy old before mid → RoseBy by mid now
-    → RoseBy new before now
-rose_on old new by before mid now counted one two = omega arith
+rose_on : (front old new by before mid now : ℕ) → new ≡ min (old + by) (2 ^ 64 - 1)
+    → RoseBy (front + old) before mid → RoseBy by mid now
+    → RoseBy (front + new) before now
+rose_on front old new by before mid now counted one two = omega arith
 
 -- a call that writes goes on with what was read and written since
-pub since_wrote : {L : Type 0} (state : L → LinkState) (before : LinkState)
+pub since_wrote : {L : Type 0} (state : L → LinkState) (before : LinkState) (done : List Entry)
     (old new : SessionView L) (taking : List ℕ) (left : ℕ)
     (e : Entry) (head : Option ResponseView) (body : Option (List ℕ)) (date : ℕ) (text : List ℕ)
     (keep owed : Bool) (written : ℕ) (extra : List ℕ)
     → Writes state old new taking left
     → taking ++ coming body new.reply.writer ≡ coming e.sent_body old.reply.writer ++ extra
     → render (replying e head body date text keep owed written) ≡ render e ++ extra
-    → Since state before old (Some e)
-    → Since state before new (Some (replying e head body date text keep owed written))
-since_wrote {L} state before old new taking left e head body date text keep owed written extra w
+    → Since state before old done (Some e)
+    → Since state before new done (Some (replying e head body date text keep owed written))
+since_wrote {L} state before done old new taking left e head body date text keep owed written extra w
     takes renders s =
     let f : Entry = replying e head body date text keep owed written in
     let moved : Moved (state old.link) (state new.link) [] w.sent.piece
     (allowance old.budget - left) = w.sent.moved in
     record {
       later = later_on before (state old.link) (state new.link) s.later moved.later;
-      read = told_same before.given (state old.link).given (state new.link).given
-          (λ since. ReadSo since old (Some e)) (λ since. ReadSo since new (Some f))
-          moved.given (λ since h. record {
+      read = read_same done before.given (state old.link).given (state new.link).given
+          (λ rest. ReadSo rest old (Some e)) (λ rest. ReadSo rest new (Some f))
+          moved.given (λ rest h. record {
             n = h.n;
             used = h.used;
             head = h.head;
@@ -183,31 +184,32 @@ since_wrote {L} state before old new taking left e head body date text keep owed
                 (λ xs. h.used ++ xs) (sym w.received);
             decoded = rw w.body h.decoded;
           }) s.read;
-      wrote = told_on before.written (state old.link).written (state new.link).written w.sent.piece
-          (λ since. WroteSo since old (Some e) × (old.reply.sent ≡ min (length since) (2 ^ 64 - 1)))
-          (λ since. WroteSo since new (Some f) × (new.reply.sent ≡ min (length since) (2 ^ 64 - 1)))
+      wrote = wrote_on done before.written (state old.link).written (state new.link).written w.sent.piece
+          (λ rest. WroteSo rest old (Some e) × (old.reply.sent ≡ min (length rest) (2 ^ 64 - 1)))
+          (λ rest. WroteSo rest new (Some f) × (new.reply.sent ≡ min (length rest) (2 ^ 64 - 1)))
           moved.written
-          (λ since h. (
-            join since w.sent.piece old.reply.owed new.reply.owed taking
+          (λ rest h. (
+            join rest w.sent.piece old.reply.owed new.reply.owed taking
                 (coming e.sent_body old.reply.writer) (coming body new.reply.writer) (render e) extra
                 w.sent.bytes takes h.0 ∙ sym renders,
-            count_on old.reply.sent new.reply.sent (length w.sent.piece) (length since) _ w.counted h.1
-                (length-append since w.sent.piece),
+            count_on old.reply.sent new.reply.sent (length w.sent.piece) (length rest) _ w.counted h.1
+                (length-append rest w.sent.piece),
           )) s.wrote;
       stopped = stopped_on state old new e.body_error w.body w.received moved.later s.stopped;
-      out = rose_on old.reply.sent new.reply.sent (length w.sent.piece) _ _ _ w.counted s.out
+      flushed = flushed_on before (state old.link) (state new.link) 0 done moved.later.flushed s.flushed;
+      out = rose_on (written_of done) old.reply.sent new.reply.sent (length w.sent.piece) _ _ _ w.counted s.out
           moved.out;
     }
 
 -- a call that takes nothing up
-pub since_goes_on : {L : Type 0} (state : L → LinkState) (before : LinkState)
+pub since_goes_on : {L : Type 0} (state : L → LinkState) (before : LinkState) (done : List Entry)
     (old new : SessionView L) (taking : List ℕ) (left : ℕ)
     (e : Entry) (owed : Bool) (written : ℕ)
     → Writes state old new taking left → taking ≡ [] → new.reply.writer ≡ old.reply.writer
-    → Since state before old (Some e)
-    → Since state before new (Some (record e { owed = owed; written = written }))
-since_goes_on state before old new taking left e owed written w none same s =
-    since_wrote state before old new taking left e e.sent_head e.sent_body e.date e.date_text e.keep
+    → Since state before old done (Some e)
+    → Since state before new done (Some (record e { owed = owed; written = written }))
+since_goes_on state before done old new taking left e owed written w none same s =
+    since_wrote state before done old new taking left e e.sent_head e.sent_body e.date e.date_text e.keep
     owed written [] w
     (ap (λ xs. xs ++ coming e.sent_body new.reply.writer) none ∙ ap (coming e.sent_body) same ∙ sym
     (append-nil (coming e.sent_body old.reply.writer)))
@@ -326,9 +328,9 @@ headed_on old new e f reply head keep owed headed kept refused h = record {
 }
 
 -- a write that was refused has its cause
-pub refused_cause : (before old now : LinkState) (reply : ReplyState) (step : Step)
+pub refused_cause : (before old now : LinkState) (done : List Entry) (reply : ReplyState) (step : Step)
     (last : Option Entry) (error : Error) (k : ErrorType)
-    → IsRefused old now reply step error k → FailureCause before old now last error k
-refused_cause before old now reply step last error kind.WriteError h = h.0
-refused_cause before old now reply step last error kind.NoMemory h = tt
-refused_cause before old now reply step last error _ h = absurd h
+    → IsRefused old now reply step error k → FailureCause before old now done last error k
+refused_cause before old now done reply step last error kind.WriteError h = h.0
+refused_cause before old now done reply step last error kind.NoMemory h = tt
+refused_cause before old now done reply step last error _ h = absurd h

@@ -1,37 +1,17 @@
 -- The transcript, the bytes given and the bytes written agree.
-use Rattle.std.specs.Prelude.{◌≡◌, ℕ, ◌+◌, ◌-◌, ◌^◌, ◌<◌, List, [], ◌∷◌, ◌++◌, length, min, Bool, true, false, None, Option, Some, IsSome, IfSome}
+use Rattle.std.specs.Prelude.{◌≡◌, ℕ, ◌+◌, ◌-◌, ◌^◌, List, [], ◌∷◌, ◌++◌, length, min, true, IfSome}
 use Rattle.std.specs.List.{AllByRecursion}
 use Rattle.h1_link.specs.LinkState.{LinkState}
-use Rattle.h1_link.specs.Counts.{RoseBy}
 use Rattle.h1_error.specs.declared.error.ErrorType.{ErrorType}
 use Rattle.h1_error.specs.declared.error.ErrorType.TheVariants as kind
 use Rattle.h1_body.specs.Body.{Body, whole, unfinished, broken, payload_of}
-use Rattle.h1_body.specs.Framing.{framing, out}
-use Rattle.h1_body.specs.Reader as reader
-use Rattle.h1_head.specs.Views.{ResponseView}
-use Rattle.h1_body.specs.declared.framing.Framing.{Framing}
-use Rattle.h1_body.specs.declared.framing.Framing.TheVariants.{Counted, Chunked, UntilClose}
 use Rattle.h1_app.specs.declared.application.Reply.{Reply}
 use Rattle.h1_app.specs.declared.transcript.Entry.{Entry}
-use Rattle.h1_app.specs.declared.transcript.How.{How}
-use Rattle.h1_app.specs.declared.transcript.How.TheVariants.{Open, Whole, Failed}
 use Rattle.h1_app.specs.Application.{Given}
-use Rattle.h1_app.specs.Exchange.{render, is_short, IsAllowed}
+use Rattle.h1_app.specs.Behind.{StoodAs, IsDoneAt, FlushedBy}
+use Rattle.h1_app.specs.Exchange.{render, IsAllowed}
 use Rattle.h1_app.specs.Since.{IfTold}
 use Rattle.h1_app.specs.Stream.{Message, Begins}
-
--- fewer bytes than the request states as its body's length
-abbrev pub IsBelow : Framing → ℕ → Type 0
-IsBelow (Counted n) handed = handed < n
-IsBelow Chunked handed = Unit {0}
-IsBelow UntilClose handed = Unit {0}
-
--- How the request's body stood (RFC 9112, section 6): the payload of all of it was handed in, or
--- its end was still to come, or the reading of it was refused.
-abbrev pub StoodAs : How → Entry → Body → Type 0
-StoodAs Whole e body = (e.body_error ≡ None) × ((used : ℕ) × (body ≡ whole e.body used))
-StoodAs Open e body = (e.body_error ≡ None) × IsBelow (framing e.head) e.handed
-StoodAs Failed e body = IsSome e.body_error
 
 -- what the refusal of a request's body says of it: it is broken, or the link ended or failed inside it
 abbrev pub RefusalOf : LinkState → Entry → Body → ErrorType → Type 0
@@ -66,22 +46,6 @@ AreReplies since (e ∷ []) =
 AreReplies since (e ∷ f ∷ more) =
     (rest : List ℕ) × (since ≡ render e ++ rest) × (e.written ≡ min (length (render e)) (2 ^ 64 - 1)) × AreReplies rest (f ∷ more)
 
--- the reply ends where the link does
-abbrev pub is_until_close : Entry → Bool
-is_until_close e = ends_so e.sent_head where
-  ends_so : Option ResponseView → Bool
-  ends_so None = false
-  ends_so (Some head) = reader.is_until_close (out e.head.method head)
-
--- a complete reply that says that the connection is kept, and ends by its own framing
-pub record IsDoneAt (flushed : ℕ → Type 0) (total : ℕ) (e : Entry) : Type 0 where
-  pub sent_head : IsSome e.sent_head
-  pub sent_body : IsSome e.sent_body
-  pub flushed_so : flushed total
-  pub long : is_short e ≡ false
-  pub keep : e.keep ≡ true
-  pub closes : is_until_close e ≡ false
-
 -- each exchange but the last is done, and its reply flushed
 abbrev pub AreDone : (ℕ → Type 0) → ℕ → List Entry → Type 0
 AreDone flushed total [] = Unit {0}
@@ -95,4 +59,4 @@ pub record Agrees (gives : Given → Reply → Type 0) (before now : LinkState) 
   pub read : IfTold before.given now.given (λ since. (requests : List Message) × Begins since requests × AreOf now transcript requests)
   pub allowed : AllByRecursion (IsAllowed gives) transcript
   pub written : IfTold before.written now.written (λ since. AreReplies since transcript)
-  pub done : AreDone (λ total. RoseBy total before.bytes_out now.flushed) 0 transcript
+  pub done : AreDone (FlushedBy before now) 0 transcript

@@ -1,5 +1,5 @@
 -- When each answer of a poll comes.
-use Rattle.std.specs.Prelude.{◌≡◌, ◌≢◌, ℕ, ◌+◌, ◌≤◌, ◌⊎◌, List, [], ◌∷◌, length, drop, Bool, true, false, Option, Some, None}
+use Rattle.std.specs.Prelude.{◌≡◌, ◌≢◌, ℕ, ◌+◌, ◌≤◌, ◌⊎◌, List, length, drop, Bool, true, false, Option, Some, None}
 use Rattle.h1_error.specs.declared.error.Error.{Error}
 use Rattle.h1_error.specs.declared.error.ErrorType.{ErrorType}
 use Rattle.h1_error.specs.declared.error.ErrorType.TheVariants as kind
@@ -14,23 +14,21 @@ use Rattle.h1_link.specs.Counts.{Rose, RoseBy}
 use Rattle.h1_head.specs.Views.{RequestView}
 use Rattle.h1_head.specs.RequestHead.{HeadAt}
 use Rattle.h1_head.specs.Wish.{wish}
-use Rattle.h1_body.specs.Body.{Body, whole, unfinished, broken}
+use Rattle.h1_body.specs.Body.{Body, unfinished, broken}
 use Rattle.h1_body.specs.Reader.{body}
 use Rattle.h1_body.specs.Framing.{framing}
 use Rattle.h1_app.specs.declared.transcript.Entry.{Entry}
 use Rattle.h1_app.specs.declared.exchange.Stage.{Stage}
 use Rattle.h1_app.specs.declared.exchange.Stage.TheVariants as stage
-use Rattle.h1_app.specs.Stream.{Tail, empty, begun, refused, Parses}
+use Rattle.h1_app.specs.Stream.{Tail, empty, begun, refused, EndsAs}
+use Rattle.h1_app.specs.Behind.{WroteBehind, AfterRead, FlushedBy, written_of}
 use Rattle.h1_app.specs.Exchange.{render, is_short}
 use Rattle.h1_app.specs.Since.{IfTold}
 use Rattle.h1_app.specs.View.{View}
 
--- the requests of these exchanges, each with a body that was read whole; and what stands behind them
+-- the bytes are the requests of these exchanges, each with a body that was read whole, and this tail
 abbrev pub ReadAll : List ℕ → List Entry → Tail → Type 0
-ReadAll since [] tail = Parses since [] tail
-ReadAll since (e ∷ more) tail =
-    (n : ℕ) × HeadAt since n e.head e.both × (k : ℕ) × (body (framing e.head) (drop n since) ≡ whole e.body k)
-    × ReadAll (drop k (drop n since)) more tail
+ReadAll since done tail = AfterRead done (λ rest. EndsAs rest tail) since
 
 -- The last request's body is not whole: it is cut, or broken, behind the payload that was read.
 pub record LastStands (since : List ℕ) (e : Entry) (stands : Body) : Type 0 where
@@ -38,62 +36,67 @@ pub record LastStands (since : List ℕ) (e : Entry) (stands : Body) : Type 0 wh
   pub head : HeadAt since n e.head e.both
   pub body : body (framing e.head) (drop n since) ≡ stands
 
--- what is awaited is not among the bytes given: a head, or more of the last request's body
-abbrev pub LacksSo : List ℕ → Option Entry → Type 0
-LacksSo since None = ReadAll since [] empty ⊎ ReadAll since [] begun
-LacksSo since (Some e) = LastStands since e (unfinished e.body) × (e.reply ≡ None)
+-- the same behind the exchanges that ended
+abbrev pub LastAfter : List ℕ → List Entry → Entry → Body → Type 0
+LastAfter since done e stands = AfterRead done (λ rest. LastStands rest e stands) since
 
--- the reply was written whole, and flushed, and nothing of it is owed
-pub record IsComplete (before now : LinkState) (e : Entry) : Type 0 where
+-- what is awaited is not among the bytes given: a head, or more of the last request's body
+abbrev pub LacksSo : List ℕ → List Entry → Option Entry → Type 0
+LacksSo since done None = ReadAll since done empty ⊎ ReadAll since done begun
+LacksSo since done (Some e) = LastAfter since done e (unfinished e.body) × (e.reply ≡ None)
+
+-- the reply was written whole, behind those of the exchanges that ended, and flushed, and nothing of
+-- it is owed
+pub record IsComplete (before now : LinkState) (done : List Entry) (e : Entry) : Type 0 where
   pub sent_head : (e.sent_head ≢ None)
   pub sent_body : (e.sent_body ≢ None)
-  pub written : IfTold before.written now.written (λ since. since ≡ render e)
-  pub flushed : RoseBy e.written before.bytes_out now.flushed
+  pub written : IfTold before.written now.written (λ since. WroteBehind since done (render e))
+  pub flushed : FlushedBy before now (written_of done + e.written)
   pub unowed : e.owed ≡ false
 
--- the render of a short reply was written whole
-pub record IsWrittenShort (before now : LinkState) (e : Entry) : Type 0 where
+-- the render of a short reply was written whole, behind those of the exchanges that ended
+pub record IsWrittenShort (before now : LinkState) (done : List Entry) (e : Entry) : Type 0 where
   pub short : is_short e ≡ true
-  pub written : IfTold before.written now.written (λ since. since ≡ render e)
+  pub written : IfTold before.written now.written (λ since. WroteBehind since done (render e))
 
 -- an error of the request's body ends the connection once the reply is written
-pub record EndsBody (before now : LinkState) (e : Entry) (error : Error) : Type 0 where
+pub record EndsBody (before now : LinkState) (done : List Entry) (e : Entry) (error : Error) : Type 0 where
   pub is : e.body_error ≡ Some error
-  pub replied : IsComplete before now e ⊎ IsWrittenShort before now e
+  pub replied : IsComplete before now done e ⊎ IsWrittenShort before now done e
 
 abbrev pub OfLast : Option Entry → (Entry → Type 0) → Type 0
 OfLast None P = ⊥
 OfLast (Some e) P = P e
 
--- when a connection fails with an error of this kind
-abbrev pub FailureCause : LinkState → LinkState → LinkState → Option Entry → Error → ErrorType → Type 0
-FailureCause before old now last error (kind.InvalidHTTPHeader fault) =
-    (last ≡ None) × IfTold before.given now.given (λ since. ReadAll since [] (refused fault))
-FailureCause before old now last error kind.ConnectionClosed = (now.ended ≡ true)
-    × (((last ≡ None) × IfTold before.given now.given (λ since. ReadAll since [] begun))
-    ⊎ OfLast last (λ e. EndsBody before now e error × IfTold before.given now.given (λ since. LastStands since e (unfinished e.body))))
-FailureCause before old now last error kind.InvalidBody =
-    OfLast last (λ e. EndsBody before now e error × IfTold before.given now.given (λ since. LastStands since e (broken e.body)))
-FailureCause before old now last error kind.ReadError =
-    ((last ≡ None) × Rose old.read_faults now.read_faults × IfTold before.given now.given (λ since. LacksSo since None))
-    ⊎ OfLast last (λ e. EndsBody before now e error × IfTold before.given now.given (λ since. LastStands since e (unfinished e.body)))
-FailureCause before old now last error kind.WriteError = Rose old.write_faults now.write_faults
-FailureCause before old now last error kind.PrematureBodyEnd =
-    OfLast last (λ e. IsWrittenShort before now e × (e.body_error ≡ None))
-FailureCause before old now last error kind.NotBuilt =
-    (last ≡ None) × IfTold before.given now.given (λ since.
-    (n : ℕ) × (head : RequestView) × (both : Bool) × HeadAt since n head both × (wish head both ≡ true))
-FailureCause before old now last error kind.NoMemory = Unit {0}
-FailureCause before old now last error _ = ⊥
+-- when a connection fails with an error of this kind; `done` are the exchanges in front of the last
+abbrev pub FailureCause : LinkState → LinkState → LinkState → List Entry → Option Entry → Error → ErrorType → Type 0
+FailureCause before old now done last error (kind.InvalidHTTPHeader fault) =
+    (last ≡ None) × IfTold before.given now.given (λ since. ReadAll since done (refused fault))
+FailureCause before old now done last error kind.ConnectionClosed = (now.ended ≡ true)
+    × (((last ≡ None) × IfTold before.given now.given (λ since. ReadAll since done begun))
+    ⊎ OfLast last (λ e. EndsBody before now done e error × IfTold before.given now.given (λ since. LastAfter since done e (unfinished e.body))))
+FailureCause before old now done last error kind.InvalidBody =
+    OfLast last (λ e. EndsBody before now done e error × IfTold before.given now.given (λ since. LastAfter since done e (broken e.body)))
+FailureCause before old now done last error kind.ReadError =
+    ((last ≡ None) × Rose old.read_faults now.read_faults × IfTold before.given now.given (λ since. LacksSo since done None))
+    ⊎ OfLast last (λ e. EndsBody before now done e error × IfTold before.given now.given (λ since. LastAfter since done e (unfinished e.body)))
+FailureCause before old now done last error kind.WriteError = Rose old.write_faults now.write_faults
+FailureCause before old now done last error kind.PrematureBodyEnd =
+    OfLast last (λ e. IsWrittenShort before now done e × (e.body_error ≡ None))
+FailureCause before old now done last error kind.NotBuilt =
+    (last ≡ None) × IfTold before.given now.given (AfterRead done (λ rest.
+    (n : ℕ) × (head : RequestView) × (both : Bool) × HeadAt rest n head both × (wish head both ≡ true)))
+FailureCause before old now done last error kind.NoMemory = Unit {0}
+FailureCause before old now done last error _ = ⊥
 
 -- when a connection ends; `old` is the link's state before the poll that gave the end
-abbrev pub EndCause : LinkState → LinkState → LinkState → Option Entry → End → Type 0
-EndCause before old now last end.Finished = (last ≡ None) × (now.ended ≡ true)
-    × IfTold before.given now.given (λ since. ReadAll since [] empty)
-EndCause before old now last end.NotKept =
-    OfLast last (λ e. IsComplete before now e × (is_short e ≡ false) × (e.keep ≡ false) × (e.body_error ≡ None))
-EndCause before old now last end.Overread = ⊥
-EndCause before old now last (end.Failed error) = FailureCause before old now last error error.kind
+abbrev pub EndCause : LinkState → LinkState → LinkState → List Entry → Option Entry → End → Type 0
+EndCause before old now done last end.Finished = (last ≡ None) × (now.ended ≡ true)
+    × IfTold before.given now.given (λ since. ReadAll since done empty)
+EndCause before old now done last end.NotKept =
+    OfLast last (λ e. IsComplete before now done e × (is_short e ≡ false) × (e.keep ≡ false) × (e.body_error ≡ None))
+EndCause before old now done last end.Overread = ⊥
+EndCause before old now done last (end.Failed error) = FailureCause before old now done last error error.kind
 
 -- the application was not ready by itself: its job's count rose since the job that was there before
 -- the poll, or, where a head was awaited then, since one that began in it
@@ -111,7 +114,7 @@ ToldGrowth given more written further count = Unit {0}
 -- when a poll waits
 abbrev pub WaitCause : {L A J : Type 0} → (J → Type 0) → (J → ℕ) → LinkState → LinkState → LinkState → View L A J → View L A J → Waiting → Type 0
 WaitCause begins pends before old now from to waiting.Read = Rose old.read_waits now.read_waits
-    × IfTold before.given now.given (λ since. LacksSo since to.last)
+    × IfTold before.given now.given (λ since. LacksSo since to.done to.last)
 WaitCause begins pends before old now from to waiting.Write = Rose old.write_waits now.write_waits
     × OfLast to.last (λ e. e.owed ≡ true)
 WaitCause begins pends before old now from to waiting.App = (now.read_waits ≡ old.read_waits)
@@ -124,4 +127,4 @@ abbrev pub Cause : {L A J : Type 0} → (L → LinkState) → (J → Type 0) →
 Cause state begins pends before from to (progress.Pending what) =
     (to.end ≡ None) × WaitCause begins pends before (state from.session.link) (state to.session.link) from to what
 Cause state begins pends before from to (progress.Ready reason) =
-    (to.end ≡ Some reason) × EndCause before (state from.session.link) (state to.session.link) to.last reason
+    (to.end ≡ Some reason) × EndCause before (state from.session.link) (state to.session.link) to.done to.last reason

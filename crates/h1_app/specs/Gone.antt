@@ -1,5 +1,5 @@
 -- What steps of a connection leave, one behind the other.
-use Rattle.std.specs.Prelude.{◌≡◌, ℕ, ◌<◌, ◌==◌, [], Bool, Option, Some, None, if◌then◌else◌}
+use Rattle.std.specs.Prelude.{◌≡◌, ℕ, ◌<◌, ◌==◌, List, Bool, Option, Some, None, if◌then◌else◌}
 use Rattle.h1_error.specs.declared.progress.End.{End}
 use Rattle.h1_error.specs.declared.progress.Waiting.{Waiting}
 use Rattle.h1_error.specs.declared.progress.Waiting.TheVariants.{Budget}
@@ -27,11 +27,10 @@ waiting_for (Some left) what = if left == 0 then Budget else what
 -- the connection went on from one view to the other
 pub record Gone {L A J : Type 0} (state : L → LinkState) (begins : J → Type 0) (pends : J → ℕ) (same_plan : L → L → Type 0) (now : ℕ) (shutdown : Bool) (from to : View L A J) : Type 0 where
   pub app : to.app ≡ from.app
-  pub alone : from.done ≡ []
-  pub still_alone : to.done ≡ []
+  pub done : to.done ≡ from.done
   pub plan : same_plan from.session.link to.session.link
   pub went : Went state from.session to.session
-  pub since : (before : LinkState) → Since state before from.session from.last → Since state before to.session to.last
+  pub since : (before : LinkState) → Since state before from.session from.done from.last → Since state before to.session to.done to.last
   pub extends : ExtendsLast now shutdown (state from.session.link) (state to.session.link) from.last to.last
   pub job : JobFrom begins pends from.stage to.stage
 
@@ -41,4 +40,4 @@ TurnCause state pends old new last from to outcome.Done =
     (rank to < rank from) × IfAnswering to ((state new.link).read_waits ≡ (state old.link).read_waits)
 TurnCause state pends old new last from to (outcome.Waits what) = WaitsOn state pends old new last from to what
 TurnCause state pends old new last from to (outcome.Ends reason) =
-    (before : LinkState) → Since state before new last → EndCause before (state old.link) (state new.link) last reason
+    (before : LinkState) (done : List Entry) → Since state before new done last → EndCause before (state old.link) (state new.link) done last reason

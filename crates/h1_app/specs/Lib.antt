@@ -2,6 +2,7 @@ pub mod Application
 pub mod Stream
 pub mod Exchange
 pub mod View
+pub mod Behind
 pub mod Since
 pub mod Sound
 pub mod Agrees
@@ -13,3 +14,4 @@ pub mod Echo
 pub mod EchoRun
 pub mod EchoLaw
 pub mod Gone
+pub mod Joins

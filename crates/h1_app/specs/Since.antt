@@ -1,6 +1,6 @@
 -- What a connection read and wrote since its link had a state: the bytes of the link, taken apart
 -- into the exchanges and what is still to be used or written.
-use Rattle.std.specs.Prelude.{◌≡◌, ℕ, ◌-◌, ◌^◌, List, [], ◌++◌, length, drop, min, true, Option, Some, None, IfSome}
+use Rattle.std.specs.Prelude.{◌≡◌, ℕ, ◌+◌, ◌-◌, ◌^◌, List, [], ◌++◌, length, drop, min, true, Option, Some, None, IfSome}
 use Rattle.h1_error.specs.declared.error.ErrorType.{ErrorType}
 use Rattle.h1_error.specs.declared.error.ErrorType.TheVariants as kind
 use Rattle.h1_link.specs.LinkState.{LinkState}
@@ -17,6 +17,7 @@ use Rattle.h1_server.specs.Decoding.{Lacks}
 use Rattle.h1_server.specs.SessionView.{SessionView}
 use Rattle.h1_server.specs.declared.request.Request.{Request}
 use Rattle.h1_app.specs.declared.transcript.Entry.{Entry}
+use Rattle.h1_app.specs.Behind.{AfterRead, AfterWrote, DoneBehind, FlushedBy, written_of}
 use Rattle.h1_app.specs.Exchange.{render}
 
 -- what holds of the bytes that came since, where the link tells its bytes
@@ -71,11 +72,13 @@ abbrev pub StoppedSo : {L : Type 0} → (L → LinkState) → SessionView L → 
 StoppedSo state session None = Unit {0}
 StoppedSo state session (Some e) = IfSome e.body_error (λ error. StopsBody state session error.kind)
 
--- the bytes given are the request and what is received behind it; the bytes written, what is owed
--- and what is to be taken up are the reply
-pub record Since {L : Type 0} (state : L → LinkState) (before : LinkState) (session : SessionView L) (last : Option Entry) : Type 0 where
+-- The bytes given are the requests of the exchanges that ended, and behind them the last request and
+-- what is received; the bytes written are their replies, and behind them the last reply but for what
+-- is owed and what is to be taken up.
+pub record Since {L : Type 0} (state : L → LinkState) (before : LinkState) (session : SessionView L) (done : List Entry) (last : Option Entry) : Type 0 where
   pub later : Later before (state session.link)
-  pub read : IfTold before.given (state session.link).given (λ since. ReadSo since session last)
-  pub wrote : IfTold before.written (state session.link).written (λ since. WroteSo since session last × (session.reply.sent ≡ min (length since) (2 ^ 64 - 1)))
+  pub read : IfTold before.given (state session.link).given (AfterRead done (λ rest. ReadSo rest session last))
+  pub wrote : IfTold before.written (state session.link).written (AfterWrote done (λ rest. WroteSo rest session last × (session.reply.sent ≡ min (length rest) (2 ^ 64 - 1))))
   pub stopped : StoppedSo state session last
-  pub out : RoseBy session.reply.sent before.bytes_out (state session.link).bytes_out
+  pub flushed : DoneBehind (FlushedBy before (state session.link)) 0 done
+  pub out : RoseBy (written_of done + session.reply.sent) before.bytes_out (state session.link).bytes_out

@@ -1,5 +1,6 @@
 -- What always holds of a connection: where its stage stands against the last exchange.
 use Rattle.std.specs.Prelude.{◌≡◌, ℕ, ◌^◌, ◌<◌, ◌⊎◌, List, [], length, Bool, true, false, Option, Some, None, IfSome, IfNone}
+use Rattle.std.specs.List.{AllByRecursion}
 use Rattle.h1_error.specs.declared.progress.End.{End}
 use Rattle.h1_head.specs.Views.{RequestView}
 use Rattle.h1_head.specs.Wish.{wish}
@@ -135,9 +136,9 @@ pub record IsKept {L : Type 0} (session : SessionView L) (e : Entry) : Type 0 wh
   pub body_error : e.body_error ≡ session.body.refused
   pub how : IfSome e.reply (λ reply. e.how ≡ how_of session.body)
 
--- the last exchange is allowed; and while the connection goes on, its stage is sound
+-- every exchange is allowed; and while the connection goes on, its stage is sound
 pub record Sound {L J : Type 0} (gives : Given → Reply → Type 0) (runs : J → RequestView → Settings → Settings → List ℕ → Type 0) (session : SessionView L) (done : List Entry) (last : Option Entry) (at : Stage J) (end : Option End) : Type 0 where
-  pub alone : done ≡ []
+  pub ended : AllByRecursion (IsAllowed gives) done
   pub allowed : IfSome last (IsAllowed gives)
   pub kept : IfSome last (IsKept session)
   pub stage : IfNone end (SoundStage runs session last at)

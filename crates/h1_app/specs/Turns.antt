@@ -62,11 +62,12 @@ WaitsFew stage.Head before now = now ≤ before + 1
 WaitsFew (stage.Answer job) before now = now ≤ before + 1
 WaitsFew _ before now = now ≡ before
 
--- why a step stops; `before` is the link's state since which bytes count
+-- why a step stops; `before` is the link's state since which bytes count, and `done` are the exchanges
+-- in front of the last
 abbrev pub WaitsOn : {L J : Type 0} → (L → LinkState) → (J → ℕ) → SessionView L → SessionView L → Option Entry → Stage J → Stage J → Waiting → Type 0
 WaitsOn state pends old new last from to waiting.Read =
     (Rose (state old.link).read_waits (state new.link).read_waits ⊎ (new.budget ≡ Some 0))
-    × ((before : LinkState) → Since state before new last → IfTold before.given (state new.link).given (λ since. LacksSo since last))
+    × ((before : LinkState) (done : List Entry) → Since state before new done last → IfTold before.given (state new.link).given (λ since. LacksSo since done last))
 WaitsOn state pends old new last from to waiting.Write =
     (Rose (state old.link).write_waits (state new.link).write_waits ⊎ (new.budget ≡ Some 0))
     × OfLast last (λ e. e.owed ≡ true)
@@ -86,4 +87,4 @@ OutcomeCause state pends runs old new last from to outcome.Done =
 OutcomeCause state pends runs old new last from to (outcome.Waits what) =
     SoundStage runs new last to × WaitsOn state pends old new last from to what
 OutcomeCause state pends runs old new last from to (outcome.Ends reason) =
-    (before : LinkState) → Since state before new last → EndCause before (state old.link) (state new.link) last reason
+    (before : LinkState) (done : List Entry) → Since state before new done last → EndCause before (state old.link) (state new.link) done last reason

@@ -58,7 +58,7 @@ impl<L: Link + Drop, SV: ServeHttp<L, C> + Drop, B: Drop, C: Drop> Connection<L,
     /// A connection of this server over a link.
     pub fn new(alloc: Global, server: Arc<HttpServer<SV, B>>, link: L) -> Result<Self, Error>
         ensures fresh { IsOkAnd result (IsNewConnection (arc_value server).app link) }
-        ensures since { IfOk result (λ made. Since L.state (L.state link) made.session made.last) }
+        ensures since { IfOk result (λ made. Since L.state (L.state link) made.session made.done made.last) }
     {
         Ok(Connection {
             alloc,
@@ -78,15 +78,15 @@ impl<L: Link + Drop, SV: ServeHttp<L, C> + Drop, B: Drop, C: Drop> Connection<L,
         ensures app { self.new.app ≡ self.old.app }
         ensures later { Later (L.state self.old.session.link) (L.state self.new.session.link) }
         ensures plan { L.same_plan self.old.session.link self.new.session.link }
-        ensures since { (before : LinkState) → Since L.state before self.old.session self.old.last
-            → Since L.state before self.new.session self.new.last }
-        ensures agrees { (before : LinkState) → Since L.state before self.old.session self.old.last
+        ensures since { (before : LinkState) → Since L.state before self.old.session self.old.done self.old.last
+            → Since L.state before self.new.session self.new.done self.new.last }
+        ensures agrees { (before : LinkState) → Since L.state before self.old.session self.old.done self.old.last
             → Agrees (SV.gives self.new.app) before (L.state self.new.session.link) (entries self.new) }
         ensures extends { Extends now shutdown (L.state self.old.session.link) (L.state self.new.session.link) (entries self.old) (entries self.new) }
         ensures most { (L.state self.new.session.link).moves ≤ (L.state self.old.session.link).moves + 64 }
         ensures few { (L.state self.new.session.link).read_waits ≤ (L.state self.old.session.link).read_waits + 1 }
         ensures ended { IfSome self.old.end (λ reason. (result ≡ answer.Ready reason) × (self.new ≡ self.old)) }
-        ensures cause { IfNone self.old.end ((before : LinkState) → Since L.state before self.old.session self.old.last
+        ensures cause { IfNone self.old.end ((before : LinkState) → Since L.state before self.old.session self.old.done self.old.last
             → Cause L.state SV.begins SV.pends before self.old self.new result) }
     {
         if let Some(end) = self.end {
@@ -99,13 +99,12 @@ impl<L: Link + Drop, SV: ServeHttp<L, C> + Drop, B: Drop, C: Drop> Connection<L,
     // Makes steps until one of them waits or ends the connection.
     fn go_on(&mut self, now: u64, shutdown: bool) -> Progress
         requires alive { self.old.end ≡ None }
-        requires alone { self.old.done ≡ [] }
         requires budget { self.old.session.budget ≡ Some 64 }
         requires moment { now < 253_402_300_800_000 }
         ensures gone { Gone L.state SV.begins SV.pends L.same_plan now shutdown self.old self.new }
         ensures sound { Sound (SV.gives self.new.app) (SV.runs self.new.app) self.new.session self.new.done self.new.last self.new.stage self.new.end }
         ensures few { (L.state self.new.session.link).read_waits ≤ (L.state self.old.session.link).read_waits + 1 }
-        ensures cause { (before : LinkState) → Since L.state before self.old.session self.old.last
+        ensures cause { (before : LinkState) → Since L.state before self.old.session self.old.done self.old.last
             → Cause L.state SV.begins SV.pends before self.old self.new result }
     {
         loop {
@@ -180,8 +179,8 @@ impl<L: Link + Drop, SV: ServeHttp<L, C> + Drop, B: Drop, C: Drop> Connection<L,
         ensures called { FnOnceReturnsAtMut F.FnOnce f self.old.session.link result self.new.session.link }
         ensures rest { self.new ≡ record self.old { session = record self.old.session { link = self.new.session.link } } }
         ensures keeps { KeepsBytes (L.state self.old.session.link) (L.state self.new.session.link) }
-        ensures since { (before : LinkState) → Since L.state before self.old.session self.old.last
-            → Since L.state before self.new.session self.new.last }
+        ensures since { (before : LinkState) → Since L.state before self.old.session self.old.done self.old.last
+            → Since L.state before self.new.session self.new.done self.new.last }
     {
         self.session.with_link(f)
     }

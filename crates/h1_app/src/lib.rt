@@ -9,6 +9,7 @@ mod application;
 mod connection;
 mod echo;
 mod exchange;
+mod laws;
 mod server;
 mod steps;
 mod transcript;
@@ -20,6 +21,7 @@ pub use exchange::{Outcome, Stage};
 pub use h1_body::BodyBytes;
 pub use h1_error::{End, Error, ErrorType, HeadFault, Progress, Waiting};
 pub use h1_server::HttpSession;
+pub use laws::the_next_exchange_begins_behind_the_last;
 pub use server::{HttpServer, NoModules};
 pub use transcript::{Entry, How, Transcript};
 

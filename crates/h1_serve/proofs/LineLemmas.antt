@@ -94,7 +94,7 @@ still_open false end_at put more e ends = ends
 pub gives_once : {A J : Type 0} (place : Place) (old new : View MemState A J) (bytes text : List ℕ)
     → new ≡ record old { session = record old.session { link = new.session.link } }
     → new.session.link ≡ record old.session.link { put = old.session.link.put ++ bytes; reads_noted = old.session.link.state.read_waits }
-    → Since link_state new_mem_state.state new.session new.last
+    → Since link_state new_mem_state.state new.session new.done new.last
     → MayStand place (command.Give bytes) → IsRunning place old
     → ObeysOnce place old (command.Give bytes) text new text
 gives_once place old new bytes text rest link since may running = record {
@@ -117,7 +117,7 @@ gives_once place old new bytes text rest link since may running = record {
 pub ends_once : {A J : Type 0} (place : Place) (old new : View MemState A J) (text : List ℕ)
     → new ≡ record old { session = record old.session { link = new.session.link } }
     → new.session.link ≡ record old.session.link { end_at = Some (unwrap_or old.session.link.end_at (length old.session.link.put)); reads_noted = old.session.link.state.read_waits }
-    → Since link_state new_mem_state.state new.session new.last
+    → Since link_state new_mem_state.state new.session new.done new.last
     → MayStand place command.End → IsRunning place old
     → ObeysOnce place old command.End text new text
 ends_once place old new text rest link since may running = record {
@@ -147,7 +147,7 @@ pub gives_line : {A J : Type 0} (place : Place) (old new : View MemState A J) (a
     → asked ≡ command.Give bytes
     → new ≡ record old { session = record old.session { link = new.session.link } }
     → new.session.link ≡ record old.session.link { put = old.session.link.put ++ bytes; reads_noted = old.session.link.state.read_waits }
-    → ((before : LinkState) → Since link_state before old.session old.last → Since link_state before new.session new.last)
+    → ((before : LinkState) → Since link_state before old.session old.done old.last → Since link_state before new.session new.done new.last)
     → MayStand place asked → IsRunning place old
     → ObeysOnce place old asked text new text
 gives_line {A} {J} place old new asked bytes text is rest link since may running =
@@ -159,7 +159,7 @@ pub ends_line : {A J : Type 0} (place : Place) (old new : View MemState A J) (as
     → asked ≡ command.End
     → new ≡ record old { session = record old.session { link = new.session.link } }
     → new.session.link ≡ record old.session.link { end_at = Some (unwrap_or old.session.link.end_at (length old.session.link.put)); reads_noted = old.session.link.state.read_waits }
-    → ((before : LinkState) → Since link_state before old.session old.last → Since link_state before new.session new.last)
+    → ((before : LinkState) → Since link_state before old.session old.done old.last → Since link_state before new.session new.done new.last)
     → MayStand place asked → IsRunning place old
     → ObeysOnce place old asked text new text
 ends_line {A} {J} place old new asked text is rest link since may running =

@@ -126,7 +126,7 @@ waited old new plan before behind more =
 pub record Polled {A J : Type 0} (begins : J → Type 0) (moment : ℕ) (old : View MemState A J) (answer : Progress) (new : View MemState A J) : Type 0 where
   pub later : Later old.session.link.state new.session.link.state
   pub plan : SamePlan old.session.link new.session.link
-  pub since : Since link_state new_mem_state.state new.session new.last
+  pub since : Since link_state new_mem_state.state new.session new.done new.last
   pub agrees : Agrees EchoGives new_mem_state.state new.session.link.state (entries new)
   pub extends : Extends moment false old.session.link.state new.session.link.state (entries old) (entries new)
   pub most : new.session.link.state.moves ≤ old.session.link.state.moves + 64

@@ -28,7 +28,7 @@ pub record NothingFailed (link : LinkState) : Type 0 where
 -- when a poll answers that it waits: never for a write or for the application
 abbrev pub PendsFor : State → State → Waiting → Type 0
 PendsFor s t waiting.Read = Rose s.link.read_waits t.link.read_waits
-    × IfTold start.link.given t.link.given (λ since. LacksSo since t.last)
+    × IfTold start.link.given t.link.given (λ since. LacksSo since t.done t.last)
 PendsFor s t waiting.Write = ⊥
 PendsFor s t waiting.App = ⊥
 PendsFor s t waiting.Budget = RoseBy 64 s.link.moves t.link.moves
@@ -50,7 +50,7 @@ IsAnswered (progress.Ready reason) = HasMemory reason
 abbrev pub AnswerCause : State → State → Progress → Type 0
 AnswerCause s t (progress.Pending what) = (t.end ≡ None) × PendsFor s t what
 AnswerCause s t (progress.Ready reason) = (t.end ≡ Some reason) × HasMemory reason
-    × EndCause start.link s.link t.link t.last reason
+    × EndCause start.link s.link t.link t.done t.last reason
 
 -- One poll at a moment, between two states: what was read and written agrees with the transcript, and goes on
 -- from the state before; the link gave only what was put ahead, and the answer has its cause.

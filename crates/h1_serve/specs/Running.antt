@@ -45,5 +45,5 @@ pub record IsScripted (ended : Bool) (link : MemState) : Type 0 where
   pub end_at : EndsAt ended link.end_at (length link.put)
 
 pub record IsRunning {A J : Type 0} (place : Place) (view : View MemState A J) : Type 0 where
-  pub since : Since link_state new_mem_state.state view.session view.last
+  pub since : Since link_state new_mem_state.state view.session view.done view.last
   pub link : IsScripted place.ended view.session.link

@@ -78,7 +78,7 @@ fn obey(
 fn give(connection: &mut Scripted, bytes: &[u8]) -> Result<(), Error>
     ensures link { OnOk result (connection.new.session.link ≡ record connection.old.session.link { put = connection.old.session.link.put ++ bytes.now; reads_noted = connection.old.session.link.state.read_waits }) }
     ensures rest { connection.new ≡ record connection.old { session = record connection.old.session { link = connection.new.session.link } } }
-    ensures since { (before : LinkState) → Since link_state before connection.old.session connection.old.last → Since link_state before connection.new.session connection.new.last }
+    ensures since { (before : LinkState) → Since link_state before connection.old.session connection.old.done connection.old.last → Since link_state before connection.new.session connection.new.done connection.new.last }
 {
     connection.with_link(|link| link.give(bytes))
 }
@@ -86,7 +86,7 @@ fn give(connection: &mut Scripted, bytes: &[u8]) -> Result<(), Error>
 fn say_end(connection: &mut Scripted)
     ensures link { connection.new.session.link ≡ record connection.old.session.link { end_at = Some (unwrap_or connection.old.session.link.end_at (length connection.old.session.link.put)); reads_noted = connection.old.session.link.state.read_waits } }
     ensures rest { connection.new ≡ record connection.old { session = record connection.old.session { link = connection.new.session.link } } }
-    ensures since { (before : LinkState) → Since link_state before connection.old.session connection.old.last → Since link_state before connection.new.session connection.new.last }
+    ensures since { (before : LinkState) → Since link_state before connection.old.session connection.old.done connection.old.last → Since link_state before connection.new.session connection.new.done connection.new.last }
 {
     connection.with_link(|link| link.end())
 }

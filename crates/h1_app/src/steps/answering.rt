@@ -1,7 +1,8 @@
 //! The application runs, until it has replied.
-ghost use Rattle.std.specs.Prelude.{◌≡◌, ◌+◌, Bool, ◌<◌, ◌≤◌, IsSome, IfSome, None, Some};
+ghost use Rattle.std.specs.Prelude.{◌≡◌, List, ◌+◌, Bool, ◌<◌, ◌≤◌, IsSome, IfSome, None, Some};
 ghost use Rattle.h1_link.specs.LinkState.{LinkState};
 ghost use Rattle.h1_app.specs.Exchange.{IsAllowed};
+ghost use Rattle.h1_app.specs.declared.transcript.Entry.{Entry};
 ghost use Rattle.h1_app.specs.Since.{Since};
 ghost use Rattle.h1_head.specs.Views.{RequestView};
 ghost use Rattle.h1_server.specs.declared.settings.Settings.{Settings};
@@ -43,7 +44,7 @@ where
     requires moment { now < 253_402_300_800_000 }
     ensures went { Went L.state session.old session.new }
     ensures plan { L.same_plan session.old.link session.new.link }
-    ensures since { (before : LinkState) → Since L.state before session.old last.old → Since L.state before session.new last.new }
+    ensures since { (before : LinkState) (done : List Entry) → Since L.state before session.old done last.old → Since L.state before session.new done last.new }
     ensures allowed { IfSome last.new (IsAllowed (SV.gives server.now.app)) }
     ensures kept { IfSome last.new (IsKept session.new) }
     ensures extends { (shutdown : Bool) → ExtendsLast now shutdown (L.state session.old.link) (L.state session.new.link) last.old last.new }

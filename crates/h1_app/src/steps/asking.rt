@@ -1,8 +1,9 @@
 //! A head is awaited; with it the exchange begins.
-ghost use Rattle.std.specs.Prelude.{◌≡◌, ◌≤◌, ◌+◌, ◌<◌, IsSome, IfSome, IfOk, IfErr, None, Some};
+ghost use Rattle.std.specs.Prelude.{◌≡◌, List, ◌≤◌, ◌+◌, ◌<◌, IsSome, IfSome, IfOk, IfErr, None, Some};
 ghost use Rattle.h1_error.specs.declared.error.ErrorType.TheVariants.{NoMemory};
 ghost use Rattle.h1_link.specs.LinkState.{LinkState};
 ghost use Rattle.h1_app.specs.Exchange.{IsAllowed};
+ghost use Rattle.h1_app.specs.declared.transcript.Entry.{Entry};
 ghost use Rattle.h1_app.specs.Since.{Since};
 ghost use Rattle.h1_server.specs.Keepalive.{keepalive_set};
 ghost use Rattle.h1_app.specs.Sound.{SoundStage, IsKept, IsNewEntry, BegunAs, head_time};
@@ -41,7 +42,7 @@ where
     requires budget { IsSome session.old.budget }
     ensures went { Went L.state session.old session.new }
     ensures plan { L.same_plan session.old.link session.new.link }
-    ensures since { (before : LinkState) → Since L.state before session.old last.old → Since L.state before session.new last.new }
+    ensures since { (before : LinkState) (done : List Entry) → Since L.state before session.old done last.old → Since L.state before session.new done last.new }
     ensures allowed { IfSome last.new (IsAllowed (SV.gives server.now.app)) }
     ensures kept { IfSome last.new (IsKept session.new) }
     ensures extends { ExtendsLast now shutdown (L.state session.old.link) (L.state session.new.link) last.old last.new }

@@ -1,10 +1,11 @@
 //! The reply is written: its header, its body, and the end of its body.
-ghost use Rattle.std.specs.Prelude.{◌≡◌, Bool, ◌<◌, ◌/◌, IsSome, IfSome, IfOk, IfErr, None, Some, true};
+ghost use Rattle.std.specs.Prelude.{◌≡◌, List, Bool, ◌<◌, ◌/◌, IsSome, IfSome, IfOk, IfErr, None, Some, true};
 ghost use Rattle.h1_error.specs.declared.error.ErrorType.TheVariants.{NoMemory};
 ghost use Rattle.h1_head.specs.Date.{IsDateAt};
 ghost use Rattle.h1_app.specs.declared.exchange.Stage.TheVariants as at;
 ghost use Rattle.h1_link.specs.LinkState.{LinkState};
 ghost use Rattle.h1_app.specs.Exchange.{IsAllowed};
+ghost use Rattle.h1_app.specs.declared.transcript.Entry.{Entry};
 ghost use Rattle.h1_app.specs.Since.{Since};
 ghost use Rattle.h1_app.specs.Application.{LawfulReplies};
 ghost use Rattle.h1_app.specs.Sound.{SoundStage, IsKept, IsPieceOf, failure_of};
@@ -43,7 +44,7 @@ where
     requires moment { now < 253_402_300_800_000 }
     ensures went { Went L.state session.old session.new }
     ensures plan { L.same_plan session.old.link session.new.link }
-    ensures since { (before : LinkState) → Since L.state before session.old last.old → Since L.state before session.new last.new }
+    ensures since { (before : LinkState) (done : List Entry) → Since L.state before session.old done last.old → Since L.state before session.new done last.new }
     ensures allowed { IfSome last.new (IsAllowed (SV.gives server.now.app)) }
     ensures kept { IfSome last.new (IsKept session.new) }
     ensures extends { (shutdown : Bool) → ExtendsLast now shutdown (L.state session.old.link) (L.state session.new.link) last.old last.new }
@@ -116,7 +117,7 @@ where
     requires moment { now < 253_402_300_800_000 }
     ensures went { Went L.state session.old session.new }
     ensures plan { L.same_plan session.old.link session.new.link }
-    ensures since { (before : LinkState) → Since L.state before session.old last.old → Since L.state before session.new last.new }
+    ensures since { (before : LinkState) (done : List Entry) → Since L.state before session.old done last.old → Since L.state before session.new done last.new }
     ensures allowed { IfSome last.new (IsAllowed (SV.gives server.now.app)) }
     ensures kept { IfSome last.new (IsKept session.new) }
     ensures extends { (shutdown : Bool) → ExtendsLast now shutdown (L.state session.old.link) (L.state session.new.link) last.old last.new }
@@ -161,7 +162,7 @@ where
     requires moment { now < 253_402_300_800_000 }
     ensures went { Went L.state session.old session.new }
     ensures plan { L.same_plan session.old.link session.new.link }
-    ensures since { (before : LinkState) → Since L.state before session.old last.old → Since L.state before session.new last.new }
+    ensures since { (before : LinkState) (done : List Entry) → Since L.state before session.old done last.old → Since L.state before session.new done last.new }
     ensures allowed { IfSome last.new (IsAllowed (SV.gives server.now.app)) }
     ensures kept { IfSome last.new (IsKept session.new) }
     ensures extends { (shutdown : Bool) → ExtendsLast now shutdown (L.state session.old.link) (L.state session.new.link) last.old last.new }
@@ -216,7 +217,7 @@ where
     requires moment { now < 253_402_300_800_000 }
     ensures went { Went L.state session.old session.new }
     ensures plan { L.same_plan session.old.link session.new.link }
-    ensures since { (before : LinkState) → Since L.state before session.old last.old → Since L.state before session.new last.new }
+    ensures since { (before : LinkState) (done : List Entry) → Since L.state before session.old done last.old → Since L.state before session.new done last.new }
     ensures allowed { IfSome last.new (IsAllowed (SV.gives server.now.app)) }
     ensures kept { IfSome last.new (IsKept session.new) }
     ensures extends { (shutdown : Bool) → ExtendsLast now shutdown (L.state session.old.link) (L.state session.new.link) last.old last.new }
@@ -260,7 +261,7 @@ where
     requires moment { now < 253_402_300_800_000 }
     ensures went { Went L.state session.old session.new }
     ensures plan { L.same_plan session.old.link session.new.link }
-    ensures since { (before : LinkState) → Since L.state before session.old last.old → Since L.state before session.new last.new }
+    ensures since { (before : LinkState) (done : List Entry) → Since L.state before session.old done last.old → Since L.state before session.new done last.new }
     ensures allowed { IfSome last.new (IsAllowed (SV.gives server.now.app)) }
     ensures kept { IfSome last.new (IsKept session.new) }
     ensures extends { (shutdown : Bool) → ExtendsLast now shutdown (L.state session.old.link) (L.state session.new.link) last.old last.new }

@@ -5,7 +5,7 @@ use Rattle.h1_app.proofs.connection.Connection.go_on.Goals as goal
 pub loop-what-init : goal.loop-what-init
 loop-what-init g c = record {
   gone = gone_itself g.L.Link.state g.SV.ServeHttp.begins g.SV.ServeHttp.pends g.L.Link.same_plan c.args.now c.args.shutdown c.args.self.now
-      (g.met.L.Link.plan_itself _) c.requires.alone (rw c.requires.budget refl);
+      (g.met.L.Link.plan_itself _) (rw c.requires.budget refl);
   alive = c.requires.alive;
   budget = rw c.requires.budget refl;
   falls = omega arith;
@@ -51,7 +51,7 @@ returns-in-Ends-clause-gone g c =
 pub returns-in-Ends-clause-cause : goal.returns-in-Ends-clause-cause
 returns-in-Ends-clause-cause g c = λ before s.
     let since = c.turn.ensures.gone.since before (c.loop-what.invariant.gone.since before s) in
-    (c.in-Ends.ensures.end, end_back before _ _ _ c.loop-what.invariant.gone.went.moved.later _ c.in-Ends.end (c.in-Ends.ensures.outcome before since))
+    (c.in-Ends.ensures.end, end_back before _ _ _ c.loop-what.invariant.gone.went.moved.later _ _ c.in-Ends.end (c.in-Ends.ensures.outcome before _ since))
 
 pub returns-in-Waits-clause-few : goal.returns-in-Waits-clause-few
 returns-in-Waits-clause-few g c =

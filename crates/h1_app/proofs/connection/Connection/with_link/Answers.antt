@@ -8,6 +8,6 @@ with_link-requires-clause-keeps g c = λ answer link h. rw (← c.self.view_is) 
 pub returns-clause-since : goal.returns-clause-since
 returns-clause-since g c = λ before s.
     let rest = c.with_link.ensures.rest in
-    since_linked g.L.Link.state c.self.inside.session c.with_link.new.self c.self.inside.transcript.last before
+    since_linked g.L.Link.state c.self.inside.session c.with_link.new.self c.self.inside.transcript.last before c.self.inside.transcript.done.items
     c.with_link.ensures.keeps (ap (λ v. v.received) rest) (ap (λ v. v.request) rest) (ap (λ v. v.body) rest) (ap (λ v. v.reply) rest)
     (rw (← c.self.view_is) at s)

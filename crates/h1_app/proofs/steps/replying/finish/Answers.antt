@@ -25,7 +25,7 @@ returns-in-Pending-clause-since g c =
     let w = ending g.L.Link.state c.args.session.now c.poll_finish_body-answer.new.self
     c.in-Some.entry c.poll_finish_body-answer.result h
     c.poll_finish_body-answer.ensures.writes in
-    λ before s. finish_since g.L.Link.state before c.args.session.now
+    λ before done s. finish_since g.L.Link.state before done c.args.session.now
     c.poll_finish_body-answer.new.self c.in-Some.entry c.poll_finish_body-answer.result
     c.in-Some.entry.owed c.written_bytes-entry.result h w (rw c.in-Some.is at s)
 
@@ -69,7 +69,7 @@ returns-in-Some-body_error-clause-since g c =
     let w = ending g.L.Link.state c.args.session.now c.poll_finish_body-answer.new.self
     c.in-Some.entry c.poll_finish_body-answer.result h
     c.poll_finish_body-answer.ensures.writes in
-    λ before s. finish_since g.L.Link.state before c.args.session.now
+    λ before done s. finish_since g.L.Link.state before done c.args.session.now
     c.poll_finish_body-answer.new.self c.in-Some.entry c.poll_finish_body-answer.result false
     c.written_bytes-entry.result h w (rw c.in-Some.is at s)
 
@@ -91,9 +91,9 @@ returns-in-Some-body_error-clause-outcome g c =
     let w = ending g.L.Link.state c.args.session.now c.poll_finish_body-answer.new.self
     c.in-Some.entry c.poll_finish_body-answer.result h
     c.poll_finish_body-answer.ensures.writes in
-    λ before s. stopped_cause g.L.Link.state before (g.L.Link.state c.args.session.now.link)
+    λ before done s. stopped_cause g.L.Link.state before (g.L.Link.state c.args.session.now.link) done
     c.poll_finish_body-answer.new.self _ c.in-Some-body_error.error s c.in-Some-body_error.is
-    (inl (finish_done g.L.Link.state before c.args.session.now c.poll_finish_body-answer.new.self
+    (inl (finish_done g.L.Link.state before done c.args.session.now c.poll_finish_body-answer.new.self
     c.in-Some.entry c.poll_finish_body-answer.result c.in-Ready-Ok.field-0-0
     c.written_bytes-entry.result h w c.written_bytes-entry.ensures
     (ready_is _ c.in-Ready-Ok.field-0 (Ok c.in-Ready-Ok.field-0-0) c.in-Ready-Ok.is
@@ -118,9 +118,9 @@ returns-in-None-clause-since g c =
     let w = ending g.L.Link.state c.args.session.now c.poll_finish_body-answer.new.self
     c.in-Some.entry c.poll_finish_body-answer.result h
     c.poll_finish_body-answer.ensures.writes in
-    λ before s. since_shutdown g.L.Link.state before c.poll_finish_body-answer.new.self
+    λ before done s. since_shutdown g.L.Link.state before done c.poll_finish_body-answer.new.self
     c.shutdown.new.self _ c.shutdown.ensures.state c.shutdown.ensures.rest
-    (finish_since g.L.Link.state before c.args.session.now c.poll_finish_body-answer.new.self
+    (finish_since g.L.Link.state before done c.args.session.now c.poll_finish_body-answer.new.self
     c.in-Some.entry c.poll_finish_body-answer.result false c.written_bytes-entry.result h w
     (rw c.in-Some.is at s))
 
@@ -144,8 +144,8 @@ returns-in-None-clause-outcome g c =
     c.poll_finish_body-answer.ensures.writes in
     let a = at_some (IsAllowed (g.SV.ServeHttp.gives c.args.server.now.app)) c.args.last.now
     c.in-Some.entry c.in-Some.is c.requires.allowed in
-    λ before s. (
-      finish_closed g.L.Link.state before c.args.session.now
+    λ before done s. (
+      finish_closed g.L.Link.state before done c.args.session.now
           c.poll_finish_body-answer.new.self c.shutdown.new.self c.in-Some.entry
           c.poll_finish_body-answer.result c.in-Ready-Ok.field-0-0 c.written_bytes-entry.result
           h w c.written_bytes-entry.ensures
@@ -178,7 +178,7 @@ returns-in-Ready-Err-clause-since g c =
     let w = ending g.L.Link.state c.args.session.now c.poll_finish_body-answer.new.self
     c.in-Some.entry c.poll_finish_body-answer.result h
     c.poll_finish_body-answer.ensures.writes in
-    λ before s. finish_since g.L.Link.state before c.args.session.now
+    λ before done s. finish_since g.L.Link.state before done c.args.session.now
     c.poll_finish_body-answer.new.self c.in-Some.entry c.poll_finish_body-answer.result
     c.in-Some.entry.owed c.written_bytes-entry.result h w (rw c.in-Some.is at s)
 
@@ -200,7 +200,7 @@ returns-in-Ready-Err-clause-outcome g c =
     let w = ending g.L.Link.state c.args.session.now c.poll_finish_body-answer.new.self
     c.in-Some.entry c.poll_finish_body-answer.result h
     c.poll_finish_body-answer.ensures.writes in
-    λ before s. finish_fails g.L.Link.state before c.args.session.now
+    λ before done s. finish_fails g.L.Link.state before done c.args.session.now
     c.poll_finish_body-answer.new.self c.in-Some.entry c.poll_finish_body-answer.result
     c.in-Ready-Err.error c.failure.result c.written_bytes-entry.result h w
     (ready_is _ c.in-Ready-Err.field-0 (Err c.in-Ready-Err.error) c.in-Ready-Err.is

@@ -34,7 +34,7 @@ returns-then-is_none-clause-since g c =
     c.in-Ok.bodies.1) c.in-Some.entry.reply h.reply h.replied.is c.in-Ok.ensures.ok in
     let empty = empty_body h.reply.body c.in-Ok.bodies.1 c.is_none.result b.1 c.is_none.ensures
     c.if-is_none.true in
-    λ before s. no_body_since g.L.Link.state before c.args.session.now c.in-Some.entry
+    λ before done s. no_body_since g.L.Link.state before done c.args.session.now c.in-Some.entry
     c.in-Ok.bodies.0 h b.0 empty (rw c.in-Some.is at s)
 
 pub returns-then-is_none-clause-extends : goal.returns-then-is_none-clause-extends
@@ -87,7 +87,7 @@ returns-in-Pending-clause-since g c =
     let w = taking_call g.L.Link.state c.args.session.now c.poll_write_body-answer.new.self
     c.in-Some.entry c.in-Ok.bodies.1 c.poll_write_body-answer.new.buf
     c.poll_write_body-answer.result h one c.poll_write_body-answer.ensures.writes in
-    λ before s. taken_since g.L.Link.state before c.args.session.now
+    λ before done s. taken_since g.L.Link.state before done c.args.session.now
     c.poll_write_body-answer.new.self c.in-Some.entry c.poll_write_body-answer.new.buf
     c.poll_write_body-answer.result c.in-Ok.bodies.0 c.written_bytes-entry.result h w b.0
     (rw c.in-Some.is at s)
@@ -152,7 +152,7 @@ returns-in-Ready-Ok-clause-since g c =
     let w = taking_call g.L.Link.state c.args.session.now c.poll_write_body-answer.new.self
     c.in-Some.entry c.in-Ok.bodies.1 c.poll_write_body-answer.new.buf
     c.poll_write_body-answer.result h one c.poll_write_body-answer.ensures.writes in
-    λ before s. taken_since g.L.Link.state before c.args.session.now
+    λ before done s. taken_since g.L.Link.state before done c.args.session.now
     c.poll_write_body-answer.new.self c.in-Some.entry c.poll_write_body-answer.new.buf
     c.poll_write_body-answer.result c.in-Ok.bodies.0 c.written_bytes-entry.result h w b.0
     (rw c.in-Some.is at s)
@@ -222,7 +222,7 @@ returns-clause-since g c =
     let w = taking_call g.L.Link.state c.args.session.now c.poll_write_body-answer.new.self
     c.in-Some.entry c.in-Ok.bodies.1 c.poll_write_body-answer.new.buf
     c.poll_write_body-answer.result h one c.poll_write_body-answer.ensures.writes in
-    λ before s. taken_since g.L.Link.state before c.args.session.now
+    λ before done s. taken_since g.L.Link.state before done c.args.session.now
     c.poll_write_body-answer.new.self c.in-Some.entry c.poll_write_body-answer.new.buf
     c.poll_write_body-answer.result c.in-Ok.bodies.0 c.written_bytes-entry.result h w b.0
     (rw c.in-Some.is at s)

@@ -50,8 +50,8 @@ returns-in-Pending-clause-since g c =
     let w = writes_header g.L.Link.state c.args.session.now c.poll_write_response_header.new.self
     h.request (Some h.reply.header) c.poll_write_response_header.new.header c.args.now
     c.poll_write_response_header.result t none in
-    λ before s. rw c.note_header.ensures.rest
-    (headed_since g.L.Link.state before c.args.session.now c.poll_write_response_header.new.self
+    λ before done s. rw c.note_header.ensures.rest
+    (headed_since g.L.Link.state before done c.args.session.now c.poll_write_response_header.new.self
     c.in-Some.entry c.args.now c.poll_write_response_header.result c.in-Ok.headers.0
     c.note_header.new.entry.date_text c.reply_keeps.result c.written_bytes.result h w b.0
     c.note_header.ensures.date c.reply_keeps.ensures (rw c.in-Some.is at s))
@@ -173,8 +173,8 @@ returns-in-Ready-Ok-clause-since g c =
     let w = writes_header g.L.Link.state c.args.session.now c.poll_write_response_header.new.self
     h.request (Some h.reply.header) c.poll_write_response_header.new.header c.args.now
     c.poll_write_response_header.result t none in
-    λ before s. rw c.note_header-in-Ready-Ok.ensures.rest
-    (headed_since g.L.Link.state before c.args.session.now c.poll_write_response_header.new.self
+    λ before done s. rw c.note_header-in-Ready-Ok.ensures.rest
+    (headed_since g.L.Link.state before done c.args.session.now c.poll_write_response_header.new.self
     c.in-Some.entry c.args.now c.poll_write_response_header.result c.in-Ok.headers.0
     c.note_header-in-Ready-Ok.new.entry.date_text c.reply_keeps-in-Ready-Ok.result
     c.written_bytes-in-Ready-Ok.result h w b.0 c.note_header-in-Ready-Ok.ensures.date
@@ -304,8 +304,8 @@ returns-then-is_none-clause-since g c =
     let w = writes_header g.L.Link.state c.args.session.now c.poll_write_response_header.new.self
     h.request (Some h.reply.header) c.poll_write_response_header.new.header c.args.now
     c.poll_write_response_header.result t none in
-    λ before s. rw c.note_header-then-is_none.ensures.rest
-    (headed_since g.L.Link.state before c.args.session.now c.poll_write_response_header.new.self
+    λ before done s. rw c.note_header-then-is_none.ensures.rest
+    (headed_since g.L.Link.state before done c.args.session.now c.poll_write_response_header.new.self
     c.in-Some.entry c.args.now c.poll_write_response_header.result c.in-Ok.headers.0
     c.note_header-then-is_none.new.entry.date_text c.reply_keeps-then-is_none.result
     c.written_bytes-then-is_none.result h w b.0 c.note_header-then-is_none.ensures.date
@@ -376,7 +376,7 @@ returns-then-is_none-clause-outcome g c =
     let w = writes_header g.L.Link.state c.args.session.now c.poll_write_response_header.new.self
     h.request (Some h.reply.header) c.poll_write_response_header.new.header c.args.now
     c.poll_write_response_header.result t none in
-    λ before s. headed_fails g.L.Link.state before c.args.session.now
+    λ before done s. headed_fails g.L.Link.state before done c.args.session.now
     c.poll_write_response_header.new.self _ h.request (Some h.reply.header) c.args.now
     c.poll_write_response_header.result c.in-Ready-Err.error w
     (ready_is _ c.in-Ready-Err.field-0 (Err c.in-Ready-Err.error) c.in-Ready-Err.is

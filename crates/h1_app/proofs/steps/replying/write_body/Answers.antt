@@ -11,7 +11,7 @@ returns-in-Pending-clause-since g c =
     let w = body_call g.L.Link.state c.args.session.now c.poll_write_body-answer.new.self
     c.in-Some.entry c.poll_write_body-answer.new.buf c.poll_write_body-answer.result h
     c.poll_write_body-answer.ensures.writes in
-    λ before s. piece_since g.L.Link.state before c.args.session.now
+    λ before done s. piece_since g.L.Link.state before done c.args.session.now
     c.poll_write_body-answer.new.self c.in-Some.entry c.poll_write_body-answer.new.buf
     c.poll_write_body-answer.result c.written_bytes-entry.result w (rw c.in-Some.is at s)
 
@@ -46,7 +46,7 @@ returns-in-Ready-Ok-clause-since g c =
     let w = body_call g.L.Link.state c.args.session.now c.poll_write_body-answer.new.self
     c.in-Some.entry c.poll_write_body-answer.new.buf c.poll_write_body-answer.result h
     c.poll_write_body-answer.ensures.writes in
-    λ before s. piece_since g.L.Link.state before c.args.session.now
+    λ before done s. piece_since g.L.Link.state before done c.args.session.now
     c.poll_write_body-answer.new.self c.in-Some.entry c.poll_write_body-answer.new.buf
     c.poll_write_body-answer.result c.written_bytes-entry.result w (rw c.in-Some.is at s)
 
@@ -85,7 +85,7 @@ returns-clause-since g c =
     let w = body_call g.L.Link.state c.args.session.now c.poll_write_body-answer.new.self
     c.in-Some.entry c.poll_write_body-answer.new.buf c.poll_write_body-answer.result h
     c.poll_write_body-answer.ensures.writes in
-    λ before s. piece_since g.L.Link.state before c.args.session.now
+    λ before done s. piece_since g.L.Link.state before done c.args.session.now
     c.poll_write_body-answer.new.self c.in-Some.entry c.poll_write_body-answer.new.buf
     c.poll_write_body-answer.result c.written_bytes-entry.result w (rw c.in-Some.is at s)
 

@@ -13,7 +13,7 @@ returns-in-Pending-clause-since g c =
     c.poll_write_response_header-answer.new.header c.args.now
     c.poll_write_response_header-answer.result h
     c.poll_write_response_header-answer.ensures.writes in
-    λ before s. header_since g.L.Link.state before c.args.session.now
+    λ before done s. header_since g.L.Link.state before done c.args.session.now
     c.poll_write_response_header-answer.new.self c.in-Some.entry c.args.now
     c.poll_write_response_header-answer.result c.written_bytes-entry.result h w
     (rw c.in-Some.is at s)
@@ -55,7 +55,7 @@ returns-in-Ready-Ok-clause-since g c =
     c.poll_write_response_header-answer.new.header c.args.now
     c.poll_write_response_header-answer.result h
     c.poll_write_response_header-answer.ensures.writes in
-    λ before s. header_since g.L.Link.state before c.args.session.now
+    λ before done s. header_since g.L.Link.state before done c.args.session.now
     c.poll_write_response_header-answer.new.self c.in-Some.entry c.args.now
     c.poll_write_response_header-answer.result c.written_bytes-entry.result h w
     (rw c.in-Some.is at s)
@@ -102,7 +102,7 @@ returns-clause-since g c =
     c.poll_write_response_header-answer.new.header c.args.now
     c.poll_write_response_header-answer.result h
     c.poll_write_response_header-answer.ensures.writes in
-    λ before s. header_since g.L.Link.state before c.args.session.now
+    λ before done s. header_since g.L.Link.state before done c.args.session.now
     c.poll_write_response_header-answer.new.self c.in-Some.entry c.args.now
     c.poll_write_response_header-answer.result c.written_bytes-entry.result h w
     (rw c.in-Some.is at s)

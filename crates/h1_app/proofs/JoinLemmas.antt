@@ -1,0 +1,106 @@
+-- An exchange that is whole joins those that ended.
+use Rattle.std.proofs.Common.{◌≡◌, ℕ, ◌+◌, ◌-◌, ◌^◌, min, List, [], ◌∷◌, ◌++◌, length, drop, Some, None, IfSome, refl, sym, ◌∙◌, ap, subst, append-nil, arith}
+use Rattle.h1_link.specs.LinkState.{LinkState}
+use Rattle.h1_head.specs.RequestHead.{HeadAt}
+use Rattle.h1_body.specs.Body.{whole, ahead}
+use Rattle.h1_body.specs.Framing.{framing}
+use Rattle.h1_body.specs.Reader.{body}
+use Rattle.h1_server.specs.SessionView.{SessionView}
+use Rattle.h1_app.specs.declared.transcript.Entry.{Entry}
+use Rattle.h1_app.specs.Behind.{ReadBehind, WroteBehind, AfterRead, AfterWrote, DoneBehind, IsDoneAt, FlushedBy, StoodAs, written_of}
+use Rattle.h1_app.specs.Exchange.{render}
+use Rattle.h1_app.specs.Joins.{IsEnded, IsRestarted}
+use Rattle.h1_app.specs.Since.{Since, ReadEntry, ReadSo, WroteSo}
+use Rattle.h1_app.proofs.BehindLemmas.{told_map}
+
+-- a request that was read whole, behind the others
+pub read_join : (done : List Entry) (since rest : List ℕ) (e : Entry) (n k : ℕ) → ReadBehind since done rest
+    → HeadAt rest n e.head e.both → body (framing e.head) (drop n rest) ≡ whole e.body k
+    → e.body_error ≡ None → IfSome e.reply (λ reply. StoodAs e.how e (whole e.body k))
+    → ReadBehind since (done ++ e ∷ []) (drop k (drop n rest))
+read_join [] since rest e n k h head is unrefused stood = rw h (n, head, k, is, unrefused, stood, refl)
+read_join (f ∷ more) since rest e n k h head is unrefused stood =
+    (h.0, h.1, h.2, h.3, h.4, h.5, read_join more (drop h.2 (drop h.0 since)) rest e n k h.6 head is unrefused stood)
+
+-- a reply that was written whole, behind the others
+pub wrote_join : (done : List Entry) (since later : List ℕ) (e : Entry) → WroteBehind since done (render e ++ later)
+    → e.written ≡ min (length (render e)) (2 ^ 64 - 1) → WroteBehind since (done ++ e ∷ []) later
+wrote_join [] since later e h count = (later, h, count, refl)
+wrote_join (f ∷ more) since later e h count = (h.0, h.1, h.2, wrote_join more h.0 later e h.3 count)
+
+pub written_join : (done : List Entry) (e : Entry) → written_of (done ++ e ∷ []) ≡ written_of done + e.written
+written_join [] e = omega arith
+written_join (f ∷ more) e = let rest = written_join more e in omega (arith, rest)
+
+pub done_join : (flushed : ℕ → Type 0) (total : ℕ) (done : List Entry) (e : Entry) → DoneBehind flushed total done
+    → IsDoneAt flushed (total + (written_of done + e.written)) e → DoneBehind flushed total (done ++ e ∷ [])
+done_join flushed total [] e h is =
+    let same : total + (0 + e.written) ≡ total + e.written = omega arith in
+    (subst (λ n. IsDoneAt flushed n e) same is, tt)
+done_join flushed total (f ∷ more) e h is =
+    let same : total + (f.written + written_of more + e.written) ≡ total + f.written + (written_of more + e.written) = omega arith in
+    (h.0, done_join flushed (total + f.written) more e h.1 (subst (λ n. IsDoneAt flushed n e) same is))
+
+-- what is read behind the exchange is what is received
+read_ended : {L : Type 0} (state : L → LinkState) (old new : SessionView L) (done : List Entry) (e : Entry) (since : List ℕ)
+    → IsEnded state old e → IsRestarted old new → AfterRead done (λ rest. ReadEntry rest e old) since
+    → AfterRead (done ++ e ∷ []) (λ rest. ReadSo rest new None) since
+read_ended state old new done e since ended again h =
+    let p = h.2 in
+    let all : body (framing e.head) (drop p.n h.0) ≡ whole e.body (length p.used) =
+    ap (body (framing e.head)) p.bytes ∙ p.decoded.read old.received ∙ ap (ahead e.body (length p.used)) ended.read
+    ∙ whole_is (append-nil e.body) in
+    let rest : drop (length p.used) (drop p.n h.0) ≡ new.received =
+    ap (drop (length p.used)) p.bytes ∙ behind p.used old.received ∙ sym again.received in (
+      drop (length p.used) (drop p.n h.0),
+      read_join done since h.0 e p.n (length p.used) h.1 p.head all ended.unrefused (ended.stood (length p.used)),
+      rw again.request rest,
+    )
+  where
+    whole_is : {payload : List ℕ} {used : ℕ} → payload ++ [] ≡ payload → whole (payload ++ []) (used + 0) ≡ whole payload used
+    whole_is {payload} {used} is =
+        let same : used + 0 ≡ used = omega arith in
+        ap (λ xs. whole xs (used + 0)) is ∙ ap (whole payload) same
+
+    behind : (front rest : List ℕ) → drop (length front) (front ++ rest) ≡ rest
+    behind [] rest = refl
+    behind (b ∷ front) rest = behind front rest
+
+wrote_ended : {L : Type 0} (state : L → LinkState) (old new : SessionView L) (done : List Entry) (e : Entry) (since : List ℕ)
+    → IsEnded state old e → IsRestarted old new
+    → AfterWrote done (λ rest. WroteSo rest old (Some e) × (old.reply.sent ≡ min (length rest) (2 ^ 64 - 1))) since
+    → AfterWrote (done ++ e ∷ []) (λ rest. WroteSo rest new None × (new.reply.sent ≡ min (length rest) (2 ^ 64 - 1))) since
+wrote_ended state old new done e since ended again h =
+    let all : h.0 ≡ render e =
+    sym (ap (λ xs. h.0 ++ old.reply.owed ++ xs) ended.nothing ∙ append-nil (h.0 ++ old.reply.owed)
+    ∙ ap (λ xs. h.0 ++ xs) ended.owed ∙ append-nil h.0) ∙ h.2.0 in
+    let count : e.written ≡ min (length (render e)) (2 ^ 64 - 1) =
+    ended.written ∙ h.2.1 ∙ ap (λ xs. min (length xs) (2 ^ 64 - 1)) all in (
+      [],
+      wrote_join done since [] e (subst (λ xs. WroteBehind since done xs) (all ∙ sym (append-nil (render e))) h.1) count,
+      ((refl, again.owed), rw again.sent refl),
+    )
+
+-- an exchange that is whole joins those that ended
+pub since_joined : {L : Type 0} (state : L → LinkState) (before : LinkState) (old new : SessionView L) (done : List Entry) (e : Entry)
+    → IsEnded state old e → IsRestarted old new
+    → Since state before old done (Some e) → Since state before new (done ++ e ∷ []) None
+since_joined state before old new done e ended again s = rw again.link (record {
+  later = s.later;
+  read = told_map before.given (state old.link).given (AfterRead done (λ rest. ReadEntry rest e old)) (AfterRead (done ++ e ∷ []) (λ rest. ReadSo rest new None))
+      (λ since h. read_ended state old new done e since ended again h) s.read;
+  wrote = told_map before.written (state old.link).written
+      (AfterWrote done (λ rest. WroteSo rest old (Some e) × (old.reply.sent ≡ min (length rest) (2 ^ 64 - 1))))
+      (AfterWrote (done ++ e ∷ []) (λ rest. WroteSo rest new None × (new.reply.sent ≡ min (length rest) (2 ^ 64 - 1))))
+      (λ since h. wrote_ended state old new done e since ended again h) s.wrote;
+  stopped = tt;
+  flushed = done_join (FlushedBy before (state old.link)) 0 done e s.flushed (record {
+    sent_head = ended.sent_head;
+    sent_body = ended.sent_body;
+    flushed_so = omega (arith, s.out, ended.written, ended.flushed);
+    long = ended.long;
+    keep = ended.keep;
+    closes = ended.closes;
+  });
+  out = omega (arith, s.out, again.sent, ended.written, written_join done e);
+})
