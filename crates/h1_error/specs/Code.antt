@@ -19,4 +19,3 @@ code_of (kind.ModuleFailed number) = 11
 code_of (kind.TaskFailed number) = 12
 code_of kind.Duplicate = 13
 code_of kind.NoMemory = 14
-code_of kind.NotBuilt = 15

@@ -49,8 +49,6 @@ pub enum ErrorType {
     Duplicate,
     /// The allocator had no memory.
     NoMemory,
-    /// The request needs a part of this engine that isn't built.
-    NotBuilt,
 }
 
 /// Why a link couldn't be made or taken again.
@@ -93,7 +91,6 @@ impl ErrorType {
             ErrorType::TaskFailed(_) => 12,
             ErrorType::Duplicate => 13,
             ErrorType::NoMemory => 14,
-            ErrorType::NotBuilt => 15,
         }
     }
 
@@ -135,7 +132,6 @@ impl fmt::Display for ErrorType {
             ErrorType::TaskFailed(number) => write!(f, "TaskFailed {number}"),
             ErrorType::Duplicate => write!(f, "Duplicate"),
             ErrorType::NoMemory => write!(f, "NoMemory"),
-            ErrorType::NotBuilt => write!(f, "NotBuilt"),
         }
     }
 }
