@@ -21,6 +21,7 @@ use Rattle.h1_server.specs.declared.reading_body.BodyRead.{BodyRead}
 use Rattle.h1_server.specs.declared.reading_body.BodyRead.TheVariants as b
 use Rattle.h1_server.specs.Taking.{Uses}
 use Rattle.h1_server.specs.Receiving.{FillsBy, cost}
+use Rattle.h1_server.specs.Calls.{CallsFew, is_part}
 use Rattle.h1_server.specs.declared.receiving.Filled.{Filled}
 use Rattle.h1_server.proofs.MovedLemmas.{moved_itself, moved_on}
 
@@ -179,6 +180,12 @@ pub gave_payload : (before now : LinkState) (reader : BodyReader) (received : Li
     → (0 < length (decoded.payload_of read)) × (now.read_waits ≡ before.read_waits)
 gave_payload before now reader received left (b.Piece bytes) stop h = h
 gave_payload before now reader received left _ stop h = absurd cc
+
+-- a reading that goes on made only calls that moved bytes
+pub gave_by_moves : (before now : LinkState) (read : BodyRead) → IsStopOf read None → CallsFew before now (is_part read)
+    → now.others ≡ before.others
+gave_by_moves before now (b.Piece bytes) stop calls = calls
+gave_by_moves before now _ stop calls = absurd cc
 
 -- why a drain stops is why its last read does
 pub drained_cause : (before mid now : LinkState) (reader : BodyReader) (received : List ℕ) (left : ℕ) (read stop : BodyRead)

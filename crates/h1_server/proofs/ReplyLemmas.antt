@@ -26,7 +26,7 @@ use Rattle.h1_server.specs.declared.reply.Step.TheVariants.{Free, Piece, Finish}
 use Rattle.h1_server.proofs.DeliveryLemmas.{Delivered, delivered, counted_sent, header_answer, piece_answer, end_answer}
 
 -- a session of which one call wrote
-pub record IsWritten {L : Type 0} (state : L → LinkState) (old new : SessionView L) (taken : ReplyState) (left : ℕ) : Type 0 where
+pub record IsWritten {L C : Type 0} (state : L → LinkState) (old new : SessionView L C) (taken : ReplyState) (left : ℕ) : Type 0 where
   pub sent : Sent (state old.link) (state new.link) taken.owed new.reply.owed (allowance old.budget) left
   pub budget : new.budget ≡ option_map (λ _. left) old.budget
   pub received : new.received ≡ old.received
@@ -35,12 +35,13 @@ pub record IsWritten {L : Type 0} (state : L → LinkState) (old new : SessionVi
   pub body : new.body ≡ old.body
   pub settings : new.settings ≡ old.settings
   pub reusable : new.reusable ≡ old.reusable
+  pub context : new.context ≡ old.context
 
-pub writes : {L : Type 0} (state : L → LinkState) (old new : SessionView L) (taken : ReplyState) (left : ℕ) (taking : List ℕ)
+pub writes : {L C : Type 0} (state : L → LinkState) (old new : SessionView L C) (taken : ReplyState) (left : ℕ) (taking : List ℕ)
     → IsWritten state old new taken left → taken.owed ≡ old.reply.owed ++ taking → taken.sent ≡ old.reply.sent
     → Delivered taken new.reply
     → Writes state old new taking left
-writes {L} state old new taken left taking written owes counts done =
+writes {L} {C} state old new taken left taking written owes counts done =
     record {
       sent = record {
         piece = written.sent.piece;
@@ -56,6 +57,7 @@ writes {L} state old new taken left taking written owes counts done =
       body = written.body;
       settings = written.settings;
       reusable = written.reusable;
+      context = written.context;
       counted = done.counted ∙ counted_sent taken.sent taken.owed new.reply.owed written.sent.piece written.sent.bytes
           ∙ ap (λ n. min (n + length written.sent.piece) (2 ^ 64 - 1)) counts;
     }
@@ -69,18 +71,18 @@ same_reply old taken new is done = record {
 }
 
 -- a header that can't be written stays
-pub header_kept : {L : Type 0} (state : L → LinkState) (old new : SessionView L) (request : Request) (flag : Bool) (now : ℕ) (error : Error) (taken : ReplyState) (header kept : Option ResponseView)
+pub header_kept : {L C : Type 0} (state : L → LinkState) (old new : SessionView L C) (request : Request) (flag : Bool) (now : ℕ) (error : Error) (taken : ReplyState) (header kept : Option ResponseView)
     → is_passed_over header old.reply.headed ≡ false → new ≡ record old { reply = taken }
     → IfNone header ((Err error ≡ Ok (tt {0})) × (taken ≡ old.reply) × (kept ≡ None))
     → IfSome header (λ view. TakesUpHeader old.reply taken request flag view kept now (Err error))
     → HeaderCall state old new request header kept now (Ready (Err error)) (is_passed_over header old.reply.headed)
-header_kept {L} state old new request flag now error taken None kept unpassed is goes takes = absurd (never goes.0) where
+header_kept {L} {C} state old new request flag now error taken None kept unpassed is goes takes = absurd (never goes.0) where
   never : Err error ≡ Ok (tt {0}) → ⊥
   never same = cc
-header_kept {L} state old new request flag now error taken (Some view) kept unpassed is goes takes =
+header_kept {L} {C} state old new request flag now error taken (Some view) kept unpassed is goes takes =
     subst (λ (b : Bool). HeaderCall state old new request (Some view) kept now (Ready (Err error)) b) (sym unpassed)
     (rw takes.0 (record {
-      same = is ∙ ap (λ (reply : ReplyState). let session : SessionView L = record old { reply = reply } in session) takes.1;
+      same = is ∙ ap (λ (reply : ReplyState). let session : SessionView L C = record old { reply = reply } in session) takes.1;
       back = refl;
       error = error;
       answer = refl;
@@ -102,7 +104,7 @@ takes_header old taken new request flag given header now taking same takes done 
 }
 
 -- a header call that wrote
-pub header_written : {L : Type 0} (state : L → LinkState) (old new : SessionView L) (request : Request) (flag : Bool) (now left : ℕ) (result : Result (Unit {0}) Error) (outcome : Poll (Result (Unit {0}) Error)) (taken : ReplyState) (header kept : Option ResponseView)
+pub header_written : {L C : Type 0} (state : L → LinkState) (old new : SessionView L C) (request : Request) (flag : Bool) (now left : ℕ) (result : Result (Unit {0}) Error) (outcome : Poll (Result (Unit {0}) Error)) (taken : ReplyState) (header kept : Option ResponseView)
     → is_passed_over header old.reply.headed ≡ false → flag ≡ keep_flag request.wish old.settings old.body
     → IsHeaderStep header old.reply.step → Settled old.reply → old.reply.refused ≡ None
     → IfNone header ((result ≡ Ok (tt {0})) × (taken ≡ old.reply) × (kept ≡ None))
@@ -111,7 +113,7 @@ pub header_written : {L : Type 0} (state : L → LinkState) (old new : SessionVi
     → IsWritten state old new taken left
     → DeliveryAnswer (head_delivery taken.writer.framing) (state old.link) (state new.link) taken new.reply left outcome
     → HeaderCall state old new request header kept now outcome (is_passed_over header old.reply.headed)
-header_written {L} state old new request flag now left result outcome taken None kept unpassed flag_is free settled unrefused goes takes ok written answer =
+header_written {L} {C} state old new request flag now left result outcome taken None kept unpassed flag_is free settled unrefused goes takes ok written answer =
     let done = delivered (head_delivery taken.writer.framing) (state old.link) (state new.link) taken new.reply left outcome answer in
     let same = goes.1 in
     rw goes.2 (record {
@@ -123,7 +125,7 @@ header_written {L} state old new request flag now left result outcome taken None
       answer = header_answer (state old.link) (state new.link) taken new.reply left outcome (ap (λ (r : ReplyState). r.step) same ∙ free)
           (ap (λ (r : ReplyState). r.refused) same ∙ unrefused) answer;
     })
-header_written {L} state old new request flag now left result outcome taken (Some view) kept unpassed flag_is free settled unrefused goes takes_any ok written answer =
+header_written {L} {C} state old new request flag now left result outcome taken (Some view) kept unpassed flag_is free settled unrefused goes takes_any ok written answer =
     let takes = subst (λ (r : Result (Unit {0}) Error). TakesUpHeader old.reply taken request flag view kept now r) ok takes_any in
     let done = delivered (head_delivery taken.writer.framing) (state old.link) (state new.link) taken new.reply left outcome answer in
     let owed = settled.free free unrefused in
@@ -142,13 +144,13 @@ count_on : (reply : ReplyState) (count : Option ℕ) → reply.step ≡ Piece co
 count_on reply count at = ap (λ (step : Step). piece_count (record reply { step = step }) None) at
 
 -- a body call that wrote
-pub piece_written : {L : Type 0} (state : L → LinkState) (old new : SessionView L) (count : Option ℕ) (left : ℕ) (outcome : Poll (Result (Unit {0}) Error)) (taken : ReplyState) (piece kept : Option (List ℕ))
+pub piece_written : {L C : Type 0} (state : L → LinkState) (old new : SessionView L C) (count : Option ℕ) (left : ℕ) (outcome : Poll (Result (Unit {0}) Error)) (taken : ReplyState) (piece kept : Option (List ℕ))
     → kept ≡ None → count ≡ piece_count old.reply piece → TakesUpPiece old.reply taken piece
     → IsPieceStep piece old.reply.step → Settled old.reply → old.reply.refused ≡ None
     → IsWritten state old new taken left
     → DeliveryAnswer delivery.Sent (state old.link) (state new.link) taken new.reply left outcome
     → WritesPiece state old new piece kept (with_count outcome count)
-piece_written {L} state old new count left outcome taken None kept out counts same free settled unrefused written answer =
+piece_written {L} {C} state old new count left outcome taken None kept out counts same free settled unrefused written answer =
     let done = delivered delivery.Sent (state old.link) (state new.link) taken new.reply left outcome answer in
     let counted : count ≡ free.0 = counts ∙ count_on old.reply free.0 free.1 in
     record {
@@ -163,7 +165,7 @@ piece_written {L} state old new count left outcome taken None kept out counts sa
           (ap (λ (r : ReplyState). r.step) same ∙ free.1 ∙ ap (λ (n : Option ℕ). Piece n) (sym counted))
           (ap (λ (r : ReplyState). r.refused) same ∙ unrefused) answer);
     }
-piece_written {L} state old new count left outcome taken (Some piece) kept out counts is free settled unrefused written answer =
+piece_written {L} {C} state old new count left outcome taken (Some piece) kept out counts is free settled unrefused written answer =
     let done = delivered delivery.Sent (state old.link) (state new.link) taken new.reply left outcome answer in
     let owed = settled.free free unrefused in
     record {
@@ -196,14 +198,14 @@ pub falls_short_at : (step : Step) (begun short : Bool) → step ≡ Free → be
 falls_short_at step begun short free is_begun is_short = rw (free, is_begun, is_short) refl
 
 -- a call that wrote the end of a body
-pub end_written : {L : Type 0} (state : L → LinkState) (old new : SessionView L) (count left : ℕ) (outcome : Poll (Result (Unit {0}) Error)) (taken : ReplyState) (end : EndTaken)
+pub end_written : {L C : Type 0} (state : L → LinkState) (old new : SessionView L C) (count left : ℕ) (outcome : Poll (Result (Unit {0}) Error)) (taken : ReplyState) (end : EndTaken)
     → (end ≡ e.Nothing → ⊥) → TakesUpEnd old.reply taken (Ok end) → count ≡ taken.writer.written
     → Settled old.reply → old.reply.refused ≡ None
     → IsWritten state old new taken left
     → DeliveryAnswer delivery.Flushed (state old.link) (state new.link) taken new.reply left outcome
     → EndCall state old new (with_count outcome (Some count)) (stage_of old.reply)
-end_written {L} state old new count left outcome taken e.Nothing some takes counts settled unrefused written answer = absurd (some refl)
-end_written {L} state old new count left outcome taken e.GoesOn some takes counts settled unrefused written answer =
+end_written {L} {C} state old new count left outcome taken e.Nothing some takes counts settled unrefused written answer = absurd (some refl)
+end_written {L} {C} state old new count left outcome taken e.GoesOn some takes counts settled unrefused written answer =
     let done = delivered delivery.Flushed (state old.link) (state new.link) taken new.reply left outcome answer in
     let same = takes.0 in
     subst (λ (stage : Option EndStage). EndCall state old new (with_count outcome (Some count)) stage)
@@ -218,7 +220,7 @@ end_written {L} state old new count left outcome taken e.GoesOn some takes count
           (counts ∙ ap (λ (r : ReplyState). r.writer.written) same)
           (ap (λ (r : ReplyState). r.step) same ∙ takes.1) (ap (λ (r : ReplyState). r.refused) same ∙ unrefused) answer;
     })
-end_written {L} state old new count left outcome taken e.Starts some takes counts settled unrefused written answer =
+end_written {L} {C} state old new count left outcome taken e.Starts some takes counts settled unrefused written answer =
     let done = delivered delivery.Flushed (state old.link) (state new.link) taken new.reply left outcome answer in
     let is = takes.3 in
     let owed = settled.free takes.0 unrefused in
@@ -242,13 +244,13 @@ end_written {L} state old new count left outcome taken e.Starts some takes count
     })
 
 -- a body that is short as it ends
-pub short_end : {L : Type 0} (state : L → LinkState) (old new : SessionView L) (taken : ReplyState) (error : Error)
+pub short_end : {L C : Type 0} (state : L → LinkState) (old new : SessionView L C) (taken : ReplyState) (error : Error)
     → TakesUpEnd old.reply taken (Err error) → new ≡ record old { reply = taken }
     → EndCall state old new (Ready (Err error)) (stage_of old.reply)
-short_end {L} state old new taken error takes is =
+short_end {L} {C} state old new taken error takes is =
     subst (λ (stage : Option EndStage). EndCall state old new (Ready (Err error)) stage)
     (sym (falls_short_at old.reply.step (is_begun old.reply.writer) (is_short old.reply.writer) takes.0 takes.1 takes.2))
     (record {
-      ends = is ∙ ap (λ (reply : ReplyState). let session : SessionView L = record old { reply = reply } in session) takes.3;
+      ends = is ∙ ap (λ (reply : ReplyState). let session : SessionView L C = record old { reply = reply } in session) takes.3;
       answer = ap (λ (e : Error). Ready (Err e)) takes.4;
     })

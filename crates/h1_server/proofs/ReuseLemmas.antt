@@ -20,7 +20,7 @@ no_refusal : (refused : Option Error) (P : Type 0) → is_none refused ≡ true 
 no_refusal None P none h = h
 no_refusal (Some error) P none h = absurd (false≢true none)
 
-drain_answer : {L : Type 0} (state : L → LinkState) (old drained : SessionView L) (left : ℕ) (outcome : Poll (Result (Unit {0}) Error))
+drain_answer : {L C : Type 0} (state : L → LinkState) (old drained : SessionView L C) (left : ℕ) (outcome : Poll (Result (Unit {0}) Error))
     → DrainAnswer state (record old { reusable = false }) drained left outcome
     → DrainAnswer state old (record drained { reusable = old.reusable }) left outcome
 drain_answer state old drained left (Ready (Ok done)) h = h
@@ -28,7 +28,7 @@ drain_answer state old drained left (Ready (Err error)) h = h
 drain_answer state old drained left Pending h = h
 
 -- a drain has nothing to do with the mark of a link that is reusable
-drains_alike : {L : Type 0} (state : L → LinkState) (old drained : SessionView L) (outcome : Poll (Result (Unit {0}) Error))
+drains_alike : {L C : Type 0} (state : L → LinkState) (old drained : SessionView L C) (outcome : Poll (Result (Unit {0}) Error))
     → DrainsBody state (record old { reusable = false }) drained outcome
     → DrainsBody state old (record drained { reusable = old.reusable }) outcome
 drains_alike state old drained outcome d = record {
@@ -41,13 +41,14 @@ drains_alike state old drained outcome d = record {
   reply = d.reply;
   settings = d.settings;
   reusable = refl;
+  context = d.context;
   waits = d.waits;
   few = d.few;
   answer = drain_answer state old drained d.left outcome d.answer;
 }
 
 -- a link that is kept is drained first
-drains : {L : Type 0} (state : L → LinkState) (old behind : SessionView L) (outcome : Poll (Result (Unit {0}) Error))
+drains : {L C : Type 0} (state : L → LinkState) (old behind : SessionView L C) (outcome : Poll (Result (Unit {0}) Error))
     → keeps_alive old ≡ true
     → IfNone old.body.refused (DrainsBody state (record old { reusable = false }) behind outcome)
     → DrainsBody state (record old { reusable = false }) behind outcome
@@ -55,7 +56,7 @@ drains state old behind outcome alive drain =
     no_refusal old.body.refused (DrainsBody state (record old { reusable = false }) behind outcome)
     (fourth (not old.settings.keep_off) (has_reuses old.settings.reuses) (grants old.request) (is_none old.body.refused) (stays_open old.reply) alive) drain
 
-pub reuse_waits : {L : Type 0} (state : L → LinkState) (old new : SessionView L)
+pub reuse_waits : {L C : Type 0} (state : L → LinkState) (old new : SessionView L C)
     → keeps_alive old ≡ true → IfNone old.body.refused (DrainsBody state (record old { reusable = false }) new Pending)
     → ReusesBy state old new Pending (keeps_alive old)
 reuse_waits state old new alive drain =
@@ -63,7 +64,7 @@ reuse_waits state old new alive drain =
     subst (λ t. ReusesBy state old new Pending t) (sym alive)
     (record new { reusable = old.reusable }, Pending, drains_alike state old new Pending d, refl, (d.reusable, refl))
 
-pub reuse_fails : {L : Type 0} (state : L → LinkState) (old new : SessionView L) (error : Error)
+pub reuse_fails : {L C : Type 0} (state : L → LinkState) (old new : SessionView L C) (error : Error)
     → keeps_alive old ≡ true → IfNone old.body.refused (DrainsBody state (record old { reusable = false }) new (Ready (Err error)))
     → ReusesBy state old new (Ready (Err error)) (keeps_alive old)
 reuse_fails state old new error alive drain =
@@ -71,12 +72,12 @@ reuse_fails state old new error alive drain =
     subst (λ t. ReusesBy state old new (Ready (Err error)) t) (sym alive)
     (record new { reusable = old.reusable }, Ready (Err error), drains_alike state old new (Ready (Err error)) d, refl, (d.reusable, refl))
 
-pub reuse_done : {L : Type 0} (state : L → LinkState) (old mid new : SessionView L) (done : Unit {0}) (follows : Bool)
+pub reuse_done : {L C : Type 0} (state : L → LinkState) (old mid new : SessionView L C) (done : Unit {0}) (follows : Bool)
     → keeps_alive old ≡ true → IfNone old.body.refused (DrainsBody state (record old { reusable = false }) mid (Ready (Ok done)))
     → new ≡ record mid { reusable = follows } → follows ≡ may_follow mid.settings.pipelining mid.received
     → ReusesBy state old new (Ready (Ok follows)) (keeps_alive old)
-reuse_done {L} state old mid new done follows alive drain is may =
+reuse_done {L} {C} state old mid new done follows alive drain is may =
     let d = drains state old mid (Ready (Ok done)) alive drain in
     subst (λ t. ReusesBy state old new (Ready (Ok follows)) t) (sym alive)
-    (subst (λ (x : SessionView L). ReusesBy state old x (Ready (Ok follows)) true) (sym is)
+    (subst (λ (x : SessionView L C). ReusesBy state old x (Ready (Ok follows)) true) (sym is)
     (record mid { reusable = old.reusable }, Ready (Ok done), drains_alike state old mid (Ready (Ok done)) d, refl, (may, refl)))

@@ -52,7 +52,7 @@ EndAnswer before now old new left (Ready (Err error)) =
     IsRefused before now new Finish error error.kind × (error.retry ≡ false)
 
 -- one call that writes the end of the body
-pub record WritesEnd {L : Type 0} (state : L → LinkState) (old new : SessionView L) (stage : EndStage) (outcome : Poll (Result (Option ℕ) Error)) : Type 0 where
+pub record WritesEnd {L C : Type 0} (state : L → LinkState) (old new : SessionView L C) (stage : EndStage) (outcome : Poll (Result (Option ℕ) Error)) : Type 0 where
   pub taking : List ℕ
   pub left : ℕ
   pub writes : Writes state old new taking left
@@ -60,17 +60,17 @@ pub record WritesEnd {L : Type 0} (state : L → LinkState) (old new : SessionVi
   pub answer : EndAnswer (state old.link) (state new.link) old.reply new.reply left outcome
 
 -- a body that ends short of its length is refused as it ends, and nothing is written
-pub record EndsShort {L : Type 0} (old new : SessionView L) (outcome : Poll (Result (Option ℕ) Error)) : Type 0 where
+pub record EndsShort {L C : Type 0} (old new : SessionView L C) (outcome : Poll (Result (Option ℕ) Error)) : Type 0 where
   pub ends : new ≡ record old { reply = record old.reply { writer = record old.reply.writer { ended = true } } }
   pub answer : outcome ≡ Ready (Err (record { kind = kind.PrematureBodyEnd; retry = false }))
 
 -- no end is there to write
-pub record WritesNoEnd {L : Type 0} (old new : SessionView L) (outcome : Poll (Result (Option ℕ) Error)) : Type 0 where
+pub record WritesNoEnd {L C : Type 0} (old new : SessionView L C) (outcome : Poll (Result (Option ℕ) Error)) : Type 0 where
   pub same : new ≡ old
   pub answer : outcome ≡ Ready (Ok None)
 
 -- one call at the end of the body
-abbrev pub EndCall : {L : Type 0} → (L → LinkState) → SessionView L → SessionView L → Poll (Result (Option ℕ) Error) → Option EndStage → Type 0
+abbrev pub EndCall : {L C : Type 0} → (L → LinkState) → SessionView L C → SessionView L C → Poll (Result (Option ℕ) Error) → Option EndStage → Type 0
 EndCall state old new outcome None = WritesNoEnd old new outcome
 EndCall state old new outcome (Some falls_short) = EndsShort old new outcome
 EndCall state old new outcome (Some starts) = WritesEnd state old new starts outcome

@@ -59,7 +59,7 @@ HeaderAnswer before now new left (Ready (Err error)) =
     IsRefused before now new Head error error.kind × (error.retry ≡ false)
 
 -- one call that writes a final header
-pub record WritesHeader {L : Type 0} (state : L → LinkState) (old new : SessionView L) (request : Request) (header : Option ResponseView) (now : ℕ) (outcome : Poll (Result (Unit {0}) Error)) : Type 0 where
+pub record WritesHeader {L C : Type 0} (state : L → LinkState) (old new : SessionView L C) (request : Request) (header : Option ResponseView) (now : ℕ) (outcome : Poll (Result (Unit {0}) Error)) : Type 0 where
   pub taking : List ℕ
   pub left : ℕ
   pub writes : Writes state old new taking left
@@ -74,7 +74,7 @@ HeaderRefusal header kind.NoMemory = is_http_1 header.version ≡ true
 HeaderRefusal header _ = ⊥
 
 -- a header that can't be written stays handed in, and all is as before
-pub record KeepsHeader {L : Type 0} (old new : SessionView L) (header : Option ResponseView) (kept : ResponseView) (outcome : Poll (Result (Unit {0}) Error)) : Type 0 where
+pub record KeepsHeader {L C : Type 0} (old new : SessionView L C) (header : Option ResponseView) (kept : ResponseView) (outcome : Poll (Result (Unit {0}) Error)) : Type 0 where
   pub same : new ≡ old
   pub back : header ≡ Some kept
   pub error : Error
@@ -83,7 +83,7 @@ pub record KeepsHeader {L : Type 0} (old new : SessionView L) (header : Option R
   pub retry : error.retry ≡ false
 
 -- a header that is handed in behind a final one is passed over
-pub record PassesHeader {L : Type 0} (old new : SessionView L) (kept : Option ResponseView) (outcome : Poll (Result (Unit {0}) Error)) : Type 0 where
+pub record PassesHeader {L C : Type 0} (old new : SessionView L C) (kept : Option ResponseView) (outcome : Poll (Result (Unit {0}) Error)) : Type 0 where
   pub same : new ≡ old
   pub out : kept ≡ None
   pub answer : outcome ≡ Ready (Ok tt)
@@ -94,13 +94,13 @@ is_passed_over None headed = false
 is_passed_over (Some header) headed = headed
 
 -- one call with a header that isn't passed over: it is written, or stays handed in
-abbrev pub HeaderWrite : {L : Type 0} → (L → LinkState) → SessionView L → SessionView L → Request → Option ResponseView → Option ResponseView → ℕ → Poll (Result (Unit {0}) Error) → Type 0
+abbrev pub HeaderWrite : {L C : Type 0} → (L → LinkState) → SessionView L C → SessionView L C → Request → Option ResponseView → Option ResponseView → ℕ → Poll (Result (Unit {0}) Error) → Type 0
 HeaderWrite state old new request header None now outcome =
     WritesHeader state old new request header now outcome
 HeaderWrite state old new request header (Some kept) now outcome = KeepsHeader old new header kept outcome
 
 -- one call with a header
-abbrev pub HeaderCall : {L : Type 0} → (L → LinkState) → SessionView L → SessionView L → Request → Option ResponseView → Option ResponseView → ℕ → Poll (Result (Unit {0}) Error) → Bool → Type 0
+abbrev pub HeaderCall : {L C : Type 0} → (L → LinkState) → SessionView L C → SessionView L C → Request → Option ResponseView → Option ResponseView → ℕ → Poll (Result (Unit {0}) Error) → Bool → Type 0
 HeaderCall state old new request header kept now outcome true = PassesHeader old new kept outcome
 HeaderCall state old new request header kept now outcome false =
     HeaderWrite state old new request header kept now outcome

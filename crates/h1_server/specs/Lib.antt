@@ -19,3 +19,4 @@ pub mod Replies
 pub mod HeadBytes
 pub mod TakingUp
 pub mod Reuse
+pub mod Calls

@@ -14,7 +14,7 @@ use Rattle.h1_server.specs.Requests.{refused_for_good}
 use Rattle.h1_server.specs.SessionView.{SessionView, allowance}
 
 -- when each refusal of the body comes
-abbrev pub BodyRefusal : {L : Type 0} → (L → LinkState) → SessionView L → SessionView L → ErrorType → Type 0
+abbrev pub BodyRefusal : {L C : Type 0} → (L → LinkState) → SessionView L C → SessionView L C → ErrorType → Type 0
 BodyRefusal state old new kind.InvalidBody = reads new.body.reader [] ≡ broken []
 BodyRefusal state old new kind.ConnectionClosed =
     ((state new.link).ended ≡ true) × Lacks new.body.reader new.received
@@ -24,12 +24,12 @@ BodyRefusal state old new kind.NoMemory = Unit {0}
 BodyRefusal state old new _ = ⊥
 
 -- no read of the link was pending
-pub record IsReadAtOnce {L : Type 0} (state : L → LinkState) (old new : SessionView L) : Type 0 where
+pub record IsReadAtOnce {L C : Type 0} (state : L → LinkState) (old new : SessionView L C) : Type 0 where
   pub waits : new.body.waits ≡ old.body.waits
   pub link_waits : (state new.link).read_waits ≡ (state old.link).read_waits
 
 -- a read that was pending is noted
-abbrev pub PayloadAnswer : {L : Type 0} → (L → LinkState) → SessionView L → SessionView L → List ℕ → ℕ → Poll (Result (Option (List ℕ)) Error) → Type 0
+abbrev pub PayloadAnswer : {L C : Type 0} → (L → LinkState) → SessionView L C → SessionView L C → List ℕ → ℕ → Poll (Result (Option (List ℕ)) Error) → Type 0
 PayloadAnswer state old new payload left (Ready (Ok (Some piece))) =
     (payload ≡ piece) × (0 < length payload) × (new.body.refused ≡ None) × IsReadAtOnce state old new
 PayloadAnswer state old new payload left (Ready (Ok None)) =
@@ -42,7 +42,7 @@ PayloadAnswer state old new payload left Pending =
     × (Rose (state old.link).read_waits (state new.link).read_waits ⊎ (left ≡ 0))
 
 -- one call that reads a part of the body
-pub record ReadsPayload {L : Type 0} (state : L → LinkState) (old new : SessionView L) (outcome : Poll (Result (Option (List ℕ)) Error)) : Type 0 where
+pub record ReadsPayload {L C : Type 0} (state : L → LinkState) (old new : SessionView L C) (outcome : Poll (Result (Option (List ℕ)) Error)) : Type 0 where
   pub payload : List ℕ
   pub left : ℕ
   pub reads : ReadsBody (state old.link) (state new.link) old.received new.received old.body.reader new.body.reader old.body.kept new.body.kept (allowance old.budget) left payload
@@ -51,6 +51,7 @@ pub record ReadsPayload {L : Type 0} (state : L → LinkState) (old new : Sessio
   pub refused : new.refused ≡ old.refused
   pub reply : new.reply ≡ old.reply
   pub reusable : new.reusable ≡ old.reusable
+  pub context : new.context ≡ old.context
   -- a read was not ready at most once
   pub few : (state new.link).read_waits ≤ (state old.link).read_waits + 1
   pub settings : new.settings ≡ old.settings

@@ -5,7 +5,7 @@ use Rattle.h1_body.specs.Reader.{reads}
 use Rattle.h1_server.specs.declared.body.BodyState.{BodyState}
 use Rattle.h1_server.specs.declared.settings.Settings.{Settings}
 
--- nothing may follow
+-- the body was read to its end
 abbrev pub is_whole : Body → Bool
 is_whole (whole payload used) = true
 is_whole (unfinished payload) = false

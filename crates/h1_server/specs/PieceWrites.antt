@@ -43,7 +43,7 @@ PieceAnswer before now new count left (Ready (Err error)) =
     IsRefused before now new (Piece count) error error.kind × (error.retry ≡ false)
 
 -- one call that writes a piece of the body
-pub record WritesPiece {L : Type 0} (state : L → LinkState) (old new : SessionView L) (piece kept : Option (List ℕ)) (outcome : Poll (Result (Option ℕ) Error)) : Type 0 where
+pub record WritesPiece {L C : Type 0} (state : L → LinkState) (old new : SessionView L C) (piece kept : Option (List ℕ)) (outcome : Poll (Result (Option ℕ) Error)) : Type 0 where
   pub taking : List ℕ
   pub left : ℕ
   pub writes : Writes state old new taking left

@@ -29,7 +29,7 @@ pub record IsRequestOf (bytes : List ℕ) (used : ℕ) (request : Request) : Typ
   pub wishes : request.wish ≡ wish request.header request.both
 
 -- a head was read: its bytes are used, and the body behind it is still to be read
-pub record BeginsRequest {L : Type 0} (old new : SessionView L) (bytes : List ℕ) (request : Request) (n : ℕ) : Type 0 where
+pub record BeginsRequest {L C : Type 0} (old new : SessionView L C) (bytes : List ℕ) (request : Request) (n : ℕ) : Type 0 where
   pub used : ℕ
   pub is : IsRequestOf bytes used request
   pub received : new.received ≡ drop used bytes
@@ -40,7 +40,7 @@ pub record BeginsRequest {L : Type 0} (old new : SessionView L) (bytes : List �
   pub refused : new.refused ≡ None
 
 -- no head was read: the bytes are kept
-pub record BeginsNone {L : Type 0} (old new : SessionView L) (bytes : List ℕ) : Type 0 where
+pub record BeginsNone {L C : Type 0} (old new : SessionView L C) (bytes : List ℕ) : Type 0 where
   pub request : new.request ≡ None
   pub received : new.received ≡ bytes
   pub body : new.body ≡ old.body
@@ -61,7 +61,7 @@ refused_for_good error = kept_refusal error error.kind where
   kept_refusal error kind.NoMemory = None
   kept_refusal error _ = Some error
 
-abbrev pub HeadAnswer : {L : Type 0} → (L → LinkState) → SessionView L → SessionView L → List ℕ → ℕ → Poll (Result ReadRequest Error) → Type 0
+abbrev pub HeadAnswer : {L C : Type 0} → (L → LinkState) → SessionView L C → SessionView L C → List ℕ → ℕ → Poll (Result ReadRequest Error) → Type 0
 HeadAnswer state old new bytes left (Ready (Ok (read.Head n))) =
     (request : Request) × (new.request ≡ Some request) × BeginsRequest old new bytes request n
     × ((state new.link).read_waits ≡ (state old.link).read_waits)
@@ -76,7 +76,7 @@ HeadAnswer state old new bytes left Pending =
     × (Rose (state old.link).read_waits (state new.link).read_waits ⊎ (left ≡ 0))
 
 -- one call that reads a head
-pub record ReadsRequest {L : Type 0} (state : L → LinkState) (old new : SessionView L) (outcome : Poll (Result ReadRequest Error)) : Type 0 where
+pub record ReadsRequest {L C : Type 0} (state : L → LinkState) (old new : SessionView L C) (outcome : Poll (Result ReadRequest Error)) : Type 0 where
   -- the bytes that are received and not used, before the head is taken
   pub bytes : List ℕ
   pub left : ℕ
@@ -84,6 +84,7 @@ pub record ReadsRequest {L : Type 0} (state : L → LinkState) (old new : Sessio
   pub budget : new.budget ≡ option_map (λ _. left) old.budget
   pub reply : new.reply ≡ old.reply
   pub reusable : new.reusable ≡ old.reusable
+  pub context : new.context ≡ old.context
   -- a read was not ready at most once
   pub few : (state new.link).read_waits ≤ (state old.link).read_waits + 1
   pub answer : HeadAnswer state old new bytes left outcome

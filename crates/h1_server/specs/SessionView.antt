@@ -10,7 +10,7 @@ use Rattle.h1_cut.specs.Search.{HasLooked}
 use Rattle.h1_cut.specs.declared.search.HeadSearch.{HeadSearch}
 use Rattle.h1_head.specs.declared.limits.TheConstants.{MAX_HEADER_SIZE}
 
-pub record SessionView (L : Type 0) : Type 0 where
+pub record SessionView (L C : Type 0) : Type 0 where
   pub link : L
   -- the bytes that are received and not used
   pub received : List ℕ
@@ -23,6 +23,8 @@ pub record SessionView (L : Type 0) : Type 0 where
   pub budget : Option ℕ
   -- the link may serve the next request
   pub reusable : Bool
+  -- what the caller keeps with the connection
+  pub context : Option C
 
 -- how many link calls of this call may move bytes
 abbrev pub allowance : Option ℕ → ℕ
@@ -39,7 +41,7 @@ IsSearched None search received = HasLooked MAX_HEADER_SIZE search received
 IsSearched (Some request) search received = Unit {0}
 
 -- a session that read and wrote nothing yet
-pub record IsNewSession {L : Type 0} (start : L) (view : SessionView L) : Type 0 where
+pub record IsNewSession {L C : Type 0} (start : L) (view : SessionView L C) : Type 0 where
   pub link : view.link ≡ start
   pub received : view.received ≡ []
   pub request : view.request ≡ None
@@ -49,3 +51,4 @@ pub record IsNewSession {L : Type 0} (start : L) (view : SessionView L) : Type 0
   pub settings : (view.settings.keep_off ≡ true) × (view.settings.keepalive ≡ 0) × (view.settings.closing ≡ true) × (view.settings.pipelining ≡ false) × (view.settings.reuses ≡ None)
   pub budget : view.budget ≡ None
   pub reusable : view.reusable ≡ false
+  pub context : view.context ≡ None

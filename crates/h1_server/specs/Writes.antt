@@ -12,7 +12,7 @@ use Rattle.h1_server.specs.declared.reply.Step.{Step}
 use Rattle.h1_server.specs.declared.reply.Step.TheVariants.{Free}
 
 -- one call that writes: what was owed and what it takes up now is written in front
-pub record Writes {L : Type 0} (state : L → LinkState) (old new : SessionView L) (taking : List ℕ) (left : ℕ) : Type 0 where
+pub record Writes {L C : Type 0} (state : L → LinkState) (old new : SessionView L C) (taking : List ℕ) (left : ℕ) : Type 0 where
   pub sent : Sent (state old.link) (state new.link) (old.reply.owed ++ taking) new.reply.owed (allowance old.budget) left
   pub budget : new.budget ≡ option_map (λ _. left) old.budget
   pub received : new.received ≡ old.received
@@ -21,6 +21,7 @@ pub record Writes {L : Type 0} (state : L → LinkState) (old new : SessionView 
   pub body : new.body ≡ old.body
   pub settings : new.settings ≡ old.settings
   pub reusable : new.reusable ≡ old.reusable
+  pub context : new.context ≡ old.context
   -- how many bytes of the reply were written
   pub counted : new.reply.sent ≡ min (old.reply.sent + length sent.piece) (2 ^ 64 - 1)
 

@@ -1,7 +1,8 @@
 //! Delivering the write that is in progress: sending what is owed, and flushing it.
-ghost use Rattle.std.specs.Prelude.{◌≡◌, [], Some, false};
+ghost use Rattle.std.specs.Prelude.{◌≡◌, ◌&&◌, [], Some, false};
 ghost use Rattle.h1_server.specs.Moved.{Moved, Sent};
 ghost use Rattle.h1_server.specs.Writing.{DeliveryAnswer, FlushCause, with_count};
+ghost use Rattle.h1_server.specs.Calls.{CallsFew, is_unflushed, is_done};
 ghost use Rattle.h1_server.specs.declared.reply.Step.TheVariants.{Free};
 ghost use Rattle.h1_error.specs.declared.error.ErrorType.TheVariants.{WriteError};
 
@@ -29,6 +30,7 @@ pub(crate) fn deliver<L: Link>(
 ) -> Poll<Result<(), Error>>
     ensures sent { Sent (L.state link.old) (L.state link.new) reply.old.owed reply.new.owed budget.old budget.new }
     ensures answer { DeliveryAnswer how (L.state link.old) (L.state link.new) reply.old reply.new budget.new result }
+    ensures calls { CallsFew (L.state link.old) (L.state link.new) (is_unflushed how && is_done result) }
     ensures plan { L.same_plan link.old link.new }
 {
     match send(link, &mut reply.owed, &mut reply.sent, budget) {
@@ -53,6 +55,7 @@ fn flush<L: Link>(link: &mut L, how: Delivery) -> FlushStep
     ensures moved { Moved (L.state link.old) (L.state link.new) [] [] 0 }
     ensures unread { (L.state link.new).read_waits ≡ (L.state link.old).read_waits }
     ensures cause { FlushCause how (L.state link.old) (L.state link.new) result }
+    ensures calls { CallsFew (L.state link.old) (L.state link.new) (is_unflushed how) }
     ensures plan { L.same_plan link.old link.new }
 {
     match how {

@@ -1,4 +1,4 @@
-//! The server's side of one HTTP/1 exchange over a link (RFC 9112).
+//! The server's side of HTTP/1 over a link, one exchange at a time (RFC 9112).
 #![tactic(auto)]
 
 mod body;
@@ -25,4 +25,4 @@ pub use reply::{ReplyState, Step};
 pub use request::{NoRequest, ReadRequest, Request};
 pub use reusable::ReusableHttpStream;
 pub use server::HttpSession;
-pub use settings::Settings;
+pub use settings::{Settings, one_less};

@@ -1,6 +1,7 @@
 //! Reading a part of a request's body off the link (RFC 9112, section 6).
 ghost use Rattle.std.specs.Prelude.{◌≡◌, ◌≤◌, ◌+◌, ◌-◌, ℕ, List, []};
 ghost use Rattle.h1_server.specs.Decoding.{ReadsBody, BodyCause, IsStopOf, payload_of};
+ghost use Rattle.h1_server.specs.Calls.{CallsFew, is_part};
 
 use crate::receiving::{Filled, fill};
 use crate::taking::{Taken, take};
@@ -40,6 +41,7 @@ pub(crate) fn read_body<L: Link>(
     ensures reads { ReadsBody (L.state link.old) (L.state link.new) received.old.items received.new.items reader.old reader.new kept.old kept.new budget.old budget.new (payload_of result) }
     ensures cause { BodyCause (L.state link.old) (L.state link.new) reader.new received.new.items (payload_of result) budget.new result }
     ensures few { (L.state link.new).read_waits ≤ (L.state link.old).read_waits + 1 }
+    ensures calls { CallsFew (L.state link.old) (L.state link.new) (is_part result) }
     ensures plan { L.same_plan link.old link.new }
 {
     'reads: loop {
@@ -75,6 +77,7 @@ pub(crate) fn drain_body<L: Link>(
     ensures reads { (payload : List ℕ) × ReadsBody (L.state link.old) (L.state link.new) received.old.items received.new.items reader.old reader.new kept.old kept.new budget.old budget.new payload }
     ensures cause { BodyCause (L.state link.old) (L.state link.new) reader.new received.new.items [] budget.new result }
     ensures few { (L.state link.new).read_waits ≤ (L.state link.old).read_waits + 1 }
+    ensures calls { CallsFew (L.state link.old) (L.state link.new) (is_part result) }
     ensures plan { L.same_plan link.old link.new }
 {
     'drains: loop {

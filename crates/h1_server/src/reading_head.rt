@@ -2,6 +2,7 @@
 ghost use Rattle.std.specs.Prelude.{◌≡◌, ◌<◌, ◌≤◌, ◌+◌, ◌-◌};
 ghost use Rattle.h1_server.specs.Moved.{Received};
 ghost use Rattle.h1_server.specs.Reading.{HeadCause};
+ghost use Rattle.h1_server.specs.Calls.{CallsFew, is_whole_head};
 ghost use Rattle.h1_cut.specs.Search.{HasLooked};
 ghost use Rattle.h1_head.specs.declared.limits.TheConstants.{MAX_HEADER_SIZE};
 
@@ -43,6 +44,7 @@ pub(crate) fn read_head<L: Link>(
     ensures cause { HeadCause (L.state link.old) (L.state link.new) received.new.items budget.new result }
     ensures looked { HasLooked MAX_HEADER_SIZE search.new received.new.items }
     ensures few { (L.state link.new).read_waits ≤ (L.state link.old).read_waits + 1 }
+    ensures calls { CallsFew (L.state link.old) (L.state link.new) (is_whole_head result) }
     ensures plan { L.same_plan link.old link.new }
 {
     'reads: loop {

@@ -1,6 +1,7 @@
 //! One read of the link into the received bytes.
 ghost use Rattle.std.specs.Prelude.{◌≡◌, ◌<◌, ◌-◌};
 ghost use Rattle.h1_server.specs.Receiving.{FillsBy};
+ghost use Rattle.h1_server.specs.Calls.{CallsFew, is_got};
 
 use bytes::BytesMut;
 use h1_link::{Link, ReadStep};
@@ -22,6 +23,7 @@ pub(crate) enum Filled {
 /// byte that the link gave is lost.
 pub(crate) fn fill<L: Link>(link: &mut L, received: &mut BytesMut) -> Filled
     ensures fills { FillsBy (L.state link.old) (L.state link.new) received.old.items received.new.items result }
+    ensures calls { CallsFew (L.state link.old) (L.state link.new) (is_got result) }
     ensures plan { L.same_plan link.old link.new }
 {
     if received.reserve(READ_SIZE).is_err() {

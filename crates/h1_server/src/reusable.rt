@@ -6,7 +6,7 @@ use h1_link::Link;
 
 /// The link of a session that is over, and what was received and not used: it comes first in the
 /// next session.
-#[derive(Drop)]
+#[derive(Debug, Drop)]
 pub struct ReusableHttpStream<L: Link + Drop> {
     pub(crate) stream: L,
     pub(crate) prefix: Option<BytesMut>,

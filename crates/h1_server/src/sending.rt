@@ -2,6 +2,7 @@
 ghost use Rattle.std.specs.Prelude.{◌≡◌, ◌<◌, ◌-◌};
 ghost use Rattle.h1_server.specs.Moved.{Sent};
 ghost use Rattle.h1_server.specs.Writing.{SendCause, sent_after};
+ghost use Rattle.h1_server.specs.Calls.{CallsFew, is_all};
 
 use h1_body::Wire;
 use h1_link::{Link, WriteStep};
@@ -29,6 +30,7 @@ pub(crate) fn send<L: Link>(
     ensures sent { Sent (L.state link.old) (L.state link.new) owed.old owed.new budget.old budget.new }
     ensures cause { SendCause (L.state link.old) (L.state link.new) owed.new budget.new result }
     ensures counted { sent.new ≡ sent_after sent.old owed.old owed.new }
+    ensures calls { CallsFew (L.state link.old) (L.state link.new) (is_all result) }
     ensures plan { L.same_plan link.old link.new }
 {
     let _counted = *sent;

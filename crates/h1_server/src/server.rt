@@ -1,4 +1,4 @@
-//! The session: one exchange over a link, call by call.
+//! The session: one exchange at a time over a link, call by call.
 ghost use Rattle.std.specs.Prelude.{◌≡◌, ◌↔◌, [], IsTrue, IsSome, IfSome, None, Some, true, false, is_some, MatchOption, IsOkAnd};
 ghost use Rattle.h1_link.specs.Steps.{after_shutdown};
 ghost use Rattle.h1_link.specs.Later.{KeepsBytes};
@@ -22,7 +22,7 @@ mod replies;
 mod requests;
 mod reusing;
 
-/// A server's session for one request and its reply over a link.
+/// A server's session over a link, for one request and its reply at a time.
 #[derive(Drop)]
 pub struct HttpSession<L: Link + Drop, C: Drop> {
     alloc: Global,
@@ -43,9 +43,9 @@ pub struct HttpSession<L: Link + Drop, C: Drop> {
 impl<L: Link + Drop, C: Drop> Model for HttpSession<L, C> {
     ghost use Rattle.h1_server.specs.SessionView.{SessionView, Settled, IsSearched};
 
-    ghost Value = { SessionView L };
+    ghost Value = { SessionView L C };
 
-    ghost view = { λ s. record { link = s.link; received = s.received.items; request = s.request; refused = s.refused; body = s.body; reply = s.reply; settings = s.settings; budget = s.budget; reusable = s.reusable } };
+    ghost view = { λ s. record { link = s.link; received = s.received.items; request = s.request; refused = s.refused; body = s.body; reply = s.reply; settings = s.settings; budget = s.budget; reusable = s.reusable; context = s.context } };
 
     ghost invariant = { λ s. record { settled : Settled s.reply; searched : IsSearched s.request s.search s.received.items } };
 }
@@ -108,14 +108,15 @@ impl<L: Link + Drop, C: Drop> HttpSession<L, C> {
         self.reply.step == Step::Free
     }
 
-    /// Turns keep-alive off, or sets the deadline of the next head in seconds, of which 0 is none.
+    /// Turns keep-alive off, or sets the deadline of the next head in seconds, of which 0 is none. A
+    /// request that doesn't wish it isn't kept all the same (`will_keepalive`).
     pub fn set_server_keepalive(&mut self, seconds: Option<u64>)
         ensures { self.new ≡ record self.old { settings = keepalive_set self.old.settings seconds } }
     {
         self.settings = with_keepalive(self.settings, seconds);
     }
 
-    /// The deadline of the next head in seconds, of which 0 is none; None where keep-alive is off.
+    /// The deadline of the next head in seconds, of which 0 is none; None where keep-alive was set off.
     pub fn get_keepalive_timeout(&self) -> Option<u64>
         ensures { result ≡ keepalive_timeout self.now.settings }
     {

@@ -1,6 +1,7 @@
 //! What a caller sets on a session.
 ghost use Rattle.std.specs.Prelude.{◌≡◌, None, true, false};
 ghost use Rattle.h1_server.specs.Keepalive.{keepalive_set, wished};
+ghost use Rattle.h1_server.specs.Reuse.{next_settings, one_less};
 
 /// How a session treats its connection. Times are in seconds.
 #[derive(Clone, Copy, Debug, PartialEq, Eq)]
@@ -39,6 +40,27 @@ pub(crate) fn wished(wish: bool) -> Option<u64>
     ensures { result ≡ wished wish }
 {
     if wish { Some(0) } else { None }
+}
+
+/// What stays set from one request to the next.
+pub(crate) fn next_settings(settings: Settings) -> Settings
+    ensures { result ≡ next_settings settings }
+{
+    Settings {
+        closing: true,
+        reuses: one_less(settings.reuses),
+        ..settings
+    }
+}
+
+/// One request fewer may follow, where there is a limit.
+pub fn one_less(reuses: Option<u32>) -> Option<u32>
+    ensures { result ≡ one_less reuses }
+{
+    match reuses {
+        None => None,
+        Some(left) => Some(left.saturating_sub(1)),
+    }
 }
 
 impl Settings {

@@ -73,6 +73,21 @@ impl<L: Link + Drop, C: Drop> HttpSession<L, C> {
         !self.received.is_empty()
     }
 
+    /// Keeps a value of the caller's with the connection, or none.
+    pub fn set_connection_user_context(&mut self, context: Option<C>)
+        ensures { self.new ≡ record self.old { context = context } }
+    {
+        self.context = context;
+    }
+
+    /// Hands out what the caller kept with the connection.
+    pub fn take_connection_user_context(&mut self) -> Option<C>
+        ensures taken { result ≡ self.old.context }
+        ensures rest { self.new ≡ record self.old { context = None } }
+    {
+        self.context.take()
+    }
+
     /// Whether the request's body was read to its end, or can't be read on.
     pub fn is_body_done(&mut self) -> bool
         requires { IsSome self.old.request }

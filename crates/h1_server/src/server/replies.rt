@@ -16,6 +16,7 @@ use h1_head::ResponseHeader;
 use h1_link::Link;
 
 impl<L: Link + Drop, C: Drop> HttpSession<L, C> {
+    ghost use Rattle.h1_server.specs.Calls.{OneOther, CallsFew, is_done};
     ghost use Rattle.h1_server.specs.Replies.{HeaderCall, is_passed_over, WritesPiece, EndCall, stage_of, IsHeaderStep, IsPieceStep, IsEndStep};
 
     /// Writes a final header, with its date and whether the connection is kept (RFC 9112,
@@ -31,6 +32,7 @@ impl<L: Link + Drop, C: Drop> HttpSession<L, C> {
         requires moment { now < 253_402_300_800_000 }
         ensures again { IfSome self.old.reply.refused (λ error. (result ≡ Ready (Err error)) × (self.new ≡ self.old) × (header.new ≡ header.old)) }
         ensures writes { IfNone self.old.reply.refused (IfSome self.old.request (λ request. HeaderCall L.state self.old self.new request header.old header.new now result (is_passed_over header.old self.old.reply.headed))) }
+        ensures calls { OneOther (L.state self.old.link) (L.state self.new.link) }
         ensures plan { L.same_plan self.old.link self.new.link }
     {
         if let Some(error) = self.reply.refused {
@@ -65,6 +67,7 @@ impl<L: Link + Drop, C: Drop> HttpSession<L, C> {
         requires free { IsPieceStep buf.old self.old.reply.step }
         ensures again { IfSome self.old.reply.refused (λ error. (result ≡ Ready (Err error)) × (self.new ≡ self.old) × (buf.new ≡ buf.old)) }
         ensures writes { IfNone self.old.reply.refused (WritesPiece L.state self.old self.new buf.old buf.new result) }
+        ensures calls { CallsFew (L.state self.old.link) (L.state self.new.link) (is_done result) }
         ensures plan { L.same_plan self.old.link self.new.link }
     {
         if let Some(error) = self.reply.refused {
@@ -83,6 +86,7 @@ impl<L: Link + Drop, C: Drop> HttpSession<L, C> {
         requires free { IsEndStep self.old.reply.step }
         ensures again { IfSome self.old.reply.refused (λ error. (result ≡ Ready (Err error)) × (self.new ≡ self.old)) }
         ensures writes { IfNone self.old.reply.refused (EndCall L.state self.old self.new result (stage_of self.old.reply)) }
+        ensures calls { OneOther (L.state self.old.link) (L.state self.new.link) }
         ensures plan { L.same_plan self.old.link self.new.link }
     {
         if let Some(error) = self.reply.refused {

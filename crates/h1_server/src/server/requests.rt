@@ -29,6 +29,7 @@ pub(super) fn refuse<T>(refused: &mut Option<Error>, kind: ErrorType) -> Poll<Re
 impl<L: Link + Drop, C: Drop> HttpSession<L, C> {
     ghost use Rattle.h1_server.specs.Requests.{ReadsRequest};
     ghost use Rattle.h1_server.specs.Payload.{ReadsPayload};
+    ghost use Rattle.h1_server.specs.Calls.{CallsFew, is_head, is_done};
 
     /// Reads the head of the request (RFC 9112, sections 2.2 and 3). Bytes that were received
     /// before are parsed before any read.
@@ -36,6 +37,7 @@ impl<L: Link + Drop, C: Drop> HttpSession<L, C> {
         requires { self.old.request ≡ None }
         ensures again { IfSome self.old.refused (λ error. (result ≡ Ready (Err error)) × (self.new ≡ self.old)) }
         ensures reads { IfNone self.old.refused (ReadsRequest L.state self.old self.new result) }
+        ensures calls { CallsFew (L.state self.old.link) (L.state self.new.link) (is_head result) }
         ensures plan { L.same_plan self.old.link self.new.link }
     {
         if let Some(error) = self.refused {
@@ -79,6 +81,7 @@ impl<L: Link + Drop, C: Drop> HttpSession<L, C> {
         requires { IsSome self.old.request }
         ensures again { IfSome self.old.body.refused (λ error. (result ≡ Ready (Err error)) × (self.new ≡ self.old)) }
         ensures reads { IfNone self.old.body.refused (ReadsPayload L.state self.old self.new result) }
+        ensures calls { CallsFew (L.state self.old.link) (L.state self.new.link) (is_done result) }
         ensures plan { L.same_plan self.old.link self.new.link }
         ensures bound { length self.new.received < 2 ^ 63 }
     {

@@ -7,22 +7,26 @@ ghost use Rattle.h1_server.specs.declared.reply.Step.TheVariants.{Free};
 
 use super::HttpSession;
 use super::requests::refuse;
-use crate::ReusableHttpStream;
 use crate::budget::{allowance_of, budget_left};
 use crate::reading_body::{BodyRead, drain_body};
+use crate::settings::next_settings;
+use crate::{BodyState, ReplyState, ReusableHttpStream};
 use bytes::BytesMut;
 use futures::task::Poll;
 use h1_error::{Error, ErrorType};
+use h1_head::HeadSearch;
 use h1_link::Link;
 
 impl<L: Link + Drop, C: Drop> HttpSession<L, C> {
-    ghost use Rattle.h1_server.specs.Reuse.{DrainsBody, ReusesBy, keeps_alive, prefix_of};
+    ghost use Rattle.h1_server.specs.Reuse.{DrainsBody, ReusesBy, AwaitsNext, keeps_alive, prefix_of};
+    ghost use Rattle.h1_server.specs.Calls.{CallsFew, is_done, is_reused};
 
     /// Reads the rest of the request's body (RFC 9112, section 9.3).
     pub fn poll_drain_request_body(&mut self, now: u64) -> Poll<Result<(), Error>>
         requires { IsSome self.old.request }
         ensures again { IfSome self.old.body.refused (λ error. (result ≡ Ready (Err error)) × (self.new ≡ self.old)) }
         ensures drains { IfNone self.old.body.refused (DrainsBody L.state self.old self.new result) }
+        ensures calls { CallsFew (L.state self.old.link) (L.state self.new.link) (is_done result) }
         ensures plan { L.same_plan self.old.link self.new.link }
     {
         if let Some(error) = self.body.refused {
@@ -56,6 +60,7 @@ impl<L: Link + Drop, C: Drop> HttpSession<L, C> {
         requires request { IsSome self.old.request }
         requires free { self.old.reply.step ≡ Free }
         ensures reuse { ReusesBy L.state self.old self.new result (keeps_alive self.old) }
+        ensures calls { CallsFew (L.state self.old.link) (L.state self.new.link) (is_reused result) }
         ensures plan { L.same_plan self.old.link self.new.link }
     {
         self.reusable = false;
@@ -78,6 +83,22 @@ impl<L: Link + Drop, C: Drop> HttpSession<L, C> {
         ensures { result ≡ self.now.reusable }
     {
         self.reusable
+    }
+
+    /// Begins the next request on the same link: what was received and not used is parsed before
+    /// any read. Keep-alive, pipelining, the budget and the context stay, and one request fewer may
+    /// follow.
+    pub fn next_request(&mut self)
+        requires { self.old.reusable ≡ true }
+        ensures { AwaitsNext self.old self.new }
+    {
+        self.search = HeadSearch::new();
+        self.request = None;
+        self.refused = None;
+        self.body = BodyState::new();
+        self.reply = ReplyState::new();
+        self.settings = next_settings(self.settings);
+        self.reusable = false;
     }
 
     /// The link for the next request, with what was received and not used.

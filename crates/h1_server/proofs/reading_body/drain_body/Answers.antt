@@ -1,13 +1,14 @@
 -- Each turn reads payload on.
 use Rattle.std.proofs.Common.{[], refl, ◌++◌, ◌∙◌, arith}
 use Rattle.h1_server.specs.Decoding.{payload_of}
-use Rattle.h1_server.proofs.BodyLemmas.{reads_body_itself, reads_body_on, gave_payload, drains_less}
+use Rattle.h1_server.proofs.BodyLemmas.{reads_body_itself, reads_body_on, gave_payload, gave_by_moves, drains_less}
 use Rattle.h1_server.proofs.reading_body.drain_body.Goals as goal
 
 pub drains-init : goal.drains-init
 drains-init g c = record {
   moved = ([], reads_body_itself _ _ _ _ _);
   waits = refl;
+  others = refl;
   plan = g.met.L.Link.plan_itself _;
 }
 
@@ -21,6 +22,7 @@ drains-preserved g c =
         reads_body_on _ _ _ _ _ _ _ _ _ _ _ _ _ _ _ _ _ c.drains.invariant.moved.1 c.read_body-read.ensures.reads,
       );
       waits = more.1 ∙ c.drains.invariant.waits;
+      others = gave_by_moves (g.L.Link.state c.drains.link) (g.L.Link.state c.read_body-read.new.link) c.read_body-read.result c.in_default.ensures c.read_body-read.ensures.calls ∙ c.drains.invariant.others;
       plan = g.met.L.Link.plan_on _ _ _ c.drains.invariant.plan c.read_body-read.ensures.plan;
     }
 

@@ -7,6 +7,7 @@ abbrev pub invariant-drains : goal.invariant-drains
 invariant-drains g l = record {
   moved : (payload : List ℕ) × ReadsBody (g.L.Link.state l.fn.link) (g.L.Link.state l.link) l.fn.received.items l.received.items l.fn.reader l.reader l.fn.kept l.kept l.fn.budget l.budget payload;
   waits : (g.L.Link.state l.link).read_waits ≡ (g.L.Link.state l.fn.link).read_waits;
+  others : (g.L.Link.state l.link).others ≡ (g.L.Link.state l.fn.link).others;
   plan : g.L.Link.same_plan l.fn.link l.link;
 }
 

@@ -8,6 +8,7 @@ pub reads-init : goal.reads-init
 reads-init g c = record {
   moved = reads_body_itself _ _ _ _ _;
   waits = refl;
+  others = refl;
   plan = g.met.L.Link.plan_itself _;
 }
 
@@ -39,6 +40,7 @@ reads-preserved g c =
       moved = reads_body_fills _ _ _ _ _ _ _ _ _ _ _ _ Got
           (reads_body_uses _ _ _ _ _ _ _ _ _ _ _ _ _ _ c.reads.invariant.moved took.0) c.in-Got.ensures.fills spend;
       waits = c.in-Got.ensures.fills.cause.1 ∙ c.reads.invariant.waits;
+      others = c.in-Got.ensures.calls ∙ c.reads.invariant.others;
       plan = g.met.L.Link.plan_on _ _ _ c.reads.invariant.plan c.fill.ensures.plan;
     }
 

@@ -9,6 +9,7 @@ pub reads-init : goal.reads-init
 reads-init g c = record {
   moved = received_itself _ _ _;
   waits = refl;
+  others = refl;
   looked = c.requires;
   plan = g.met.L.Link.plan_itself _;
 }
@@ -20,6 +21,7 @@ reads-preserved g c =
     record {
       moved = received_fills _ _ _ _ _ _ _ _ Got c.reads.invariant.moved c.in-Got.ensures.fills spend;
       waits = c.in-Got.ensures.fills.cause.1 ∙ c.reads.invariant.waits;
+      others = c.in-Got.ensures.calls ∙ c.reads.invariant.others;
       looked = rw c.in-Got.ensures.fills.bytes (HasLooked-append _ _ _ _ looked);
       plan = g.met.L.Link.plan_on _ _ _ c.reads.invariant.plan c.fill.ensures.plan;
     }

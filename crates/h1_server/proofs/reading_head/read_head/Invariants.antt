@@ -9,6 +9,7 @@ abbrev pub invariant-reads : goal.invariant-reads
 invariant-reads g l = record {
   moved : Received (g.L.Link.state l.fn.link) (g.L.Link.state l.link) l.fn.received.items l.received.items l.fn.budget l.budget;
   waits : (g.L.Link.state l.link).read_waits ≡ (g.L.Link.state l.fn.link).read_waits;
+  others : (g.L.Link.state l.link).others ≡ (g.L.Link.state l.fn.link).others;
   looked : HasLooked MAX_HEADER_SIZE l.search l.received.items;
   plan : g.L.Link.same_plan l.fn.link l.link;
 }

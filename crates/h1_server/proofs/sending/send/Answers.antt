@@ -1,12 +1,14 @@
 -- One write sends a front of what is owed.
-use Rattle.std.proofs.Common.{◌<◌, ◌≤◌, ◌-◌, length, arith, ◌∙◌, ap, min, ◌+◌, ◌^◌}
-use Rattle.h1_server.proofs.MovedLemmas.{sent_itself, sent_on, sent_one, sent_after_on, front_len}
+use Rattle.std.proofs.Common.{◌<◌, ◌≤◌, ◌-◌, length, arith, refl, ◌∙◌, ap, min, ◌+◌, ◌^◌}
+use Rattle.h1_link.specs.LinkState.{LinkState}
+use Rattle.h1_server.proofs.MovedLemmas.{sent_itself, sent_on, sent_one, sent_after_on, front_len, took}
 use Rattle.h1_server.proofs.sending.send.Goals as goal
 
 pub sends-init : goal.sends-init
 sends-init g c = record {
   moved = sent_itself _ _ _;
   counted = omega arith;
+  others = refl;
   plan = g.met.L.Link.plan_itself _;
 }
 
@@ -23,5 +25,6 @@ sends-preserved g c =
           ∙ ap (λ n. min (n + c.in-Took.count) (2 ^ 64 - 1)) c.sends.invariant.counted
           ∙ sent_after_on _ _ before.piece _ _ before.bytes (front_len _ _ _ c.front.ensures.front within)
           ∙ rw c.advance.ensures;
+      others = ap (λ (s : LinkState). s.others) (c.in-Took.ensures.state ∙ took (g.L.Link.state c.sends.link) c.front.result.now c.in-Took.count some) ∙ c.sends.invariant.others;
       plan = g.met.L.Link.plan_on _ _ _ c.sends.invariant.plan c.poll_write.ensures.plan;
     }

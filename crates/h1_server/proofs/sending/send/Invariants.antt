@@ -8,6 +8,7 @@ abbrev pub invariant-sends : goal.invariant-sends
 invariant-sends g l = record {
   moved : Sent (g.L.Link.state l.fn.link) (g.L.Link.state l.link) l.fn.owed l.owed l.fn.budget l.budget;
   counted : l.sent ≡ sent_after l.fn.sent l.fn.owed l.owed;
+  others : (g.L.Link.state l.link).others ≡ (g.L.Link.state l.fn.link).others;
   plan : g.L.Link.same_plan l.fn.link l.link;
 }
 

@@ -17,6 +17,7 @@ returns-in-Piece-clause-reads g c =
       refused = refl;
       reply = refl;
       reusable = refl;
+      context = refl;
       few = c.read_body-read.ensures.few;
       settings = refl;
       answer = (refl, cause.0, unrefused, record { waits = refl; link_waits = cause.1 });
@@ -36,6 +37,7 @@ returns-in-Done-clause-reads g c =
       refused = refl;
       reply = refl;
       reusable = refl;
+      context = refl;
       few = c.read_body-read.ensures.few;
       settings = refl;
       answer = (refl, cause.0, unrefused, record { waits = refl; link_waits = cause.1 });
@@ -55,6 +57,7 @@ returns-in-Broken-clause-reads g c =
       refused = refl;
       reply = refl;
       reusable = refl;
+      context = refl;
       few = c.read_body-read.ensures.few;
       settings = refl;
       answer = (refl, c.refuse.ensures.kept, cause.0, record { waits = refl; link_waits = cause.1 }, refl);
@@ -74,6 +77,7 @@ returns-in-Cut-clause-reads g c =
       refused = refl;
       reply = refl;
       reusable = refl;
+      context = refl;
       few = c.read_body-read.ensures.few;
       settings = refl;
       answer = (refl, c.refuse-in-Cut.ensures.kept, (cause.0, cause.1), record { waits = refl; link_waits = cause.2 }, refl);
@@ -93,6 +97,7 @@ returns-in-NotReady-clause-reads g c =
       refused = refl;
       reply = refl;
       reusable = refl;
+      context = refl;
       few = c.read_body-read.ensures.few;
       settings = refl;
       answer = (refl, cause.1, unrefused, refl, inl cause.0);
@@ -112,6 +117,7 @@ returns-in-Spent-clause-reads g c =
       refused = refl;
       reply = refl;
       reusable = refl;
+      context = refl;
       few = c.read_body-read.ensures.few;
       settings = refl;
       answer = (refl, cause.1, unrefused, refl, inr cause.0);
@@ -131,6 +137,7 @@ returns-in-Failed-clause-reads g c =
       refused = refl;
       reply = refl;
       reusable = refl;
+      context = refl;
       few = c.read_body-read.ensures.few;
       settings = refl;
       answer = (refl, c.refuse-in-Failed.ensures.kept, (cause.0, cause.1), record { waits = refl; link_waits = cause.2 }, refl);
@@ -150,6 +157,7 @@ returns-in-NoMemory-clause-reads g c =
       refused = refl;
       reply = refl;
       reusable = refl;
+      context = refl;
       few = c.read_body-read.ensures.few;
       settings = refl;
       answer = (refl, unrefused, tt, record { waits = refl; link_waits = cause }, refl);

@@ -16,6 +16,7 @@ returns-in-Whole-clause-reads g c =
       budget = c.budget_left-self-inside.ensures;
       reply = refl;
       reusable = refl;
+      context = refl;
       few = c.read_head-read.ensures.few;
       answer = (
         c.request_of-request.result,
@@ -47,6 +48,7 @@ returns-in-Refused-clause-reads g c =
       budget = c.budget_left-self-inside.ensures;
       reply = refl;
       reusable = refl;
+      context = refl;
       few = c.read_head-read.ensures.few;
       answer = (record { request = unread; received = refl; body = refl; settings = refl }, c.refuse.ensures.kept, cause, refl);
     }))
@@ -64,6 +66,7 @@ returns-in-Closed-clause-reads g c =
       budget = c.budget_left-self-inside.ensures;
       reply = refl;
       reusable = refl;
+      context = refl;
       few = c.read_head-read.ensures.few;
       answer = (record { request = unread; received = refl; body = refl; settings = refl }, unrefused, cause.0, cause.1);
     }))
@@ -81,6 +84,7 @@ returns-in-Cut-clause-reads g c =
       budget = c.budget_left-self-inside.ensures;
       reply = refl;
       reusable = refl;
+      context = refl;
       few = c.read_head-read.ensures.few;
       answer = (record { request = unread; received = refl; body = refl; settings = refl }, c.refuse-in-Cut.ensures.kept, cause, refl);
     }))
@@ -98,6 +102,7 @@ returns-in-NotReady-clause-reads g c =
       budget = c.budget_left-self-inside.ensures;
       reply = refl;
       reusable = refl;
+      context = refl;
       few = c.read_head-read.ensures.few;
       answer = (record { request = unread; received = refl; body = refl; settings = refl }, unrefused, cause.1, inl cause.0);
     }))
@@ -115,6 +120,7 @@ returns-in-Spent-clause-reads g c =
       budget = c.budget_left-self-inside.ensures;
       reply = refl;
       reusable = refl;
+      context = refl;
       few = c.read_head-read.ensures.few;
       answer = (record { request = unread; received = refl; body = refl; settings = refl }, unrefused, cause.1, inr cause.0);
     }))
@@ -132,6 +138,7 @@ returns-in-Failed-clause-reads g c =
       budget = c.budget_left-self-inside.ensures;
       reply = refl;
       reusable = refl;
+      context = refl;
       few = c.read_head-read.ensures.few;
       answer = (record { request = unread; received = refl; body = refl; settings = refl }, c.refuse-in-Failed.ensures.kept, cause, refl);
     }))
@@ -149,6 +156,7 @@ returns-in-NoMemory-clause-reads g c =
       budget = c.budget_left-self-inside.ensures;
       reply = refl;
       reusable = refl;
+      context = refl;
       few = c.read_head-read.ensures.few;
       answer = (record { request = unread; received = refl; body = refl; settings = refl }, unrefused, tt, refl);
     }))

@@ -16,5 +16,5 @@ pub returns-in-Ready-Ok-clause-reuse : goal.returns-in-Ready-Ok-clause-reuse
 returns-in-Ready-Ok-clause-reuse g c = rw (← c.self.view_is)
     (reuse_done g.L.Link.state _ c.poll_drain_request_body.new.self _ c.in-Ready-Ok.field-0-0 c.may_follow-self-inside.result (sym c.if-not-will_keepalive.ensures)
     (rw c.in-Ready-Ok.field-0-is at c.in-Ready-Ok.ensures.drains)
-    (ap (λ (x : SessionView g.row.L.Denot). record x { reusable = c.may_follow-self-inside.result }) c.self-2.view_is)
+    (ap (λ (x : SessionView g.row.L.Denot g.row.C.Denot). record x { reusable = c.may_follow-self-inside.result }) c.self-2.view_is)
     (rw (← c.self-2.view_is) c.may_follow-self-inside.ensures))

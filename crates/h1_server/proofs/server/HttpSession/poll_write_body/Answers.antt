@@ -22,4 +22,5 @@ returns-clause-writes g c =
       body = refl;
       settings = refl;
       reusable = refl;
+      context = refl;
     }) c.deliver-answer.ensures.answer)))

@@ -1,4 +1,4 @@
--- What `f` keeps it keeps of the link of this session.
+-- What `f` keeps of the link that it is lent holds of the link here.
 use Rattle.h1_server.proofs.server.HttpSession.with_link.Goals as goal
 
 pub returns-clause-keeps : goal.returns-clause-keeps
