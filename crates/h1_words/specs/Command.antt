@@ -4,9 +4,9 @@ use Rattle.std.specs.Option.{option_map}
 use Rattle.std.specs.Str.{bytes_eq}
 use Rattle.h1_words.specs.ByteText.{bytes_of_text}
 use Rattle.h1_words.specs.Number.{number_up_to}
-use Rattle.h1_words.specs.declared.command.TheConstants.{LAST_MOMENT}
+use Rattle.h1_words.specs.declared.command.TheConstants.{LAST_MOMENT, MAX_LIMIT}
 use Rattle.h1_words.specs.declared.command.Command.{Command}
-use Rattle.h1_words.specs.declared.command.Command.TheVariants.{Give, End, Poll}
+use Rattle.h1_words.specs.declared.command.Command.TheVariants.{Give, End, Shutdown, Limit, Poll}
 
 -- what stands behind these words at the front of a line
 abbrev pub behind_words : List ℕ → List ℕ → Option (List ℕ)
@@ -21,17 +21,25 @@ give_command text = option_map Give (bytes_of_text text)
 abbrev pub poll_command : List ℕ → Option Command
 poll_command digits = option_map Poll (number_up_to LAST_MOMENT digits)
 
-abbrev pub poll_line : Option (List ℕ) → Option Command
-poll_line None = None
-poll_line (Some digits) = poll_command digits
+-- limit N, below 2^32
+abbrev pub limit_command : List ℕ → Option Command
+limit_command digits = option_map Limit (number_up_to MAX_LIMIT digits)
+
+abbrev pub limit_line : Option (List ℕ) → Option Command
+limit_line None = None
+limit_line (Some digits) = limit_command digits
+
+abbrev pub poll_line : List ℕ → Option (List ℕ) → Option Command
+poll_line line None = limit_line (behind_words (codes "limit ") line)
+poll_line line (Some digits) = poll_command digits
 
 abbrev pub give_line : List ℕ → Option (List ℕ) → Option Command
-give_line line None = poll_line (behind_words (codes "poll ") line)
+give_line line None = poll_line line (behind_words (codes "poll ") line)
 give_line line (Some text) = give_command text
 
--- end, or give TEXT, or poll N
+-- end, or shutdown, or give TEXT, or poll N, or limit N
 abbrev pub command_of : List ℕ → Option Command
 command_of line =
-    if bytes_eq line (codes "end")
-    then Some End
-    else give_line line (behind_words (codes "give ") line)
+    if bytes_eq line (codes "end") then Some End
+    else (if bytes_eq line (codes "shutdown") then Some Shutdown
+    else give_line line (behind_words (codes "give ") line))

@@ -1,10 +1,10 @@
 -- Scripts: lines that end by LF, the last of which may lack it. Empty lines are passed over.
-use Rattle.std.specs.Prelude.{◌≡◌, ℕ, ◌+◌, min, Bool, true, false, not, ◌==◌, nat_le, if◌then◌else◌, List, [], ◌∷◌, ◌++◌, length, take, count_by, Option, Some, None, Result, Ok, Err}
+use Rattle.std.specs.Prelude.{◌≡◌, ℕ, ◌+◌, min, Bool, true, false, not, ◌&&◌, ◌==◌, nat_le, if◌then◌else◌, List, [], ◌∷◌, ◌++◌, length, take, count_by, Option, Some, None, Result, Ok, Err}
 use Rattle.std.specs.List.{slice_split}
 use Rattle.h1_words.specs.Command.{command_of}
 use Rattle.h1_words.specs.declared.script.TheConstants.{MAX_SCRIPT}
 use Rattle.h1_words.specs.declared.command.Command.{Command}
-use Rattle.h1_words.specs.declared.command.Command.TheVariants.{Give, End, Poll}
+use Rattle.h1_words.specs.declared.command.Command.TheVariants.{Give, End, Shutdown, Limit, Poll}
 use Rattle.h1_words.specs.declared.place.Place.{Place}
 use Rattle.h1_words.specs.declared.script.ScriptFault.{ScriptFault}
 use Rattle.h1_words.specs.declared.script.ScriptFault.TheVariants as fault
@@ -26,17 +26,22 @@ pub data ScriptOutcome : Type 0 where
   commands : List Command → ScriptOutcome
   faulty_at : ℕ → ScriptOutcome
 
--- `give` doesn't stand behind `end`, `end` stands once, and no poll is before an earlier one
+-- `give` doesn't stand behind `end`, `end` stands once, `shutdown` anywhere, `limit` once and only
+-- before the first poll, and no poll is before an earlier one
 abbrev pub may_follow : Place → Command → Bool
 may_follow place (Give bytes) = not place.ended
 may_follow place End = not place.ended
+may_follow place Shutdown = true
+may_follow place (Limit count) = not place.polled && not place.limited
 may_follow place (Poll moment) = nat_le place.last_poll moment
 
 -- what stands before the line behind the command
 abbrev pub place_after : Place → Command → Place
 place_after place (Give bytes) = place
 place_after place End = record place { ended = true }
-place_after place (Poll moment) = record place { last_poll = moment }
+place_after place Shutdown = place
+place_after place (Limit count) = record place { limited = true }
+place_after place (Poll moment) = record place { polled = true; last_poll = moment }
 
 -- the lines that are read: what stands before the next one, the commands, and the number of the
 -- next one, from 1; or the number of a faulty one
@@ -85,7 +90,8 @@ within_limit bytes outcome =
 
 -- nothing stands before the first line
 abbrev pub first_line : Reading
-first_line = at_line (record { ended = false; last_poll = 0 }) [] 1
+first_line =
+    at_line (record { ended = false; limited = false; polled = false; last_poll = 0 }) [] 1
 
 -- what the lines of a script of any length mean
 abbrev pub outcome_of_lines : List ℕ → ScriptOutcome

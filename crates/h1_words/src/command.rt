@@ -1,7 +1,7 @@
 //! The lines of a script, each by itself.
 ghost use Rattle.std.specs.Prelude.{◌≡◌, IfOk};
 ghost use Rattle.std.specs.Option.{option_copied};
-ghost use Rattle.h1_words.specs.Command.{behind_words, give_command, poll_command, give_line, command_of};
+ghost use Rattle.h1_words.specs.Command.{behind_words, give_command, poll_command, limit_command, limit_line, poll_line, give_line, command_of};
 
 use crate::unescape::bytes_of_text;
 use crate::{Text, number_up_to};
@@ -11,6 +11,9 @@ use std::alloc::Global;
 /// The last millisecond of the year 9999, counted from the first of 1970.
 pub const LAST_MOMENT: u64 = 253_402_300_799_999;
 
+/// The greatest limit that a script can set.
+pub const MAX_LIMIT: u32 = u32::MAX;
+
 /// What a line of a script asks for.
 #[derive(Debug, Drop)]
 pub enum Command {
@@ -18,6 +21,10 @@ pub enum Command {
     Give(Text),
     /// The link ends behind what is ahead.
     End,
+    /// The server shuts down: later polls are told so.
+    Shutdown,
+    /// Connections have this `keepalive_request_limit`.
+    Limit(u32),
     /// One poll at this moment, in milliseconds.
     Poll(u64),
 }
@@ -29,11 +36,17 @@ pub(crate) fn command_of(alloc: Global, line: &[u8]) -> Result<Option<Command>, 
     if line == b"end".as_slice() {
         return Ok(Some(Command::End));
     }
+    if line == b"shutdown".as_slice() {
+        return Ok(Some(Command::Shutdown));
+    }
     if let Some(text) = behind_words(b"give ", line) {
         return give_command(alloc, text);
     }
     if let Some(digits) = behind_words(b"poll ", line) {
         return Ok(poll_command(digits));
+    }
+    if let Some(digits) = behind_words(b"limit ", line) {
+        return Ok(limit_command(digits));
     }
     Ok(None)
 }
@@ -58,6 +71,15 @@ fn poll_command(digits: &[u8]) -> Option<Command>
 {
     match number_up_to(LAST_MOMENT, digits) {
         Some(moment) => Some(Command::Poll(moment)),
+        None => None,
+    }
+}
+
+fn limit_command(digits: &[u8]) -> Option<Command>
+    ensures { result ≡ limit_command digits.now }
+{
+    match number_up_to(u64::from(MAX_LIMIT), digits) {
+        Some(limit) => Some(Command::Limit(limit as u32)),
         None => None,
     }
 }

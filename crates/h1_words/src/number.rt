@@ -1,5 +1,5 @@
 //! Numbers of a script.
-ghost use Rattle.std.specs.Prelude.{◌≡◌};
+ghost use Rattle.std.specs.Prelude.{◌≡◌, ◌≤◌, IfSome};
 ghost use Rattle.h1_words.specs.Number.{with_digit, number_up_to};
 
 /// A number has at most so many digits, leading zeros among them.
@@ -7,7 +7,8 @@ pub const MAX_DIGITS: usize = 20;
 
 /// The number that 1 to 20 decimal digits write, if it is at most `most`.
 pub fn number_up_to(most: u64, digits: &[u8]) -> Option<u64>
-    ensures { result ≡ number_up_to most digits.now }
+    ensures number { result ≡ number_up_to most digits.now }
+    ensures within { IfSome result (λ number. number ≤ most) }
 {
     if digits.is_empty() || digits.len() > MAX_DIGITS {
         return None;

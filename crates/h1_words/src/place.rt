@@ -9,6 +9,10 @@ use crate::Command;
 pub struct Place {
     /// Whether `end` stands before.
     pub ended: bool,
+    /// Whether `limit` stands before.
+    pub limited: bool,
+    /// Whether a poll stands before.
+    pub polled: bool,
     /// The moment of the poll before, or 0.
     pub last_poll: u64,
 }
@@ -19,6 +23,8 @@ impl Place {
     {
         match command {
             Command::Give(_) | Command::End => !self.ended,
+            Command::Shutdown => true,
+            Command::Limit(_) => !self.polled && !self.limited,
             Command::Poll(moment) => self.last_poll <= *moment,
         }
     }
@@ -27,14 +33,19 @@ impl Place {
         ensures { result ≡ place_after self command.now }
     {
         match command {
-            Command::Give(_) => self,
+            Command::Give(_) | Command::Shutdown => self,
             Command::End => Place {
                 ended: true,
-                last_poll: self.last_poll,
+                ..self
+            },
+            Command::Limit(_) => Place {
+                limited: true,
+                ..self
             },
             Command::Poll(moment) => Place {
-                ended: self.ended,
+                polled: true,
                 last_poll: *moment,
+                ..self
             },
         }
     }

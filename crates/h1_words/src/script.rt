@@ -131,6 +131,8 @@ impl Reader {
         Reader {
             place: Place {
                 ended: false,
+                limited: false,
+                polled: false,
                 last_poll: 0,
             },
             commands: Vec::new(alloc),

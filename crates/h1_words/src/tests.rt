@@ -37,6 +37,20 @@ fn a_script_is_faulty_at_its_first_line_outside_of_the_grammar(rt: HostRuntime) 
         ("poll 253402300799999", None),
         ("poll 253402300800000", Some(1)),
         ("poll 99999999999999999999", Some(1)),
+        ("shutdown\nlimit 0\nend\nshutdown\npoll 0\nshutdown", None),
+        ("shutdown ", Some(1)),
+        ("shutdow", Some(1)),
+        ("limit 4294967295\npoll 0", None),
+        ("limit 4294967296", Some(1)),
+        ("limit 99999999999999999999", Some(1)),
+        ("limit 00000000000000000007", None),
+        ("limit 000000000000000000007", Some(1)),
+        ("limit", Some(1)),
+        ("limit ", Some(1)),
+        ("limit -1", Some(1)),
+        ("limit 1 ", Some(1)),
+        ("limit 1\n\nlimit 1", Some(3)),
+        ("poll 0\nlimit 1", Some(2)),
     ];
     for (script, expected) in cases {
         assert_eq!(rt; line_of_fault(rt.alloc(), script), expected, "{script}");
@@ -63,6 +77,23 @@ fn a_script_gives_its_commands_in_order(rt: HostRuntime) -> Result<(), Fail> {
         }
         _ => assert!(rt; false, "three commands"),
     }
+    Ok(())
+}
+
+#[test]
+fn a_script_gives_its_limit_and_each_shutdown(rt: HostRuntime) -> Result<(), Fail> {
+    let text = b"shutdown\nlimit 007\npoll 5\nshutdown";
+    let script = parse_script(rt.alloc(), text).ok().ok_or("a script")?;
+    let in_order = match script.commands() {
+        [
+            Command::Shutdown,
+            Command::Limit(7),
+            Command::Poll(5),
+            Command::Shutdown,
+        ] => true,
+        _ => false,
+    };
+    assert!(rt; in_order);
     Ok(())
 }
 
