@@ -1,7 +1,6 @@
 -- A connection's transcript agrees with what its link gave and took.
-use Rattle.std.proofs.Common.{◌≡◌, ℕ, ◌+◌, ◌-◌, ◌^◌, ◌<◌, min, take, drop, Bool, false, ap, subst, arith, inl, inr, length-append, append-nil, List, [], ◌∷◌, ◌++◌, length, option_to_list, Option, Some, None, IfSome, refl, sym, ◌∙◌, append_assoc}
+use Rattle.std.proofs.Common.{◌≡◌, ℕ, ◌+◌, ◌-◌, ◌^◌, min, drop, ap, subst, append-nil, List, [], ◌∷◌, ◌++◌, length, option_to_list, Option, Some, None, IfSome, refl, sym, ◌∙◌, append_assoc}
 use Rattle.std.specs.List.{AllByRecursion}
-use Rattle.std.proofs.lemmas.Bool.{cases_lt, false≢true}
 use Rattle.h1_error.specs.declared.progress.End.{End}
 use Rattle.h1_error.specs.declared.error.Error.{Error}
 use Rattle.h1_error.specs.declared.error.ErrorType.{ErrorType}
@@ -13,92 +12,37 @@ use Rattle.h1_body.specs.Reader.{body, reads}
 use Rattle.h1_body.specs.Read.{HasRead}
 use Rattle.h1_body.specs.Laws.{GrowsTo}
 use Rattle.h1_body.specs.Framing.{framing}
-use Rattle.h1_body.specs.declared.framing.Framing.{Framing}
-use Rattle.h1_body.specs.declared.framing.Framing.TheVariants.{Counted, Chunked, UntilClose}
-use Rattle.h1_body.specs.declared.reader.BodyReader.{BodyReader}
-use Rattle.h1_body.proofs.CountedLemmas.{counted_has, counted_lacks}
 use Rattle.h1_body.proofs.ReadLemmas.{read_is}
 use Rattle.h1_body.proofs.LawLemmas.{bodies_grow}
-use Rattle.h1_server.specs.Persistence.{is_whole}
-use Rattle.h1_server.proofs.BodyLemmas.{payload_ahead, nothing_read}
+use Rattle.h1_server.proofs.BodyLemmas.{payload_ahead}
 use Rattle.h1_server.specs.SessionView.{SessionView}
 use Rattle.h1_server.specs.declared.settings.Settings.{Settings}
 use Rattle.h1_app.specs.declared.application.Reply.{Reply}
 use Rattle.h1_app.specs.declared.transcript.Entry.{Entry}
 use Rattle.h1_app.specs.declared.exchange.Stage.{Stage}
-use Rattle.h1_app.specs.Behind.{IsBelow, StoodAs, ReadBehind, WroteBehind, AfterRead, AfterWrote, DoneBehind, FlushedBy}
+use Rattle.h1_app.specs.Behind.{StoodAs, ReadBehind, WroteBehind, AfterRead, AfterWrote, DoneBehind, FlushedBy}
 use Rattle.h1_app.specs.Agrees.{Agrees, AreOf, AreReplies, AreDone, RefusalOf}
-use Rattle.h1_app.specs.Growth.{Extends}
-use Rattle.h1_app.specs.Application.{Given, how_stands, how_of}
+use Rattle.h1_app.specs.Application.{Given}
 use Rattle.h1_app.specs.Exchange.{render, IsAllowed}
-use Rattle.h1_app.specs.Since.{Since, ReadEntry, ReadSo, WroteSo, StoppedSo, StopsBody, coming}
+use Rattle.h1_app.specs.Since.{Since, ReadEntry, ReadSo, WroteSo, StoppedSo, StoodSo, StopsBody, coming}
 use Rattle.h1_app.specs.Sound.{Sound, IsKept}
 use Rattle.h1_app.specs.Stream.{Message, Begins, BehindBody}
-use Rattle.h1_app.specs.Turns.{ExtendsLast}
 use Rattle.h1_app.proofs.BehindLemmas.{told_map}
-use Rattle.h1_app.proofs.ReplyLemmas.{grows_itself}
+use Rattle.h1_app.proofs.StoodLemmas.{stood_as}
 
 nothing_behind : (b : Body) (none : List Message) → none ≡ [] → BehindBody b (λ k. Unit {0}) (none ≡ [])
 nothing_behind (whole payload n) none is = tt
 nothing_behind (unfinished payload) none is = is
 nothing_behind (broken payload) none is = is
 
--- with a stated length and no end of the body, fewer bytes were handed in
-below : (f : Framing) (handed : ℕ) (used payload : List ℕ) (reader : BodyReader) (b : Body) → handed ≡ length payload
-    → HasRead f used payload reader → reads reader [] ≡ b → is_whole b ≡ false → IsBelow f handed
-below Chunked handed used payload reader b count read is goes = tt
-below UntilClose handed used payload reader b count read is goes = tt
-below (Counted n) handed used payload reader b count read is goes = elim (cases_lt (length used) n) [
-  | inl lacks ↦
-      let now : unfinished used ≡ ahead payload (length used) b =
-      sym (counted_lacks n used lacks) ∙ read_is (Counted n) used payload reader read ∙ ap (ahead payload (length used)) is in
-      unread b now lacks
-  | inr has ↦
-      let now : whole (take n used) n ≡ ahead payload (length used) b =
-      sym (counted_has n used has) ∙ read_is (Counted n) used payload reader read ∙ ap (ahead payload (length used)) is in
-      absurd (whole_so b now goes)
-] where
-  unread : (b : Body) → unfinished used ≡ ahead payload (length used) b → length used < n → handed < n
-  unread (whole p k) now lacks = absurd cc
-  unread (broken p) now lacks = absurd cc
-  unread (unfinished p) now lacks = let so : used ≡ payload ++ p = cc in
-      omega (arith, ap length so, length-append payload p, count, lacks)
-
-  whole_so : (b : Body) → whole (take n used) n ≡ ahead payload (length used) b → is_whole b ≡ false → ⊥
-  whole_so (whole p k) now goes = false≢true (sym goes)
-  whole_so (broken p) now goes = absurd cc
-  whole_so (unfinished p) now goes = absurd cc
-
--- how the reading of the body stood agrees with what its bytes make of it
-stood : (f : Framing) (e : Entry) (used received : List ℕ) (reader : BodyReader) (refused : Option Error)
-    → HasRead f used e.body reader → framing e.head ≡ f → e.handed ≡ length e.body → e.body_error ≡ refused
-    → StoodAs (how_stands (reads reader []) refused) e (ahead e.body (length used) (reads reader received))
-stood f e used received reader (Some error) read is count err = rw err refl
-stood f e used received reader None read is count err = by (reads reader []) refl where
-  by : (b : Body) → reads reader [] ≡ b → StoodAs (how_stands b None) e (ahead e.body (length used) (reads reader received))
-  by (whole p k) now =
-      let none : p ≡ [] = sym (ap payload_of now) ∙ nothing_read reader.reading in
-      let all : body f used ≡ whole e.body (length used + k) =
-      read_is f used e.body reader read ∙ ap (ahead e.body (length used)) now
-      ∙ ap (λ xs. whole xs (length used + k)) (ap (λ xs. e.body ++ xs) none ∙ append-nil e.body) in
-      let grown : GrowsTo (whole e.body (length used + k)) (body f (used ++ received)) =
-      subst (λ b. GrowsTo b (body f (used ++ received))) all (bodies_grow f used received) in
-      (err, (length used + k, sym (read.read received) ∙ grown))
-  by (unfinished p) now = (err, rw is (below f e.handed used e.body reader (unfinished p) count read now refl))
-  by (broken p) now = (err, rw is (below f e.handed used e.body reader (broken p) count read now refl))
-
-replied_as : {L : Type 0} (session : SessionView L) (e : Entry) (used : List ℕ) (reply : Option Reply)
-    → IfSome reply (λ reply. e.how ≡ how_of session.body) → HasRead (framing e.head) used e.body session.body.reader
-    → e.handed ≡ length e.body → e.body_error ≡ session.body.refused
+replied_as : {L C : Type 0} (session : SessionView L C) (e : Entry) (used : List ℕ) (reply : Option Reply)
+    → IfSome reply (λ reply. StoodSo e.how e session.body) → HasRead (framing e.head) used e.body session.body.reader
     → IfSome reply (λ reply. StoodAs e.how e (ahead e.body (length used) (reads session.body.reader session.received)))
-replied_as session e used None how read count err = tt
-replied_as session e used (Some reply) how read count err =
-    let made : StoodAs (how_of session.body) e (ahead e.body (length used) (reads session.body.reader session.received)) =
-    stood (framing e.head) e used session.received session.body.reader session.body.refused read refl count err in
-    subst (λ how. StoodAs how e (ahead e.body (length used) (reads session.body.reader session.received))) (sym how) made
+replied_as session e used None stood read = tt
+replied_as session e used (Some reply) stood read = stood_as e.how e used session.received session.body read stood
 
 -- why the body can't be read on is what its bytes say
-refused_as : {L : Type 0} (state : L → LinkState) (session : SessionView L) (e : Entry) (used : List ℕ) (k : ErrorType)
+refused_as : {L C : Type 0} (state : L → LinkState) (session : SessionView L C) (e : Entry) (used : List ℕ) (k : ErrorType)
     → StopsBody state session k → HasRead (framing e.head) used e.body session.body.reader
     → RefusalOf (state session.link) e (ahead e.body (length used) (reads session.body.reader session.received)) k
 refused_as state session e used kind.InvalidBody stops read =
@@ -118,17 +62,17 @@ refused_as state session e used kind.ReadError stops read =
     ∙ ap (ahead e.body (length used)) stops.1 ∙ ap unfinished (append-nil e.body)
 refused_as state session e used _ stops read = absurd stops
 
-refusal_as : {L : Type 0} (state : L → LinkState) (session : SessionView L) (e : Entry) (used : List ℕ) (refused : Option Error)
+refusal_as : {L C : Type 0} (state : L → LinkState) (session : SessionView L C) (e : Entry) (used : List ℕ) (refused : Option Error)
     → IfSome refused (λ error. StopsBody state session error.kind) → HasRead (framing e.head) used e.body session.body.reader
     → IfSome refused (λ error. RefusalOf (state session.link) e (ahead e.body (length used) (reads session.body.reader session.received)) error.kind)
 refusal_as state session e used None stops read = tt
 refusal_as state session e used (Some error) stops read = refused_as state session e used error.kind stops read
 
 -- the bytes begin with the request of the exchange
-one_request : {L : Type 0} (gives : Given → Reply → Type 0) (state : L → LinkState) (since : List ℕ) (session : SessionView L) (e : Entry)
-    → IsAllowed gives e → IsKept session e → IfSome e.body_error (λ error. StopsBody state session error.kind) → ReadEntry since e session
+one_request : {L C : Type 0} (state : L → LinkState) (since : List ℕ) (session : SessionView L C) (e : Entry)
+    → IfSome e.body_error (λ error. StopsBody state session error.kind) → ReadEntry since e session
     → (requests : List Message) × Begins since requests × AreOf (state session.link) (e ∷ []) requests
-one_request gives state since session e allowed kept stopped h =
+one_request state since session e stopped h =
     let body = ahead e.body (length h.used) (reads session.body.reader session.received) in
     let m : Message = record { head = e.head; both = e.both; body = body } in (
       m ∷ [],
@@ -139,17 +83,17 @@ one_request gives state since session e allowed kept stopped h =
         (payload_of (reads session.body.reader session.received), payload_ahead e.body (length h.used) (reads session.body.reader session.received)),
         record {
           refused = refusal_as state session e h.used e.body_error stopped h.decoded;
-          replied = replied_as session e h.used e.reply kept.how h.decoded allowed.handed kept.body_error;
+          replied = replied_as session e h.used e.reply h.stood h.decoded;
         },
       ),
     )
 
 -- the bytes written are a front of the reply
-one_reply : {L : Type 0} (since : List ℕ) (session : SessionView L) (e : Entry) → IsKept session e
+one_reply : {L C : Type 0} (since : List ℕ) (session : SessionView L C) (e : Entry) → IsKept session e
     → WroteSo since session (Some e) → session.reply.sent ≡ min (length since) (2 ^ 64 - 1) → AreReplies since (e ∷ [])
 one_reply since session e kept h sent = (
   (session.reply.owed ++ coming e.sent_body session.reply.writer, sym h ∙ append_assoc since session.reply.owed (coming e.sent_body session.reply.writer)),
-  kept.written ∙ sent,
+  kept ∙ sent,
 )
 
 -- one exchange more in front of those that agree
@@ -202,47 +146,30 @@ allowed_all gives [] (Some e) ended h = (h, tt)
 allowed_all gives (e ∷ more) last ended h = (ended.0, allowed_all gives more last ended.1 h)
 
 -- the last exchange agrees with what was read behind the others
-last_read : {L : Type 0} (gives : Given → Reply → Type 0) (state : L → LinkState) (rest : List ℕ) (session : SessionView L) (last : Option Entry)
-    → IfSome last (IsAllowed gives) → IfSome last (IsKept session) → StoppedSo state session last → ReadSo rest session last
+last_read : {L C : Type 0} (state : L → LinkState) (rest : List ℕ) (session : SessionView L C) (last : Option Entry)
+    → StoppedSo state session last → ReadSo rest session last
     → (requests : List Message) × Begins rest requests × AreOf (state session.link) (option_to_list last) requests
-last_read gives state rest session None allowed kept stopped h = ([], tt, tt)
-last_read gives state rest session (Some e) allowed kept stopped h = one_request gives state rest session e allowed kept stopped h
+last_read state rest session None stopped h = ([], tt, tt)
+last_read state rest session (Some e) stopped h = one_request state rest session e stopped h
 
-last_wrote : {L : Type 0} (rest : List ℕ) (session : SessionView L) (last : Option Entry) → IfSome last (IsKept session)
+last_wrote : {L C : Type 0} (rest : List ℕ) (session : SessionView L C) (last : Option Entry) → IfSome last (IsKept session)
     → WroteSo rest session last → session.reply.sent ≡ min (length rest) (2 ^ 64 - 1) → AreReplies rest (option_to_list last)
 last_wrote rest session None kept h sent = h.0
 last_wrote rest session (Some e) kept h sent = one_reply rest session e kept h sent
 
 -- a sound connection's transcript agrees
-pub agrees_sound : {L J : Type 0} (gives : Given → Reply → Type 0) (runs : J → RequestView → Settings → Settings → List ℕ → Type 0) (state : L → LinkState)
-    (session : SessionView L) (done : List Entry) (last : Option Entry) (at : Stage J) (end : Option End) (before : LinkState)
-    → Sound gives runs session done last at end → Since state before session done last
-    → Agrees gives before (state session.link) (done ++ option_to_list last)
-agrees_sound gives runs state session done last at end before sound s = record {
+pub agrees_sound : {L C J : Type 0} (gives : Given → Reply → Type 0) (runs : J → RequestView → Settings → Settings → List ℕ → Type 0) (limit : Option ℕ) (state : L → LinkState)
+    (session : SessionView L C) (done : List Entry) (last : Option Entry) (at : Stage J) (end : Option End) (before : LinkState)
+    → Sound gives runs limit session done last at end → Since state before session done last
+    → Agrees gives limit before (state session.link) (done ++ option_to_list last)
+agrees_sound gives runs limit state session done last at end before sound s = record {
   read = told_map before.given (state session.link).given (AfterRead done (λ rest. ReadSo rest session last)) _
       (λ since h. read_agrees (state session.link) done (option_to_list last) since h.0 h.1
-      (last_read gives state h.0 session last sound.allowed sound.kept s.stopped h.2)) s.read;
+      (last_read state h.0 session last s.stopped h.2)) s.read;
   allowed = allowed_all gives done last sound.ended sound.allowed;
+  begun = sound.begun;
   written = told_map before.written (state session.link).written
       (AfterWrote done (λ rest. WroteSo rest session last × (session.reply.sent ≡ min (length rest) (2 ^ 64 - 1)))) _
       (λ since h. wrote_agrees done (option_to_list last) since h.0 h.1 (last_wrote h.0 session last sound.kept h.2.0 h.2.1)) s.wrote;
   done = done_agrees (FlushedBy before (state session.link)) 0 done last s.flushed;
 }
-
--- the last exchange extends the transcript, behind those that ended
-pub extends_last : (now : ℕ) (shutdown : Bool) (first second : LinkState) (before after : List Entry) (old new : Option Entry)
-    → after ≡ before → ExtendsLast now shutdown first second old new
-    → Extends now shutdown first second (before ++ option_to_list old) (after ++ option_to_list new)
-extends_last now shutdown first second before after old new same h = rw same (on before old new h)
-  where
-    on : (done : List Entry) (old new : Option Entry) → ExtendsLast now shutdown first second old new
-        → Extends now shutdown first second (done ++ option_to_list old) (done ++ option_to_list new)
-    on [] None None h = tt
-    on [] None (Some b) h = (h, tt)
-    on [] (Some a) None h = absurd h
-    on [] (Some a) (Some b) h = (h, tt)
-    on (e ∷ []) None None h = (grows_itself now first second e, tt)
-    on (e ∷ []) None (Some b) h = (grows_itself now first second e, (h, tt))
-    on (e ∷ []) (Some a) None h = absurd h
-    on (e ∷ []) (Some a) (Some b) h = (refl, on [] (Some a) (Some b) h)
-    on (e ∷ f ∷ more) old new h = (refl, on (f ∷ more) old new h)

@@ -1,5 +1,5 @@
 -- Steps in which the application goes on.
-use Rattle.std.proofs.Common.{◌≡◌, ◌≢◌, ℕ, ◌+◌, ◌-◌, ◌^◌, ◌⊎◌, min, List, [], ◌++◌, length, drop, true, false, Option, Some, None, IfSome, unwrap_or, refl, sym, ◌∙◌, ap, subst, append_assoc, append-nil, length-append, arith}
+use Rattle.std.proofs.Common.{◌≡◌, ◌≢◌, ℕ, ◌+◌, ◌-◌, ◌^◌, ◌⊎◌, inl, min, List, [], ◌++◌, length, drop, true, false, Option, Some, None, IfSome, unwrap_or, refl, sym, ◌∙◌, ap, subst, append_assoc, append-nil, length-append, arith}
 use Rattle.std.proofs.lemmas.List.{drop-append-le}
 use Rattle.h1_error.specs.declared.error.Error.{Error}
 use Rattle.h1_error.specs.declared.error.ErrorType.{ErrorType}
@@ -22,33 +22,35 @@ use Rattle.h1_body.proofs.RunLemmas.{ahead-ahead}
 use Rattle.h1_server.specs.Decoding.{Decoded, Lacks}
 use Rattle.h1_server.specs.SessionView.{SessionView}
 use Rattle.h1_server.specs.declared.settings.Settings.{Settings}
+use Rattle.h1_app.specs.declared.application.Reply.{Reply}
 use Rattle.h1_app.specs.declared.transcript.Entry.{Entry}
 use Rattle.h1_app.specs.declared.exchange.Stage.{Stage}
 use Rattle.h1_app.specs.declared.exchange.Stage.TheVariants as stage
 use Rattle.h1_app.specs.declared.steps.answering.Asked.{Asked}
 use Rattle.h1_app.specs.declared.steps.answering.Asked.TheVariants as asked
-use Rattle.h1_app.specs.Application.{ReadsOnly, RefusedBy, WaitsBy, payload_of}
+use Rattle.h1_app.specs.Application.{ReadsOnly, RefusedBy, WaitsBy, payload_of, how_of}
 use Rattle.h1_app.specs.Asking.{AsksAs, noted}
 use Rattle.h1_app.specs.Behind.{AfterRead, written_of}
-use Rattle.h1_app.specs.Causes.{LacksSo}
-use Rattle.h1_app.specs.Since.{Since, IfTold, ReadEntry, WroteSo, StopsBody}
+use Rattle.h1_app.specs.Causes.{LacksSo, LastAfter}
+use Rattle.h1_app.specs.Since.{Since, ReadEntry, WroteSo, StopsBody, StoodSo}
 use Rattle.h1_app.specs.Sound.{SoundStage, IsAnswering, lent}
 use Rattle.h1_app.specs.Growth.{Grows, Stays, RefusedIn}
 use Rattle.h1_app.proofs.ReplyLemmas.{stays_itself}
 use Rattle.h1_app.proofs.BehindLemmas.{told_map, read_on, wrote_same, flushed_on}
+use Rattle.h1_app.proofs.StoodLemmas.{stood_so}
 use Rattle.h1_app.proofs.SinceLemmas.{rose_later}
 
 -- what is read behind what was read
-read_decoded : (f : Framing) (used more payload later : List ℕ) (old new : BodyReader) → HasRead f used payload old → Decoded old new more later → HasRead f (used ++ more) (payload ++ later) new
+pub read_decoded : (f : Framing) (used more payload later : List ℕ) (old new : BodyReader) → HasRead f used payload old → Decoded old new more later → HasRead f (used ++ more) (payload ++ later) new
 read_decoded f used more payload later old new h d = record {
   read = (λ xs. ap (body f) (append_assoc used more xs) ∙ h.read (more ++ xs) ∙ ap (ahead payload (length used)) (d.reads xs)
       ∙ ahead-ahead payload later (length used) (length more) (reads new xs) ∙ ap (λ n. ahead (payload ++ later) n (reads new xs)) (sym (length-append used more)));
 }
 
 -- the application's stage, taken apart
-pub at_answer : {L J : Type 0} (runs : J → RequestView → Settings → Settings → List ℕ → Type 0) (session : SessionView L) (last : Option Entry) (at : Stage J) (e : Entry) (job : J)
+pub at_answer : {L C J : Type 0} (runs : J → RequestView → Settings → Settings → List ℕ → Type 0) (session : SessionView L C) (last : Option Entry) (at : Stage J) (e : Entry) (job : J)
     → SoundStage runs session last at → at ≡ stage.Answer job → last ≡ Some e → IsAnswering e session × runs job e.head e.began session.settings e.body
-at_answer {L} {J} runs session last at e job sound is some =
+at_answer {L} {C} {J} runs session last at e job sound is some =
     let s = rw is at sound in
     let same : s.0 ≡ e = same_entry s.0 e (sym s.1 ∙ some) in
     subst (λ (x : Entry). IsAnswering x session × runs job x.head x.began session.settings x.body) same (s.2, s.3)
@@ -57,11 +59,11 @@ at_answer {L} {J} runs session last at e job sound is some =
     same_entry a b e = cc
 
 -- what was handed out joins the payload
-pub payload_is : {L : Type 0} (state : L → LinkState) (old behind : SessionView L) (body : List ℕ) (r : ReadsOnly state (lent old body) behind) → payload_of behind ≡ body ++ r.payload
+pub payload_is : {L C : Type 0} (state : L → LinkState) (old behind : SessionView L C) (body : List ℕ) (r : ReadsOnly state (lent old body) behind) → payload_of behind ≡ body ++ r.payload
 payload_is state old behind body r = ap (λ x. unwrap_or x []) r.kept
 
 -- a refusal in the call says why the body can't be read on
-refusal_stops : {L : Type 0} (state : L → LinkState) (old behind : SessionView L) (k : ErrorType) → BodyRefusal state old behind k → k ≢ NoMemory → StopsBody state behind k
+refusal_stops : {L C : Type 0} (state : L → LinkState) (old behind : SessionView L C) (k : ErrorType) → BodyRefusal state old behind k → k ≢ NoMemory → StopsBody state behind k
 refusal_stops state old behind kind.InvalidBody h n = h
 refusal_stops state old behind kind.ConnectionClosed h n = h
 refusal_stops state old behind kind.ReadError h n = h.1
@@ -69,7 +71,7 @@ refusal_stops state old behind kind.NoMemory h n = absurd (n refl)
 refusal_stops state old behind _ h n = absurd h
 
 -- and an earlier one still does
-stops_on : {L : Type 0} (state : L → LinkState) (old behind : SessionView L) (k : ErrorType) → behind.body.reader ≡ old.body.reader → behind.received ≡ old.received
+stops_on : {L C : Type 0} (state : L → LinkState) (old behind : SessionView L C) (k : ErrorType) → behind.body.reader ≡ old.body.reader → behind.received ≡ old.received
     → (state behind.link).ended ≡ (state old.link).ended → StopsBody state old k → StopsBody state behind k
 stops_on state old behind kind.InvalidBody reader received ended h = rw reader h
 stops_on state old behind kind.ConnectionClosed reader received ended h = rw (reader, received, ended) h
@@ -77,7 +79,7 @@ stops_on state old behind kind.ReadError reader received ended h = rw (reader, r
 stops_on state old behind _ reader received ended h = absurd h
 
 -- why the body can't be read on, where it can't
-stopped_by : {L : Type 0} (state : L → LinkState) (old behind : SessionView L) (was : Option Error) → RefusedBy state old behind was
+stopped_by : {L C : Type 0} (state : L → LinkState) (old behind : SessionView L C) (was : Option Error) → RefusedBy state old behind was
     → IfSome was (λ error. StopsBody state old error.kind) → IfSome behind.body.refused (λ error. StopsBody state behind error.kind)
 stopped_by state old behind None h s = each behind.body.refused h
   where
@@ -87,13 +89,21 @@ stopped_by state old behind None h s = each behind.body.refused h
 stopped_by state old behind (Some error) h s =
     rw h.0 (stops_on state old behind error.kind h.1 h.2 h.3 s)
 
+-- what holds anyhow
+where_replied : (P : Type 0) (reply : Option Reply) → P → IfSome reply (λ _. P)
+where_replied P None h = tt
+where_replied P (Some reply) h = h
+
 -- what was given and taken goes on as the application reads
-pub asked_since : {L : Type 0} (state : L → LinkState) (old behind new : SessionView L) (e e2 : Entry) (before : LinkState) (done : List Entry)
+pub asked_since : {L C : Type 0} (state : L → LinkState) (old behind new : SessionView L C) (e e2 : Entry) (before : LinkState) (done : List Entry)
     → ReadsOnly state (lent old e.body) behind → new ≡ record behind { body = record behind.body { kept = None; waits = false } }
-    → e2.head ≡ e.head → e2.both ≡ e.both → e2.body ≡ payload_of behind → e.body_error ≡ old.body.refused → e2.body_error ≡ behind.body.refused → e.sent_head ≡ None → e.sent_body ≡ None → e2.sent_head ≡ None → e2.sent_body ≡ None
+    → e2.head ≡ e.head → e2.both ≡ e.both → e2.body ≡ payload_of behind → e2.handed ≡ length (payload_of behind) → e2.how ≡ how_of behind.body
+    → e.body_error ≡ old.body.refused → e2.body_error ≡ behind.body.refused → e.sent_head ≡ None → e.sent_body ≡ None → e2.sent_head ≡ None → e2.sent_body ≡ None
     → Since state before old done (Some e) → Since state before new done (Some e2)
-asked_since {L} state old behind new e e2 before done r is head both body error0 error2 h0 b0 h2 b2 s =
-    subst (λ (x : SessionView L). Since state before x done (Some e2)) (sym is) (record {
+asked_since {L} {C} state old behind new e e2 before done r is head both body handed how error0 error2 h0 b0 h2 b2 s =
+    let onward : (used : List ℕ) → HasRead (framing e.head) used e.body old.body.reader → HasRead (framing e2.head) (used ++ r.used) e2.body behind.body.reader =
+    λ used h. rw (head, body ∙ payload_is state old behind e.body r) (read_decoded (framing e.head) used r.used e.body r.payload old.body.reader behind.body.reader h r.decoded) in
+    subst (λ (x : SessionView L C). Since state before x done (Some e2)) (sym is) (record {
       later = later_on before (state old.link) (state behind.link) s.later r.moved.later;
       read = read_on done before.given (state old.link).given (state behind.link).given r.piece (λ rest. ReadEntry rest e old) (λ rest. ReadEntry rest e2 (record behind { body = record behind.body { kept = None; waits = false } })) r.moved.given
           (λ rest p. record {
@@ -101,29 +111,32 @@ asked_since {L} state old behind new e e2 before done r is head both body error0
             used = p.used ++ r.used;
             head = rw (head, both) (HeadAt-append rest r.piece p.n e.head e.both p.head);
             bytes = drop-append-le p.n rest r.piece p.head.cuts.within ∙ ap (λ xs. xs ++ r.piece) p.bytes ∙ append_assoc p.used old.received r.piece ∙ ap (λ xs. p.used ++ xs) r.bytes ∙ sym (append_assoc p.used r.used behind.received);
-            decoded = rw (head, body ∙ payload_is state old behind e.body r) (read_decoded (framing e.head) p.used r.used e.body r.payload old.body.reader behind.body.reader p.decoded r.decoded);
+            decoded = onward p.used p.decoded;
+            stood = where_replied (StoodSo e2.how e2 (record behind.body { kept = None; waits = false })) e2.reply
+                (stood_so e2 (p.used ++ r.used) (record behind.body { kept = None; waits = false }) (onward p.used p.decoded) (handed ∙ ap length (sym body)) error2 how);
           }) s.read;
       wrote = wrote_same done before.written (state old.link).written (state behind.link).written (λ rest. WroteSo rest old (Some e) × (old.reply.sent ≡ min (length rest) (2 ^ 64 - 1)))
           (λ rest. WroteSo rest (record behind { body = record behind.body { kept = None; waits = false } }) (Some e2) × (behind.reply.sent ≡ min (length rest) (2 ^ 64 - 1))) r.moved.written
           (λ rest h. rw (r.reply, h2, b2) (let w = rw (h0, b0) at h.0 in w, h.1)) s.wrote;
       stopped = rw error2 (stopped_by state (lent old e.body) behind old.body.refused r.refused (let was = s.stopped in rw error0 at was));
       flushed = flushed_on before (state old.link) (state behind.link) 0 done r.moved.later.flushed s.flushed;
+      settled = rw h2 tt;
       out = rw r.reply (rose_later (written_of done + old.reply.sent) before.bytes_out _ _ r.moved.later.counts.bytes_out s.out);
     })
 
 -- the exchange still awaits its reply
-pub still_answers : {L : Type 0} (state : L → LinkState) (old new : SessionView L) (e e2 : Entry) (answer : Asked)
+pub still_answers : {L C : Type 0} (state : L → LinkState) (old new : SessionView L C) (e e2 : Entry) (answer : Asked)
     → IsAnswering e old → AsksAs state old new e e2 answer → IsAnswering e2 new
-still_answers {L} state old new e e2 answer a h =
+still_answers {L} {C} state old new e e2 answer a h =
     let r = h.reads in
-    subst (λ (x : Entry). IsAnswering x new) (sym h.entry) (subst (λ (x : SessionView L). IsAnswering (noted e h.behind) x) (sym h.session) (record {
+    subst (λ (x : Entry). IsAnswering x new) (sym h.entry) (subst (λ (x : SessionView L C). IsAnswering (noted e h.behind) x) (sym h.session) (record {
       request = a.request;
       asked = record {
         is = r.request ∙ a.asked.is;
         header = a.asked.header;
         both = a.asked.both;
         wish = a.asked.wish;
-        denied = a.asked.denied;
+        reuses = r.reuses ∙ a.asked.reuses;
         body_error = refl;
         handed = refl;
         filtered = a.asked.filtered;
@@ -139,44 +152,47 @@ still_answers {L} state old new e e2 answer a h =
     }))
 
 -- the body isn't whole, and nothing of it is left among the received bytes
-lacks_body : {L : Type 0} (session : SessionView L) (done : List Entry) (e : Entry) (since : List ℕ) → Lacks session.body.reader session.received → e.reply ≡ None
-    → AfterRead done (λ rest. ReadEntry rest e session) since → LacksSo since done (Some e)
-lacks_body session done e since lacks none h =
+lacks_body : {L C : Type 0} (session : SessionView L C) (done : List Entry) (e : Entry) (since : List ℕ) → Lacks session.body.reader session.received
+    → AfterRead done (λ rest. ReadEntry rest e session) since → LastAfter since done e (unfinished e.body)
+lacks_body session done e since lacks h =
     let p = h.2 in
     let all : drop p.n h.0 ≡ p.used = p.bytes ∙ ap (λ xs. p.used ++ xs) lacks.0 ∙ append-nil p.used in
     let so : body (framing e.head) (drop p.n h.0) ≡ unfinished e.body = ap (body (framing e.head)) all ∙ read_is (framing e.head) p.used e.body session.body.reader p.decoded ∙ ap (ahead e.body (length p.used)) lacks.1 ∙ ap unfinished (append-nil e.body) in
-    ((h.0, h.1, record { n = p.n; head = p.head; body = so }), none)
+    (h.0, h.1, record { n = p.n; head = p.head; body = so })
 
 -- why an application that reads waits
-pub reads_why : {L : Type 0} (state : L → LinkState) (old new : SessionView L) (e e2 : Entry) (answer : Asked)
+pub reads_why : {L C : Type 0} (state : L → LinkState) (old new : SessionView L C) (e e2 : Entry) (answer : Asked)
     → IsAnswering e old → AsksAs state old new e e2 answer → answer ≡ asked.Reads
     → (Rose (state old.link).read_waits (state new.link).read_waits ⊎ (new.budget ≡ Some 0))
-    × ((before : LinkState) (done : List Entry) → Since state before new done (Some e2) → IfTold before.given (state new.link).given (λ since. LacksSo since done (Some e2)))
-reads_why {L} state old new e e2 answer a h is =
+    × ((before : LinkState) (done : List Entry) → Since state before new done (Some e2) → LacksSo before (state new.link) done (Some e2))
+reads_why {L} {C} state old new e e2 answer a h is =
     let waits : WaitsBy state (lent old e.body) h.behind true =
     subst (λ b. WaitsBy state (lent old e.body) h.behind b) (h.reading is) (h.reads.waits a.asked.waits) in
-    let left : SessionView L = record h.behind { body = record h.behind.body { kept = None; waits = false } } in
+    let left : SessionView L C = record h.behind { body = record h.behind.body { kept = None; waits = false } } in
     let none : e2.reply ≡ None = ap (λ (x : Entry). x.reply) h.entry ∙ a.reply in
-    subst (λ (x : SessionView L). (Rose (state old.link).read_waits (state x.link).read_waits ⊎ (x.budget ≡ Some 0))
-    × ((before : LinkState) (done : List Entry) → Since state before x done (Some e2) → IfTold before.given (state x.link).given (λ since. LacksSo since done (Some e2))))
+    subst (λ (x : SessionView L C). (Rose (state old.link).read_waits (state x.link).read_waits ⊎ (x.budget ≡ Some 0))
+    × ((before : LinkState) (done : List Entry) → Since state before x done (Some e2) → LacksSo before (state x.link) done (Some e2)))
     (sym h.session) (
       waits.2,
-      λ before done s. told_map before.given (state h.behind.link).given (AfterRead done (λ rest. ReadEntry rest e2 left)) (λ since. LacksSo since done (Some e2))
-          (λ since p. lacks_body left done e2 since waits.0 none p) s.read,
+      λ before done s. (
+        inl none,
+        told_map before.given (state h.behind.link).given (AfterRead done (λ rest. ReadEntry rest e2 left)) (λ since. LastAfter since done e2 (unfinished e2.body))
+            (λ since p. lacks_body left done e2 since waits.0 p) s.read,
+      ),
     )
 
 -- the step goes on with what was given and taken; a reply that joins the exchange changes nothing of it
-pub asked_on : {L : Type 0} (state : L → LinkState) (old new : SessionView L) (last : Option Entry) (e e2 e3 : Entry) (answer : Asked)
+pub asked_on : {L C : Type 0} (state : L → LinkState) (old new : SessionView L C) (last : Option Entry) (e e2 e3 : Entry) (answer : Asked)
     → last ≡ Some e → e3 ≡ record e2 { reply = e3.reply } → IsAnswering e old → AsksAs state old new e e2 answer
     → (before : LinkState) (done : List Entry) → Since state before old done last → Since state before new done (Some e3)
-asked_on {L} state old new last e e2 e3 answer some like a h before done s =
+asked_on {L} {C} state old new last e e2 e3 answer some like a h before done s =
     let start : Since state before old done (Some e) = subst (λ x. Since state before old done x) some s in
     let noted_so : e3 ≡ record (noted e h.behind) { reply = e3.reply } = like ∙ ap (λ (x : Entry). record x { reply = e3.reply }) h.entry in
-    asked_since state old h.behind new e e3 before done h.reads h.session (ap (λ (x : Entry). x.head) noted_so) (ap (λ (x : Entry). x.both) noted_so) (ap (λ (x : Entry). x.body) noted_so) a.asked.body_error (ap (λ (x : Entry). x.body_error) noted_so)
+    asked_since state old h.behind new e e3 before done h.reads h.session (ap (λ (x : Entry). x.head) noted_so) (ap (λ (x : Entry). x.both) noted_so) (ap (λ (x : Entry). x.body) noted_so) (ap (λ (x : Entry). x.handed) noted_so) (ap (λ (x : Entry). x.how) noted_so) a.asked.body_error (ap (λ (x : Entry). x.body_error) noted_so)
     a.sent_head a.sent_body (ap (λ (x : Entry). x.sent_head) noted_so ∙ a.sent_head) (ap (λ (x : Entry). x.sent_body) noted_so ∙ a.sent_body) start
 
 -- a refusal in the call for a failed read is one that the link had in it
-refused_in : {L : Type 0} (state : L → LinkState) (old behind : SessionView L) (was : Option Error) → RefusedBy state old behind was
+refused_in : {L C : Type 0} (state : L → LinkState) (old behind : SessionView L C) (was : Option Error) → RefusedBy state old behind was
     → RefusedIn (state old.link) (state behind.link) was behind.body.refused
 refused_in state old behind (Some error) h = tt
 refused_in state old behind None h = each behind.body.refused h
@@ -189,22 +205,22 @@ refused_in state old behind None h = each behind.body.refused h
     each None h = tt
     each (Some error) h = of error.kind h.0
 
-refusal_stays : {L : Type 0} (state : L → LinkState) (old behind : SessionView L) (was : Option Error) → RefusedBy state old behind was
+refusal_stays : {L C : Type 0} (state : L → LinkState) (old behind : SessionView L C) (was : Option Error) → RefusedBy state old behind was
     → Stays was behind.body.refused
 refusal_stays state old behind None h = tt
 refusal_stays state old behind (Some error) h = h.0
 
 -- the exchange grows by what the application read; a reply may join it
-pub asked_grows : {L : Type 0} (state : L → LinkState) (now : ℕ) (old new : SessionView L) (e e2 e3 : Entry) (answer : Asked)
+pub asked_grows : {L C : Type 0} (state : L → LinkState) (now : ℕ) (old new : SessionView L C) (e e2 e3 : Entry) (answer : Asked)
     → e3 ≡ record e2 { reply = e3.reply } → IsAnswering e old → AsksAs state old new e e2 answer
     → Grows now (state old.link) (state new.link) e e3
-asked_grows {L} state now old new e e2 e3 answer like a h =
+asked_grows {L} {C} state now old new e e2 e3 answer like a h =
     let r = h.reads in
     let entry : e3 ≡ record (noted e h.behind) { reply = e3.reply } = like ∙ ap (λ (x : Entry). record x { reply = e3.reply }) h.entry in
     let read : payload_of h.behind ≡ e.body ++ r.payload = payload_is state old h.behind e.body r in
     let stays = refusal_stays state (lent old e.body) h.behind old.body.refused r.refused in
     let within = refused_in state (lent old e.body) h.behind old.body.refused r.refused in
-    let link : (state new.link) ≡ (state h.behind.link) = ap (λ (x : SessionView L). state x.link) h.session in
+    let link : (state new.link) ≡ (state h.behind.link) = ap (λ (x : SessionView L C). state x.link) h.session in
     subst (λ (x : Entry). Grows now (state old.link) (state new.link) e x) (sym entry) (record {
       head = refl;
       both = refl;

@@ -19,7 +19,7 @@ use Rattle.h1_app.specs.Exchange.{render}
 use Rattle.h1_app.specs.Since.{IfTold}
 
 -- a whole body lies within the bytes that made it
-whole_within : (f : Framing) (bytes payload : List ℕ) (k : ℕ) → body f bytes ≡ whole payload k → k ≤ length bytes
+pub whole_within : (f : Framing) (bytes payload : List ℕ) (k : ℕ) → body f bytes ≡ whole payload k → k ≤ length bytes
 whole_within (Counted n) bytes payload k is = elim (cases_lt (length bytes) n) [
   | inl lacks ↦ absurd (never (sym (counted_lacks n bytes lacks) ∙ is))
   | inr has ↦ let same : n ≡ k = same_use (sym (counted_has n bytes has) ∙ is) in omega (arith, same, has)
@@ -38,7 +38,7 @@ whole_within UntilClose bytes payload k is = absurd (never is) where
   never e = cc
 
 -- and stays so with more bytes behind them
-whole_stays : (f : Framing) (bytes more payload : List ℕ) (k : ℕ) → body f bytes ≡ whole payload k
+pub whole_stays : (f : Framing) (bytes more payload : List ℕ) (k : ℕ) → body f bytes ≡ whole payload k
     → body f (bytes ++ more) ≡ whole payload k
 whole_stays f bytes more payload k is =
     let grown : GrowsTo (whole payload k) (body f (bytes ++ more)) =

@@ -30,10 +30,10 @@ use Rattle.h1_app.specs.Causes.{FailureCause}
 use Rattle.h1_app.specs.Exchange.{render_parts, shown}
 use Rattle.h1_app.specs.Since.{Since, coming}
 use Rattle.h1_app.specs.Sound.{SoundStage, IsReplied, IsHeaded, IsFinishing, IsPieceOf, fresh, filled}
-use Rattle.h1_app.proofs.ReplyLemmas.{at_none, since_wrote, since_goes_on, stays_itself, dated_same, grows_replying, grows_written, replied_on, headed_on, more_written, waits_why, refused_cause}
+use Rattle.h1_app.proofs.ReplyLemmas.{at_none, since_wrote, since_goes_on, settled_owed, stays_itself, dated_same, grows_replying, grows_written, replied_on, headed_on, more_written, waits_why, refused_cause}
 
 -- the exchange whose body is to be taken up
-pub record AtTakeBody {L : Type 0} (e : Entry) (session : SessionView L) : Type 0 where
+pub record AtTakeBody {L C : Type 0} (e : Entry) (session : SessionView L C) : Type 0 where
   pub request : Request
   pub reply : Reply
   pub replied : IsReplied e session request reply
@@ -43,8 +43,8 @@ pub record AtTakeBody {L : Type 0} (e : Entry) (session : SessionView L) : Type 
   pub free : session.reply.step ≡ step.Free
   pub owed : session.reply.owed ≡ []
 
-pub at_take_body : {L J : Type 0} (runs : J → RequestView → Settings → Settings → List ℕ → Type 0)
-    (session : SessionView L) (last : Option Entry) (stage : Stage J) (e : Entry)
+pub at_take_body : {L C J : Type 0} (runs : J → RequestView → Settings → Settings → List ℕ → Type 0)
+    (session : SessionView L C) (last : Option Entry) (stage : Stage J) (e : Entry)
     → stage ≡ at.TakeBody → last ≡ Some e → SoundStage runs session last stage
     → AtTakeBody e session
 at_take_body runs session last stage e p q sound =
@@ -64,7 +64,7 @@ at_take_body runs session last stage e p q sound =
     })
 
 -- the exchange whose body is being written
-pub record AtBody {L : Type 0} (e : Entry) (session : SessionView L) : Type 0 where
+pub record AtBody {L C : Type 0} (e : Entry) (session : SessionView L C) : Type 0 where
   pub request : Request
   pub reply : Reply
   pub replied : IsReplied e session request reply
@@ -72,8 +72,8 @@ pub record AtBody {L : Type 0} (e : Entry) (session : SessionView L) : Type 0 wh
   pub sent_body : e.sent_body ≡ Some reply.body
   pub writer : session.reply.writer ≡ filled e reply
 
-pub at_body : {L J : Type 0} (runs : J → RequestView → Settings → Settings → List ℕ → Type 0)
-    (session : SessionView L) (last : Option Entry) (stage : Stage J) (e : Entry)
+pub at_body : {L C J : Type 0} (runs : J → RequestView → Settings → Settings → List ℕ → Type 0)
+    (session : SessionView L C) (last : Option Entry) (stage : Stage J) (e : Entry)
     → stage ≡ at.Body → last ≡ Some e → SoundStage runs session last stage → AtBody e session
 at_body runs session last stage e p q sound =
     let h : SoundStage runs session last at.Body = subst (λ s. SoundStage runs session last s) p
@@ -131,7 +131,7 @@ parts_bodied method r b date keep h reply sent is none headed bodied =
     rw (is, none, headed) all
 
 -- a body that is taken up as one piece, or none where it is empty
-pub body_since : {L : Type 0} (state : L → LinkState) (before : LinkState) (done : List Entry) (old new : SessionView L)
+pub body_since : {L C : Type 0} (state : L → LinkState) (before : LinkState) (done : List Entry) (old new : SessionView L C)
     (taking : List ℕ) (left : ℕ) (e : Entry) (sent : List ℕ) (written : ℕ)
     (h : AtTakeBody e old) → Writes state old new taking left → sent ≡ h.reply.body
     → taking ≡ piece_bytes (fresh e h.reply) h.reply.body → new.reply.writer ≡ filled e h.reply
@@ -147,10 +147,11 @@ body_since state before done old new taking left e sent written h w is takes wri
     e.owed written (body_bytes f h.reply.body) w
     (bytes ∙ ap (λ x. coming x old.reply.writer ++ body_bytes f h.reply.body) (sym h.sent_body))
     (parts_bodied e.head.method e.reply e.sent_body e.date_text e.keep e.sent_head h.reply sent
-    h.replied.is h.sent_body h.headed.sent_head is) s
+    h.replied.is h.sent_body h.headed.sent_head is)
+    (settled_owed before (state new.link) done (record e { sent_body = Some sent; written = written }) h.headed.owed) s
 
 -- a call that was not made
-pub writes_nothing : {L : Type 0} (state : L → LinkState) (session : SessionView L)
+pub writes_nothing : {L C : Type 0} (state : L → LinkState) (session : SessionView L C)
     → session.reply.sent < 2 ^ 64
     → Writes state session session [] (allowance session.budget)
 writes_nothing state session limit = record {
@@ -169,6 +170,7 @@ writes_nothing state session limit = record {
   body = refl;
   settings = refl;
   reusable = refl;
+  context = refl;
   counted = none session.reply.sent limit;
 }
   where
@@ -179,7 +181,7 @@ writes_nothing state session limit = record {
     none : (sent : ℕ) → sent < 2 ^ 64 → sent ≡ min (sent + 0) (2 ^ 64 - 1)
     none sent limit = omega arith
 
-pub untouched : {L : Type 0} (state : L → LinkState) (session : SessionView L) (e : Entry)
+pub untouched : {L C : Type 0} (state : L → LinkState) (session : SessionView L C) (e : Entry)
     (h : AtTakeBody e session)
     → Writes state session session [] (allowance session.budget)
 untouched state session e h = writes_nothing state session
@@ -193,7 +195,7 @@ body_grows now before behind e sent written none more =
     (stays_itself e.sent_head) (dated_same now e.sent_head e _ refl refl refl refl refl) (rw none tt) more
 
 -- the end of the body comes next
-finishing : {L : Type 0} (e : Entry) (session : SessionView L) (reply : Reply)
+finishing : {L C : Type 0} (e : Entry) (session : SessionView L C) (reply : Reply)
     → session.reply.step ≡ step.Free → session.reply.owed ≡ []
     → session.reply.writer ≡ filled e reply → IsFinishing e session reply session.reply.step
 finishing e session reply free owed writer = subst (λ s. IsFinishing e session reply s) (sym free)
@@ -211,8 +213,8 @@ some_body body None none h is false_is = absurd (false≢true (is ∙ ap not fal
 some_body body (Some piece) none h is false_is = ap Some h.0
 
 -- an empty body needs no call
-pub no_body_since : {L : Type 0} (state : L → LinkState) (before : LinkState) (done : List Entry)
-    (session : SessionView L) (e : Entry) (sent : List ℕ)
+pub no_body_since : {L C : Type 0} (state : L → LinkState) (before : LinkState) (done : List Entry)
+    (session : SessionView L C) (e : Entry) (sent : List ℕ)
     (h : AtTakeBody e session) → sent ≡ h.reply.body → h.reply.body ≡ []
     → Since state before session done (Some e)
     → Since state before session done (Some (record e { sent_body = Some sent }))
@@ -224,8 +226,8 @@ no_body_since state before done session e sent h is empty s =
     (h.writer ∙ sym (ap (λ xs. after_piece (fresh e h.reply) xs) empty ∙ no_piece
     (out e.head.method h.reply.header))) s
 
-pub no_body_done : {L J : Type 0} (runs : J → RequestView → Settings → Settings → List ℕ → Type 0)
-    (state : L → LinkState) (session : SessionView L) (e : Entry) (sent : List ℕ)
+pub no_body_done : {L C J : Type 0} (runs : J → RequestView → Settings → Settings → List ℕ → Type 0)
+    (state : L → LinkState) (session : SessionView L C) (e : Entry) (sent : List ℕ)
     (h : AtTakeBody e session) → sent ≡ h.reply.body → h.reply.body ≡ []
     → SoundStage runs session (Some (record e { sent_body = Some sent })) at.Finish
 no_body_done runs state session e sent h is empty =
@@ -246,7 +248,7 @@ no_body_done runs state session e sent h is empty =
     )
 
 -- the call with the body as its piece
-pub taking_call : {L : Type 0} (state : L → LinkState) (old new : SessionView L) (e : Entry)
+pub taking_call : {L C : Type 0} (state : L → LinkState) (old new : SessionView L C) (e : Entry)
     (piece kept : Option (List ℕ)) (outcome : Poll (Result (Option ℕ) Error))
     (h : AtTakeBody e old) → piece ≡ Some h.reply.body
     → IfNone old.reply.refused (WritesPiece state old new piece kept outcome)
@@ -255,8 +257,8 @@ taking_call state old new e piece kept outcome h is call =
     subst (λ (p : Option (List ℕ)). WritesPiece state old new p kept outcome) is
     (at_none _ old.reply.refused h.headed.refused call)
 
-pub taken_since : {L : Type 0} (state : L → LinkState) (before : LinkState) (done : List Entry)
-    (old new : SessionView L) (e : Entry) (kept : Option (List ℕ))
+pub taken_since : {L C : Type 0} (state : L → LinkState) (before : LinkState) (done : List Entry)
+    (old new : SessionView L C) (e : Entry) (kept : Option (List ℕ))
     (outcome : Poll (Result (Option ℕ) Error)) (sent : List ℕ) (written : ℕ)
     (h : AtTakeBody e old) → WritesPiece state old new (Some h.reply.body) kept outcome
     → sent ≡ h.reply.body
@@ -267,7 +269,7 @@ taken_since state before done old new e kept outcome sent written h w is s =
     (w.takes.0 ∙ ap (λ x. piece_bytes x h.reply.body) h.writer)
     (w.takes.3 ∙ ap (λ x. after_piece x h.reply.body) h.writer) s
 
-pub taken_grows : {L : Type 0} (state : L → LinkState) (now : ℕ) (old new : SessionView L) (e : Entry)
+pub taken_grows : {L C : Type 0} (state : L → LinkState) (now : ℕ) (old new : SessionView L C) (e : Entry)
     (kept : Option (List ℕ)) (outcome : Poll (Result (Option ℕ) Error)) (sent : List ℕ)
     (written : ℕ)
     (h : AtTakeBody e old) → WritesPiece state old new (Some h.reply.body) kept outcome
@@ -278,7 +280,7 @@ taken_grows state now old new e kept outcome sent written h w count =
     (more_written state old new w.taking w.left e written h.request w.writes count
     h.replied.asked)
 
-piece_answer : {L : Type 0} (state : L → LinkState) (old new : SessionView L)
+piece_answer : {L C : Type 0} (state : L → LinkState) (old new : SessionView L C)
     (piece kept : Option (List ℕ)) (outcome told : Poll (Result (Option ℕ) Error))
     (w : WritesPiece state old new piece kept outcome) → outcome ≡ told
     → PieceAnswer (state old.link) (state new.link) new.reply (piece_count old.reply piece) w.left
@@ -288,7 +290,7 @@ piece_answer state old new piece kept outcome told w same =
     new.reply (piece_count old.reply piece) w.left o) same w.answer
 
 -- the reply behind the call that takes the body up
-pub taken_replied : {L : Type 0} (state : L → LinkState) (old new : SessionView L) (e : Entry)
+pub taken_replied : {L C : Type 0} (state : L → LinkState) (old new : SessionView L C) (e : Entry)
     (kept : Option (List ℕ)) (outcome : Poll (Result (Option ℕ) Error)) (sent : List ℕ)
     (written : ℕ)
     (h : AtTakeBody e old) → WritesPiece state old new (Some h.reply.body) kept outcome
@@ -307,7 +309,7 @@ taken_replied state old new e kept outcome sent written h w count refused is =
     }
 
 -- the reply behind a call that goes on
-pub body_replied : {L : Type 0} (state : L → LinkState) (old new : SessionView L) (e : Entry)
+pub body_replied : {L C : Type 0} (state : L → LinkState) (old new : SessionView L C) (e : Entry)
     (kept : Option (List ℕ)) (outcome : Poll (Result (Option ℕ) Error)) (written : ℕ)
     (h : AtBody e old) → WritesPiece state old new None kept outcome → written ≡ new.reply.sent
     → new.reply.refused ≡ None
@@ -326,16 +328,16 @@ body_replied state old new e kept outcome written h w count refused =
     }
 
 -- a body that waits stands at its stage
-pub waits_in_body : {L J : Type 0} (runs : J → RequestView → Settings → Settings → List ℕ → Type 0)
-    (session : SessionView L) (e : Entry) (count : Option ℕ)
+pub waits_in_body : {L C J : Type 0} (runs : J → RequestView → Settings → Settings → List ℕ → Type 0)
+    (session : SessionView L C) (e : Entry) (count : Option ℕ)
     → AtBody e session → session.reply.step ≡ step.Piece count
     → SoundStage runs session (Some e) at.Body
 waits_in_body runs session e count h at_step =
     (e, refl, h.request, h.reply, h.replied, h.headed, h.sent_body, h.writer, (count, at_step))
 
 -- a body that is written is to be ended
-pub ends_body : {L J : Type 0} (runs : J → RequestView → Settings → Settings → List ℕ → Type 0)
-    (session : SessionView L) (e : Entry)
+pub ends_body : {L C J : Type 0} (runs : J → RequestView → Settings → Settings → List ℕ → Type 0)
+    (session : SessionView L C) (e : Entry)
     → AtBody e session → session.reply.step ≡ step.Free → session.reply.owed ≡ []
     → SoundStage runs session (Some e) at.Finish
 ends_body runs session e h free owed = (
@@ -350,8 +352,8 @@ ends_body runs session e h free owed = (
       owed h.writer,
 )
 
-pub taken_waits : {L J : Type 0} (runs : J → RequestView → Settings → Settings → List ℕ → Type 0)
-    (state : L → LinkState) (old new : SessionView L) (e : Entry) (kept : Option (List ℕ))
+pub taken_waits : {L C J : Type 0} (runs : J → RequestView → Settings → Settings → List ℕ → Type 0)
+    (state : L → LinkState) (old new : SessionView L C) (e : Entry) (kept : Option (List ℕ))
     (outcome : Poll (Result (Option ℕ) Error)) (sent : List ℕ) (written : ℕ)
     (h : AtTakeBody e old) → WritesPiece state old new (Some h.reply.body) kept outcome
     → written ≡ new.reply.sent → outcome ≡ Pending → sent ≡ h.reply.body → IsSome old.budget
@@ -367,8 +369,8 @@ taken_waits runs state old new e kept outcome sent written h w count pending is 
       (waits_why state old new w.taking w.left some w.writes told.0.why, h.headed.owed),
     )
 
-pub taken_done : {L J : Type 0} (runs : J → RequestView → Settings → Settings → List ℕ → Type 0)
-    (state : L → LinkState) (old new : SessionView L) (e : Entry) (kept : Option (List ℕ))
+pub taken_done : {L C J : Type 0} (runs : J → RequestView → Settings → Settings → List ℕ → Type 0)
+    (state : L → LinkState) (old new : SessionView L C) (e : Entry) (kept : Option (List ℕ))
     (outcome : Poll (Result (Option ℕ) Error)) (told_count : Option ℕ) (sent : List ℕ) (written : ℕ)
     (h : AtTakeBody e old) → WritesPiece state old new (Some h.reply.body) kept outcome
     → written ≡ new.reply.sent → outcome ≡ Ready (Ok told_count) → sent ≡ h.reply.body
@@ -380,8 +382,8 @@ taken_done runs state old new e kept outcome told_count sent written h w count r
     (taken_replied state old new e kept outcome sent written h w count told.0.refused is)
     told.0.free told.0.owed
 
-pub piece_fails : {L : Type 0} (state : L → LinkState) (before : LinkState) (done : List Entry)
-    (old new : SessionView L) (last : Option Entry) (piece kept : Option (List ℕ))
+pub piece_fails : {L C : Type 0} (state : L → LinkState) (before : LinkState) (done : List Entry)
+    (old new : SessionView L C) (last : Option Entry) (piece kept : Option (List ℕ))
     (outcome : Poll (Result (Option ℕ) Error)) (error : Error)
     → WritesPiece state old new piece kept outcome → outcome ≡ Ready (Err error)
     → FailureCause before (state old.link) (state new.link) done last error error.kind
@@ -391,23 +393,23 @@ piece_fails state before done old new last piece kept outcome error w failed =
     (piece_answer state old new piece kept outcome (Ready (Err error)) w failed).0
 
 -- the call goes on with the body
-pub body_call : {L : Type 0} (state : L → LinkState) (old new : SessionView L) (e : Entry)
+pub body_call : {L C : Type 0} (state : L → LinkState) (old new : SessionView L C) (e : Entry)
     (kept : Option (List ℕ)) (outcome : Poll (Result (Option ℕ) Error))
     (h : AtBody e old) → IfNone old.reply.refused (WritesPiece state old new None kept outcome)
     → WritesPiece state old new None kept outcome
 body_call state old new e kept outcome h call = at_none _ old.reply.refused h.headed.refused call
 
-pub piece_since : {L : Type 0} (state : L → LinkState) (before : LinkState) (done : List Entry)
-    (old new : SessionView L) (e : Entry) (kept : Option (List ℕ))
+pub piece_since : {L C : Type 0} (state : L → LinkState) (before : LinkState) (done : List Entry)
+    (old new : SessionView L C) (e : Entry) (kept : Option (List ℕ))
     (outcome : Poll (Result (Option ℕ) Error)) (written : ℕ)
-    → WritesPiece state old new None kept outcome
+    (h : AtBody e old) → WritesPiece state old new None kept outcome
     → Since state before old done (Some e)
     → Since state before new done (Some (record e { written = written }))
-piece_since state before done old new e kept outcome written w s =
+piece_since state before done old new e kept outcome written h w s =
     since_goes_on state before done old new w.taking w.left e e.owed written w.writes w.takes.0
-    w.takes.1.writer s
+    w.takes.1.writer h.headed.owed s
 
-pub piece_grows : {L : Type 0} (state : L → LinkState) (now : ℕ) (old new : SessionView L) (e : Entry)
+pub piece_grows : {L C : Type 0} (state : L → LinkState) (now : ℕ) (old new : SessionView L C) (e : Entry)
     (kept : Option (List ℕ)) (outcome : Poll (Result (Option ℕ) Error)) (written : ℕ)
     (h : AtBody e old) → WritesPiece state old new None kept outcome → written ≡ new.reply.sent
     → Grows now (state old.link) (state new.link) e (record e { written = written })
@@ -415,8 +417,8 @@ piece_grows state now old new e kept outcome written h w count =
     grows_written now (state old.link) (state new.link) e e.owed written (more_written state old new w.taking w.left e written h.request
     w.writes count h.replied.asked)
 
-pub piece_waits : {L J : Type 0} (runs : J → RequestView → Settings → Settings → List ℕ → Type 0)
-    (state : L → LinkState) (old new : SessionView L) (stage : Stage J) (e : Entry)
+pub piece_waits : {L C J : Type 0} (runs : J → RequestView → Settings → Settings → List ℕ → Type 0)
+    (state : L → LinkState) (old new : SessionView L C) (stage : Stage J) (e : Entry)
     (kept : Option (List ℕ)) (outcome : Poll (Result (Option ℕ) Error)) (written : ℕ)
     (h : AtBody e old) → WritesPiece state old new None kept outcome → written ≡ new.reply.sent
     → outcome ≡ Pending → stage ≡ at.Body → IsSome old.budget
@@ -432,8 +434,8 @@ piece_waits runs state old new stage e kept outcome written h w count pending at
       (waits_why state old new w.taking w.left some w.writes told.0.why, h.headed.owed),
     )
 
-pub piece_done : {L J : Type 0} (runs : J → RequestView → Settings → Settings → List ℕ → Type 0)
-    (state : L → LinkState) (old new : SessionView L) (e : Entry) (kept : Option (List ℕ))
+pub piece_done : {L C J : Type 0} (runs : J → RequestView → Settings → Settings → List ℕ → Type 0)
+    (state : L → LinkState) (old new : SessionView L C) (e : Entry) (kept : Option (List ℕ))
     (outcome : Poll (Result (Option ℕ) Error)) (told_count : Option ℕ) (written : ℕ)
     (h : AtBody e old) → WritesPiece state old new None kept outcome → written ≡ new.reply.sent
     → outcome ≡ Ready (Ok told_count)

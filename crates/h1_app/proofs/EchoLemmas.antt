@@ -67,10 +67,10 @@ only_memory result name value none h = by_result result (subst (λ (o : Option H
     by_result (Err error) h = rw h refl
 
 -- why a read that failed stops the reading; `P` is what reads give
-pub stop_cause : (P : Type 0) {L : Type 0} (state : L → LinkState) (old new : SessionView L) (error : Error) (stop : Stopped)
+pub stop_cause : (P : Type 0) {L C : Type 0} (state : L → LinkState) (old new : SessionView L C) (error : Error) (stop : Stopped)
     → IfSome old.body.refused (λ kept. (◌≡◌ {A = Poll (Result P Error)} (Ready (Err error)) (Ready (Err kept))) × (new ≡ old))
     → IfNone old.body.refused (ReadsPayload state old new (Ready (Err error))) → IsStopOf error error.kind stop → StopCause state old new (Some stop)
-stop_cause P {L} state old new error stop again reads is = by_kind error.kind refl (by_refused old.body.refused refl again reads) is
+stop_cause P {L} {C} state old new error stop again reads is = by_kind error.kind refl (by_refused old.body.refused refl again reads) is
   where
     for_good : (error : Error) (k : ErrorType) → error.kind ≡ k → (k ≢ NoMemory) → refused_for_good error ≡ Some error
     for_good error NoMemory is other = absurd (other refl)
@@ -83,18 +83,18 @@ stop_cause P {L} state old new error stop again reads is = by_kind error.kind re
     by_refused (Some kept) is again reads other =
         let says : ◌≡◌ {A = Poll (Result P Error)} (Ready (Err error)) (Ready (Err kept)) = again.0 in
         let same : error ≡ kept = cc in
-        ap (λ (s : SessionView L). s.body.refused) again.1 ∙ is ∙ ap Some (sym same)
+        ap (λ (s : SessionView L C). s.body.refused) again.1 ∙ is ∙ ap Some (sym same)
 
     by_kind : (k : ErrorType) → error.kind ≡ k → (error.kind ≢ NoMemory → new.body.refused ≡ Some error) → IsStopOf error k stop → StopCause state old new (Some stop)
     by_kind NoMemory is refused h = subst (λ s. StopCause state old new (Some s)) (sym h) is
     by_kind _ is refused h = subst (λ s. StopCause state old new (Some s)) (sym h) (error, refused (λ never. let clash = sym is ∙ never in cc))
 
 -- nothing is read yet
-pub reading_itself : {L : Type 0} (state : L → LinkState) (body : List ℕ) (s : SessionView L) → IsSome s.request → IsSome s.body.kept → IsSome s.budget
+pub reading_itself : {L C : Type 0} (state : L → LinkState) (body : List ℕ) (s : SessionView L C) → IsSome s.request → IsSome s.body.kept → IsSome s.budget
     → Reading state body body s s
 reading_itself state body s request kept budget = record {
   only = reads_itself state s;
-  free = record { refused = refl; waits = refl; link_waits = refl };
+  free = record { refused = refl; waits = refl; link_waits = refl; link_others = refl };
   settings = refl;
   body = λ h. h;
   request = request;
@@ -107,7 +107,7 @@ is_some_mapped f None h = absurd (false≢true h)
 is_some_mapped f (Some x) h = refl
 
 -- one read more
-pub reading_on : {L : Type 0} (state : L → LinkState) (before now then : List ℕ) (old new next : SessionView L) → Reading state before now old new
+pub reading_on : {L C : Type 0} (state : L → LinkState) (before now then : List ℕ) (old new next : SessionView L C) → Reading state before now old new
     → ReadsOnly state new next → ReadsAtOnce state new next → next.settings ≡ new.settings → (now ≡ payload_of new → then ≡ payload_of next)
     → Reading state before then old next
 reading_on state before now then old new next reading reads free settings body = record {
@@ -116,6 +116,7 @@ reading_on state before now then old new next reading reads free settings body =
     refused = free.refused ∙ reading.free.refused;
     waits = free.waits ∙ reading.free.waits;
     link_waits = free.link_waits ∙ reading.free.link_waits;
+    link_others = free.link_others ∙ reading.free.link_others;
   };
   settings = settings ∙ reading.settings;
   body = λ h. body (reading.body h);
@@ -125,7 +126,7 @@ reading_on state before now then old new next reading reads free settings body =
 }
 
 -- what was gathered goes on with the last read
-pub reading_gathers : {L : Type 0} (before now then : List ℕ) (old new next : SessionView L) (stop : Stopped) → (before ≡ payload_of old → now ≡ payload_of new)
+pub reading_gathers : {L C : Type 0} (before now then : List ℕ) (old new next : SessionView L C) (stop : Stopped) → (before ≡ payload_of old → now ≡ payload_of new)
     → Gathers now then new next (Some stop) → Gathers before then old next (Some stop)
 reading_gathers before now then old new next stopped.Whole first second = λ h. second (first h)
 reading_gathers before now then old new next stopped.Refused first second = λ h. second (first h)
@@ -152,7 +153,7 @@ appended (Ok done) old now name value wanted is h = subst (λ v. now ≡ record 
 appended (Err error) old now name value wanted is h = tt
 
 -- what is set is no matter to what is read
-cause_with_settings : {L : Type 0} (state : L → LinkState) (old new : SessionView L) (settings : Settings) (k : ErrorType)
+cause_with_settings : {L C : Type 0} (state : L → LinkState) (old new : SessionView L C) (settings : Settings) (k : ErrorType)
     → BodyRefusal state (record old { settings = settings }) new k → BodyRefusal state old new k
 cause_with_settings state old new settings kind.InvalidBody h = h
 cause_with_settings state old new settings kind.ConnectionClosed h = h
@@ -160,20 +161,20 @@ cause_with_settings state old new settings kind.ReadError h = h
 cause_with_settings state old new settings NoMemory h = h
 cause_with_settings state old new settings _ h = absurd h
 
-causes_with_settings : {L : Type 0} (state : L → LinkState) (old new : SessionView L) (settings : Settings) (o : Option Error)
+causes_with_settings : {L C : Type 0} (state : L → LinkState) (old new : SessionView L C) (settings : Settings) (o : Option Error)
     → IfSome o (λ error. BodyRefusal state (record old { settings = settings }) new error.kind × (error.kind ≢ NoMemory))
     → IfSome o (λ error. BodyRefusal state old new error.kind × (error.kind ≢ NoMemory))
 causes_with_settings state old new settings None h = tt
 causes_with_settings state old new settings (Some error) h = (cause_with_settings state old new settings error.kind h.0, h.1)
 
-refused_with_settings : {L : Type 0} (state : L → LinkState) (old new : SessionView L) (settings : Settings) (o : Option Error)
+refused_with_settings : {L C : Type 0} (state : L → LinkState) (old new : SessionView L C) (settings : Settings) (o : Option Error)
     → RefusedBy state (record old { settings = settings }) new o → RefusedBy state old new o
 refused_with_settings state old new settings (Some error) h = h
 refused_with_settings state old new settings None h = causes_with_settings state old new settings new.body.refused h
 
-only_settings : {L : Type 0} (state : L → LinkState) (old new : SessionView L) (settings : Settings)
+pub only_settings : {L C : Type 0} (state : L → LinkState) (old new : SessionView L C) (settings : Settings) → settings.reuses ≡ old.settings.reuses
     → ReadsOnly state (record old { settings = settings }) new → ReadsOnly state old new
-only_settings state old new settings r = record {
+only_settings state old new settings same r = record {
   piece = r.piece;
   used = r.used;
   payload = r.payload;
@@ -187,8 +188,11 @@ only_settings state old new settings r = record {
   kept = r.kept;
   request = r.request;
   few = r.few;
+  calls = r.calls;
   head_refused = r.head_refused;
+  reuses = r.reuses ∙ same;
   reply = r.reply;
+  context = r.context;
   refused = refused_with_settings state old new settings old.body.refused r.refused;
   waits = λ none. waits_with_settings new.body.waits (r.waits none);
 }
@@ -197,10 +201,18 @@ only_settings state old new settings r = record {
     waits_with_settings false h = h
     waits_with_settings true h = h
 
-pub reads_with_settings : {L : Type 0} (state : L → LinkState) (old begun new : SessionView L) → begun ≡ record old { settings = begun.settings }
+-- what the echo application sets leaves it alone how many requests may follow
+set_reuses : (request : Option Request) (old begun : Settings) → IsSome request → IfSome request (λ r. begun ≡ echo_settings r.header old)
+    → begun.reuses ≡ old.reuses
+set_reuses None old begun there set = absurd (false≢true there)
+set_reuses (Some r) old begun there set = ap (λ (s : Settings). s.reuses) set
+
+pub reads_with_settings : {L C : Type 0} (state : L → LinkState) (old begun new : SessionView L C) → begun ≡ record old { settings = begun.settings }
+    → IsSome old.request → IfSome old.request (λ r. begun.settings ≡ echo_settings r.header old.settings)
     → ReadsOnly state begun new → ReadsOnly state old new
-reads_with_settings state old begun new is reads =
-    only_settings state old new begun.settings (subst (λ s. ReadsOnly state s new) is reads)
+reads_with_settings state old begun new is there set reads =
+    only_settings state old new begun.settings (set_reuses old.request old.settings begun.settings there set)
+    (subst (λ s. ReadsOnly state s new) is reads)
 
 -- how the body stands where its reading was refused
 how_failed : (body : BodyState) (error : Error) → body.refused ≡ Some error → how_of body ≢ Open
@@ -222,7 +234,7 @@ settings_are (Some r) head began old begun there is set (inl same) = rw (set, is
 settings_are (Some r) head began old begun there is set (inr same) = rw (set, is, same) refl
 
 -- the reading of one call, with all that it says of the reply
-pub record Gave {L : Type 0} (state : L → LinkState) (before now : List ℕ) (old begun new : SessionView L) : Type 0 where
+pub record Gave {L C : Type 0} (state : L → LinkState) (before now : List ℕ) (old begun new : SessionView L C) : Type 0 where
   pub request : IsSome old.request
   pub set : begun ≡ record old { settings = begun.settings }
   pub settings : IfSome old.request (λ r. begun.settings ≡ echo_settings r.header old.settings)
@@ -231,19 +243,19 @@ pub record Gave {L : Type 0} (state : L → LinkState) (before now : List ℕ) (
   pub body : before ≡ payload_of begun → now ≡ payload_of new
 
 -- what the reply depends on
-gave_left : {L : Type 0} (state : L → LinkState) (before now : List ℕ) (old begun new : SessionView L) (head : RequestView) (began : Settings)
+gave_left : {L C : Type 0} (state : L → LinkState) (before now : List ℕ) (old begun new : SessionView L C) (head : RequestView) (began : Settings)
     → IsAskedFor head old → EchoRuns before head began old.settings (payload_of old) → Gave state before now old begun new
     → new.settings ≡ echo_settings head began
 gave_left state before now old begun new head began asked runs gave =
     gave.kept ∙ settings_are old.request head began old.settings begun.settings gave.request asked gave.settings runs.settings
 
-gave_body : {L : Type 0} (state : L → LinkState) (before now : List ℕ) (old begun new : SessionView L) (head : RequestView) (began : Settings)
+gave_body : {L C : Type 0} (state : L → LinkState) (before now : List ℕ) (old begun new : SessionView L C) (head : RequestView) (began : Settings)
     → EchoRuns before head began old.settings (payload_of old) → Gave state before now old begun new → now ≡ payload_of new
-gave_body {L} state before now old begun new head began runs gave =
-    gave.body (runs.body ∙ ap (λ (s : SessionView L). payload_of s) (sym gave.set))
+gave_body {L} {C} state before now old begun new head began runs gave =
+    gave.body (runs.body ∙ ap (λ (s : SessionView L C). payload_of s) (sym gave.set))
 
-gave_request : {L : Type 0} (state : L → LinkState) (before now : List ℕ) (old begun new : SessionView L) → Gave state before now old begun new → new.request ≡ old.request
-gave_request {L} state before now old begun new gave = gave.reads.request ∙ ap (λ (s : SessionView L). s.request) gave.set
+gave_request : {L C : Type 0} (state : L → LinkState) (before now : List ℕ) (old begun new : SessionView L C) → Gave state before now old begun new → new.request ≡ old.request
+gave_request {L} {C} state before now old begun new gave = gave.reads.request ∙ ap (λ (s : SessionView L C). s.request) gave.set
 
 -- an answer that is there, or wants memory
 answers : (given : Given) (reply : Reply) (result : Result Reply Error) → (length reply.body < 2 ^ 63 → EchoGives given reply) → IfOk result (λ r. r ≡ reply)
@@ -252,7 +264,7 @@ answers : (given : Given) (reply : Reply) (result : Result Reply Error) → (len
 answers given reply (Ok r) gives is small err = subst (EchoGives given) (sym is) (gives (subst (λ (r : Reply). length r.body < 2 ^ 63) is small))
 answers given reply (Err error) gives is small err = err
 
-pub gives_whole : {L : Type 0} (state : L → LinkState) (before now handed : List ℕ) (old begun new : SessionView L) (head header : RequestView) (began : Settings) (result : Result Reply Error)
+pub gives_whole : {L C : Type 0} (state : L → LinkState) (before now handed : List ℕ) (old begun new : SessionView L C) (head header : RequestView) (began : Settings) (result : Result Reply Error)
     → IsAskedFor head old → EchoRuns before head began old.settings (payload_of old) → Gave state before now old begun new → (how_of new.body ≡ Whole) × (new.body.refused ≡ None)
     → IfSome new.request (λ r. header ≡ r.header) → handed ≡ now → IfOk result (λ reply. reply ≡ echo_reply header handed None)
     → IfOk result (λ reply. length reply.body < 2 ^ 63) → IfErr result (λ error. error.kind ≡ NoMemory)
@@ -270,7 +282,7 @@ gives_whole state before now handed old begun new head header began result asked
       ) refl;
     }) ok fits err
 
-pub gives_refused : {L : Type 0} (state : L → LinkState) (before now : List ℕ) (old begun new : SessionView L) (head : RequestView) (began : Settings) (result : Result Reply Error)
+pub gives_refused : {L C : Type 0} (state : L → LinkState) (before now : List ℕ) (old begun new : SessionView L C) (head : RequestView) (began : Settings) (result : Result Reply Error)
     → IsAskedFor head old → EchoRuns before head began old.settings (payload_of old) → Gave state before now old begun new → (error : Error) × (new.body.refused ≡ Some error)
     → IfOk result (λ reply. reply ≡ refused_reply) → IfErr result (λ error. error.kind ≡ NoMemory)
     → GivesReply EchoGives (given_by head began new) (λ error. error.kind ≡ NoMemory) (Ready result)

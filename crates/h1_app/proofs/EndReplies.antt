@@ -1,5 +1,5 @@
--- How a connection stands once its reply is written: why it ends, and that the link's shutdown keeps it.
-use Rattle.std.proofs.Common.{◌≡◌, ℕ, ◌+◌, ◌-◌, ◌^◌, ◌<◌, ◌≤◌, ◌⊎◌, inr, min, List, [], ◌∷◌, ◌++◌, length, take, Bool, true, false, cond, nat_lt, nat_le, Option, Some, None, IfSome, refl, sym, ◌∙◌, ap, subst, append-nil, length-take, arith, codes}
+-- How a connection stands once its reply is written, and why it ends.
+use Rattle.std.proofs.Common.{◌≡◌, ℕ, ◌+◌, ◌-◌, ◌^◌, ◌<◌, ◌⊎◌, inl, inr, min, List, [], ◌∷◌, ◌++◌, length, take, Bool, true, false, cond, nat_lt, nat_le, Option, Some, IfSome, refl, sym, ◌∙◌, ap, subst, append-nil, length-take, arith, codes}
 use Rattle.std.proofs.lemmas.Bool.{false≢true, ltb-true, lt-ltb}
 use Rattle.std.proofs.lemmas.Option.{none-some}
 use Rattle.std.specs.List.{AllByRecursion}
@@ -7,10 +7,6 @@ use Rattle.h1_error.specs.declared.error.Error.{Error}
 use Rattle.h1_error.specs.declared.error.ErrorType.{ErrorType}
 use Rattle.h1_error.specs.declared.error.ErrorType.TheVariants as kind
 use Rattle.h1_link.specs.LinkState.{LinkState}
-use Rattle.h1_link.specs.Counts.{RoseBy}
-use Rattle.h1_link.specs.Steps.{after_shutdown}
-use Rattle.h1_link.specs.Later.{Later}
-use Rattle.h1_link.proofs.Laters.{later_on, later_shutdown}
 use Rattle.h1_fields.specs.Lines.{Line}
 use Rattle.h1_fields.specs.ListParts.{parts_of}
 use Rattle.h1_fields.specs.Codings.{is_chunked_last}
@@ -30,17 +26,14 @@ use Rattle.h1_body.specs.declared.chunking.Chunking.{Chunking}
 use Rattle.h1_body.specs.declared.chunking.Chunking.TheVariants as place
 use Rattle.h1_body.specs.declared.reader.Reading.{Reading}
 use Rattle.h1_body.specs.declared.reader.Reading.TheVariants as reading
-use Rattle.h1_server.specs.Moved.{Moved}
 use Rattle.h1_server.specs.SessionView.{SessionView}
 use Rattle.h1_app.specs.declared.application.Reply.{Reply}
 use Rattle.h1_app.specs.declared.transcript.Entry.{Entry}
-use Rattle.h1_app.specs.Behind.{WroteBehind, AfterRead, AfterWrote, DoneBehind, FlushedBy, written_of}
+use Rattle.h1_app.specs.Behind.{WroteBehind, AfterWrote, FlushedBy, written_of}
 use Rattle.h1_app.specs.Causes.{FailureCause, IsComplete, IsWrittenShort, EndsBody, LastStands}
 use Rattle.h1_app.specs.Exchange.{render, is_short, shown}
 use Rattle.h1_app.specs.Since.{Since, IfTold, ReadEntry, WroteSo, coming, StopsBody}
-use Rattle.h1_app.specs.Sound.{IsKept}
-use Rattle.h1_app.specs.Turns.{Went}
-use Rattle.h1_app.proofs.BehindLemmas.{told_map, read_map, flushed_on}
+use Rattle.h1_app.proofs.BehindLemmas.{told_map, read_map}
 
 -- a chunked body that is broken stays so
 chunks_broken : (s : Chunking) (bytes : List ℕ) → chunked s [] ≡ broken []
@@ -69,7 +62,7 @@ reading_broken reading.UntilClose bytes h = absurd (cc)
 reading_broken reading.Ended bytes h = absurd (cc)
 
 -- how the last request's body stands
-stands_broken : {L : Type 0} (since : List ℕ) (e : Entry) (session : SessionView L)
+pub stands_broken : {L C : Type 0} (since : List ℕ) (e : Entry) (session : SessionView L C)
     → ReadEntry since e session
     → reads session.body.reader [] ≡ broken [] → LastStands since e (broken e.body)
 stands_broken since e session r h = record {
@@ -81,7 +74,7 @@ stands_broken since e session r h = record {
       ∙ ap (λ xs. broken xs) (append-nil e.body);
 }
 
-stands_unfinished : {L : Type 0} (since : List ℕ) (e : Entry) (session : SessionView L)
+pub stands_unfinished : {L C : Type 0} (since : List ℕ) (e : Entry) (session : SessionView L C)
     → ReadEntry since e session
     → session.received ≡ [] → reads session.body.reader [] ≡ unfinished []
     → LastStands since e (unfinished e.body)
@@ -94,13 +87,13 @@ stands_unfinished since e session r none h = record {
 }
 
 -- an error of the request's body ends the connection for its own cause
-stop_cause : {L : Type 0} (state : L → LinkState) (before old : LinkState) (done : List Entry) (session : SessionView L)
+stop_cause : {L C : Type 0} (state : L → LinkState) (before old : LinkState) (done : List Entry) (session : SessionView L C)
     (e : Entry) (error : Error) (k : ErrorType)
     → Since state before session done (Some e) → EndsBody before (state session.link) done e error
     → StopsBody state session k
     → FailureCause before old (state session.link) done (Some e) error k
 stop_cause state before old done session e error kind.InvalidBody s ends h = (
-  ends,
+  inl ends,
   read_map done before.given (state session.link).given (λ rest. ReadEntry rest e session)
       (λ rest. LastStands rest e (broken e.body))
       (λ rest r. stands_broken rest e session r h) s.read,
@@ -108,22 +101,22 @@ stop_cause state before old done session e error kind.InvalidBody s ends h = (
 stop_cause state before old done session e error kind.ConnectionClosed s ends h = (
   h.0,
   inr (
-    ends,
+    inl ends,
     read_map done before.given (state session.link).given
         (λ rest. ReadEntry rest e session) (λ rest. LastStands rest e (unfinished e.body))
         (λ rest r. stands_unfinished rest e session r h.1.0 h.1.1) s.read,
   ),
 )
 stop_cause state before old done session e error kind.ReadError s ends h = inr (
-  ends,
+  inl ends,
   read_map done before.given (state session.link).given
       (λ rest. ReadEntry rest e session) (λ rest. LastStands rest e (unfinished e.body))
       (λ rest r. stands_unfinished rest e session r h.0 h.1) s.read,
 )
 stop_cause state before old done session e error _ s ends h = absurd h
 
-pub stopped_cause : {L : Type 0} (state : L → LinkState) (before old : LinkState) (done : List Entry)
-    (session : SessionView L) (e : Entry) (error : Error)
+pub stopped_cause : {L C : Type 0} (state : L → LinkState) (before old : LinkState) (done : List Entry)
+    (session : SessionView L C) (e : Entry) (error : Error)
     → Since state before session done (Some e) → e.body_error ≡ Some error
     → IsComplete before (state session.link) done e ⊎ IsWrittenShort before (state session.link) done e
     → FailureCause before old (state session.link) done (Some e) error error.kind
@@ -135,7 +128,7 @@ stopped_cause state before old done session e error s is replied =
     stops
 
 -- all of the reply is written
-written_whole : {L : Type 0} (since : List ℕ) (session : SessionView L) (e : Entry) (sent : List ℕ)
+written_whole : {L C : Type 0} (since : List ℕ) (session : SessionView L C) (e : Entry) (sent : List ℕ)
     → session.reply.owed ≡ [] → e.sent_body ≡ Some sent → end_bytes session.reply.writer ≡ []
     → WroteSo since session (Some e) → since ≡ render e
 written_whole since session e sent none is ended h =
@@ -143,7 +136,7 @@ written_whole since session e sent none is ended h =
     (λ xs. since ++ session.reply.owed ++ xs) ended
     ∙ append-nil (since ++ session.reply.owed) ∙ ap (λ xs. since ++ xs) none ∙ append-nil since) ∙ h
 
-pub told_whole : {L : Type 0} (state : L → LinkState) (before : LinkState) (done : List Entry) (session : SessionView L)
+pub told_whole : {L C : Type 0} (state : L → LinkState) (before : LinkState) (done : List Entry) (session : SessionView L C)
     (e : Entry) (sent : List ℕ)
     → Since state before session done (Some e) → session.reply.owed ≡ [] → e.sent_body ≡ Some sent
     → end_bytes session.reply.writer ≡ []
@@ -155,112 +148,24 @@ told_whole state before done session e sent s none is ended =
     (λ since h. subst (λ xs. WroteBehind since done xs)
     (written_whole h.0 session e sent none is ended h.2.0) h.1) s.wrote
 
-pub complete : {L : Type 0} (state : L → LinkState) (before : LinkState) (done : List Entry) (session : SessionView L)
+-- a reply that is written whole was flushed, where nothing of it is owed
+pub complete : {L C : Type 0} (state : L → LinkState) (before : LinkState) (done : List Entry) (session : SessionView L C)
     (e : Entry) (head : ResponseView) (sent : List ℕ)
     → e.owed ≡ false → Since state before session done (Some e) → session.reply.owed ≡ []
     → end_bytes session.reply.writer ≡ []
-    → e.sent_head ≡ Some head → e.sent_body ≡ Some sent → e.written ≡ session.reply.sent
-    → (state session.link).bytes_out ≤ (state session.link).flushed
+    → e.sent_head ≡ Some head → e.sent_body ≡ Some sent
     → IsComplete before (state session.link) done e
-complete state before done session e head sent unowed s none ended headed is count flushed = record {
-  sent_head = λ p. none-some head (sym p ∙ headed);
-  sent_body = λ p. none-some sent (sym p ∙ is);
-  written = told_whole state before done session e sent s none is ended;
-  flushed = omega (arith, s.out, count, flushed);
-  unowed = unowed;
-}
-
--- a shutdown moves no byte
-moved_shutdown : (before now later : LinkState) (read wrote : List ℕ) (spent : ℕ)
-    → later ≡ after_shutdown now
-    → Moved before now read wrote spent → Moved before later read wrote spent
-moved_shutdown before now later read wrote spent e m =
-    let at_end : Moved before (after_shutdown now) read wrote spent = record {
-      given = m.given;
-      written = m.written;
-      rose = m.rose;
-      most = m.most;
-      enough = m.enough;
-      free = m.free;
-      out = m.out;
-      later = later_on before now (after_shutdown now) m.later (later_shutdown now);
-    } in
-    subst (λ s. Moved before s read wrote spent) (sym e) at_end
-
-pub went_shutdown : {L : Type 0} (state : L → LinkState) (old now new : SessionView L)
-    → state new.link ≡ after_shutdown (state now.link)
-    → new ≡ record now { link = new.link } → Went state old now → Went state old new
-went_shutdown {L} state old now new e rest w = record {
-  read = w.read;
-  wrote = w.wrote;
-  spent = w.spent;
-  moved = moved_shutdown (state old.link) (state now.link) (state new.link) w.read w.wrote w.spent e
-      w.moved;
-  budget = ap (λ (x : SessionView L). x.budget) rest ∙ w.budget;
-  within = w.within;
-}
-
-kept_linked : {L : Type 0} (now : SessionView L) (link : L) (e : Entry) → IsKept now e
-    → IsKept (record now { link = link }) e
-kept_linked now link e k = record { written = k.written; body_error = k.body_error; how = k.how }
-
-pub kept_shutdown : {L : Type 0} (now new : SessionView L) (e : Entry)
-    → new ≡ record now { link = new.link } → IsKept now e → IsKept new e
-kept_shutdown now new e rest k = subst (λ x. IsKept x e) (sym rest) (kept_linked now new.link e k)
-
-stops_shutdown : {L : Type 0} (state : L → LinkState) (now : SessionView L) (link : L)
-    (k : ErrorType) → state link ≡ after_shutdown (state now.link)
-    → StopsBody state now k → StopsBody state (record now { link = link }) k
-stops_shutdown state now link kind.InvalidBody e h = h
-stops_shutdown state now link kind.ConnectionClosed e h =
-    (ap (λ (s : LinkState). s.ended) e ∙ h.0, h.1)
-stops_shutdown state now link kind.ReadError e h = h
-stops_shutdown state now link _ e h = absurd h
-
-stopped_shutdown : {L : Type 0} (state : L → LinkState) (now : SessionView L) (link : L)
-    (error : Option Error) → state link ≡ after_shutdown (state now.link)
-    → IfSome error (λ error. StopsBody state now error.kind)
-    → IfSome error (λ error. StopsBody state (record now { link = link }) error.kind)
-stopped_shutdown state now link None e h = tt
-stopped_shutdown state now link (Some error) e h = stops_shutdown state now link error.kind e h
-
-since_linked : {L : Type 0} (state : L → LinkState) (before : LinkState) (done : List Entry) (now : SessionView L)
-    (link : L) (e : Entry) → state link ≡ after_shutdown (state now.link)
-    → Since state before now done (Some e) → Since state before (record now { link = link }) done (Some e)
-since_linked state before done now link e same s = record {
-  later = subst (λ x. Later before x) (sym same)
-      (later_on before (state now.link) (after_shutdown (state now.link)) s.later
-      (later_shutdown (state now.link)));
-  read = subst (λ x. IfTold before.given x
-      (AfterRead done (λ rest. ReadEntry rest e (record now { link = link }))))
-      (sym (ap (λ (s : LinkState). s.given) same))
-      (read_map done before.given (state now.link).given (λ rest. ReadEntry rest e now)
-      (λ rest. ReadEntry rest e (record now { link = link }))
-      (λ rest h. record {
-        n = h.n;
-        used = h.used;
-        head = h.head;
-        bytes = h.bytes;
-        decoded = h.decoded;
-      }) s.read);
-  wrote = subst (λ x. IfTold before.written x
-      (AfterWrote done (λ rest. WroteSo rest now (Some e) × (now.reply.sent ≡ min (length rest) (2 ^ 64 - 1)))))
-      (sym (ap (λ (s : LinkState). s.written) same)) s.wrote;
-  stopped = stopped_shutdown state now link e.body_error same s.stopped;
-  flushed = subst (λ x. DoneBehind (FlushedBy before x) 0 done) (sym same)
-      (flushed_on before (state now.link) (after_shutdown (state now.link)) 0 done
-      (later_shutdown (state now.link)).flushed s.flushed);
-  out = subst (λ n. RoseBy (written_of done + now.reply.sent) before.bytes_out n)
-      (sym (ap (λ (s : LinkState). s.bytes_out) same)) s.out;
-}
-
-pub since_shutdown : {L : Type 0} (state : L → LinkState) (before : LinkState) (done : List Entry)
-    (now new : SessionView L) (e : Entry)
-    → state new.link ≡ after_shutdown (state now.link) → new ≡ record now { link = new.link }
-    → Since state before now done (Some e) → Since state before new done (Some e)
-since_shutdown state before done now new e same rest s =
-    subst (λ x. Since state before x done (Some e)) (sym rest)
-    (since_linked state before done now new.link e same s)
+complete state before done session e head sent unowed s none ended headed is =
+    let settled : IfSome (Some head) (λ head. e.owed ≡ false → FlushedBy before (state session.link) (written_of done + e.written)) =
+    subst (λ x. IfSome x (λ head. e.owed ≡ false → FlushedBy before (state session.link) (written_of done + e.written))) headed
+    s.settled in
+    record {
+      sent_head = λ p. none-some head (sym p ∙ headed);
+      sent_body = λ p. none-some sent (sym p ∙ is);
+      written = told_whole state before done session e sent s none is ended;
+      flushed = settled unowed;
+      unowed = unowed;
+    }
 
 -- a stated length is below 2 ^ 64
 length_limit : (lines : List Line) (n : ℕ) → content_length lines ≡ stated.Number n → n < 2 ^ 64

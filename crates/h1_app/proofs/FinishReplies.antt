@@ -1,5 +1,5 @@
--- The end of the reply's body is written, and with it the exchange ends.
-use Rattle.std.proofs.Common.{◌≡◌, ℕ, ◌^◌, ◌<◌, ◌⊎◌, inl, inr, List, [], ◌++◌, Bool, true, false, Option, Some, None, Result, Ok, Err, IfNone, IsSome, refl, sym, ◌∙◌, ap, subst, append-nil, arith}
+-- The end of the reply's body is written, and what is left of the request's body may be read.
+use Rattle.std.proofs.Common.{◌≡◌, ℕ, ◌+◌, ◌^◌, ◌<◌, ◌⊎◌, inl, inr, List, [], ◌++◌, Bool, true, false, Option, Some, None, Result, Ok, Err, IfSome, IfNone, IsSome, refl, sym, ◌∙◌, ap, subst, append-nil, arith}
 use Rattle.std.proofs.lemmas.Bool.{false≢true}
 use Rattle.std.proofs.lemmas.Option.{same_Some}
 use Rattle.futures.specs.declared.task.Poll.{Poll}
@@ -9,8 +9,7 @@ use Rattle.h1_error.specs.declared.error.ErrorType.{ErrorType}
 use Rattle.h1_error.specs.declared.error.ErrorType.TheVariants as kind
 use Rattle.h1_link.specs.LinkState.{LinkState}
 use Rattle.h1_link.specs.Counts.{Rose}
-use Rattle.h1_head.specs.Views.{RequestView}
-use Rattle.h1_head.specs.Wish.{wish}
+use Rattle.h1_head.specs.Views.{RequestView, ResponseView}
 use Rattle.h1_body.specs.Framing.{out}
 use Rattle.h1_body.specs.Writer as writer
 use Rattle.h1_body.specs.Writer.{WriterView, begun, after_piece, end_bytes}
@@ -22,6 +21,7 @@ use Rattle.h1_server.specs.Writes.{Writes, IsRefused}
 use Rattle.h1_server.specs.EndWrites.{WritesEnd, EndsShort, EndCall, starts, goes_on, end_stage, stage_of, EndAnswer}
 use Rattle.h1_server.specs.declared.request.Request.{Request}
 use Rattle.h1_server.specs.declared.settings.Settings.{Settings}
+use Rattle.h1_server.specs.declared.body.BodyState.{BodyState}
 use Rattle.h1_server.specs.declared.reply.ReplyState.{ReplyState}
 use Rattle.h1_server.specs.declared.reply.Step.{Step}
 use Rattle.h1_server.specs.declared.reply.Step.TheVariants as step
@@ -31,16 +31,17 @@ use Rattle.h1_app.specs.declared.exchange.Stage.{Stage}
 use Rattle.h1_app.specs.declared.exchange.Stage.TheVariants as at
 use Rattle.h1_app.specs.Growth.{Grows}
 use Rattle.h1_app.specs.Causes.{FailureCause, IsComplete, IsWrittenShort}
-use Rattle.h1_app.specs.Exchange.{render, is_short, IsAllowed, IsDated, may_keep}
-use Rattle.h1_app.specs.Application.{Given, IsLawful}
-use Rattle.h1_app.specs.Since.{Since, coming}
-use Rattle.h1_app.specs.Sound.{SoundStage, IsReplied, IsHeaded, IsFinishing, IsKept, filled, failure_of}
-use Rattle.h1_app.proofs.ReplyLemmas.{at_none, at_some, since_wrote, grows_written, replied_on, kept_on, headed_on, more_written, waits_why}
+use Rattle.h1_app.specs.Behind.{FlushedBy, written_of}
+use Rattle.h1_app.specs.Exchange.{render, is_short}
+use Rattle.h1_app.specs.Since.{Since, SettledSo, coming}
+use Rattle.h1_app.specs.Sound.{SoundStage, IsReplied, IsHeaded, IsFinishing, IsDraining, filled, failure_of}
+use Rattle.h1_app.specs.Turns.{Went, rank, ahead}
+use Rattle.h1_app.proofs.ReplyLemmas.{at_none, since_wrote, settled_owed, grows_written, replied_on, headed_on, more_written, waits_why, ahead_down}
 use Rattle.h1_app.proofs.BodyReplies.{writes_nothing}
 use Rattle.h1_app.proofs.EndReplies.{stopped_cause, told_whole, complete, short_where_writer, long_where_writer}
 
 -- the exchange whose end is to be written, or is owed
-pub record AtFinish {L : Type 0} (e : Entry) (session : SessionView L) : Type 0 where
+pub record AtFinish {L C : Type 0} (e : Entry) (session : SessionView L C) : Type 0 where
   pub request : Request
   pub reply : Reply
   pub replied : IsReplied e session request reply
@@ -48,8 +49,8 @@ pub record AtFinish {L : Type 0} (e : Entry) (session : SessionView L) : Type 0 
   pub sent_body : e.sent_body ≡ Some reply.body
   pub finishing : IsFinishing e session reply session.reply.step
 
-pub at_finish : {L J : Type 0} (runs : J → RequestView → Settings → Settings → List ℕ → Type 0)
-    (session : SessionView L) (last : Option Entry) (stage : Stage J) (e : Entry)
+pub at_finish : {L C J : Type 0} (runs : J → RequestView → Settings → Settings → List ℕ → Type 0)
+    (session : SessionView L C) (last : Option Entry) (stage : Stage J) (e : Entry)
     → stage ≡ at.Finish → last ≡ Some e → SoundStage runs session last stage → AtFinish e session
 at_finish runs session last stage e p q sound =
     let h : SoundStage runs session last at.Finish = subst (λ s. SoundStage runs session last s) p
@@ -70,14 +71,14 @@ abbrev pub cut_off : Error
 cut_off = record { kind = kind.PrematureBodyEnd; retry = false }
 
 -- the body falls short of the length that its head states
-pub record FallsShort {L : Type 0} (old new : SessionView L) (e : Entry) (reply : Reply)
+pub record FallsShort {L C : Type 0} (old new : SessionView L C) (e : Entry) (reply : Reply)
     (outcome : Poll (Result (Option ℕ) Error)) : Type 0 where
   pub short : writer.is_short (filled e reply) ≡ true
   pub owed : new.reply.owed ≡ []
   pub answer : outcome ≡ Ready (Err cut_off)
 
 -- what a call that ends the body does: it writes the end, or the body falls short
-pub record Ending {L : Type 0} (state : L → LinkState) (old new : SessionView L) (e : Entry)
+pub record Ending {L C : Type 0} (state : L → LinkState) (old new : SessionView L C) (e : Entry)
     (reply : Reply) (outcome : Poll (Result (Option ℕ) Error)) : Type 0 where
   pub taking : List ℕ
   pub left : ℕ
@@ -89,7 +90,7 @@ pub record Ending {L : Type 0} (state : L → LinkState) (old new : SessionView 
   pub answer : ((writer.is_short (filled e reply) ≡ false) × EndAnswer (state old.link) (state new.link) old.reply new.reply left outcome)
       ⊎ FallsShort old new e reply outcome
 
-begins_ending : {L : Type 0} (state : L → LinkState) (old new : SessionView L) (e : Entry)
+begins_ending : {L C : Type 0} (state : L → LinkState) (old new : SessionView L C) (e : Entry)
     (reply : Reply) (outcome : Poll (Result (Option ℕ) Error))
     → old.reply.writer ≡ filled e reply → writer.is_short (filled e reply) ≡ false → WritesEnd state old new starts outcome
     → Ending state old new e reply outcome
@@ -108,7 +109,7 @@ begins_ending state old new e reply outcome is long w =
       answer = inl (long, w.answer);
     }
 
-goes_on_ending : {L : Type 0} (state : L → LinkState) (old new : SessionView L) (e : Entry)
+goes_on_ending : {L C : Type 0} (state : L → LinkState) (old new : SessionView L C) (e : Entry)
     (reply : Reply) (outcome : Poll (Result (Option ℕ) Error))
     → old.reply.writer ≡ record (filled e reply) { ended = true } → writer.is_short (filled e reply) ≡ false
     → WritesEnd state old new goes_on outcome → Ending state old new e reply outcome
@@ -133,7 +134,7 @@ short_ends Chunked payload h = absurd (false≢true h)
 short_ends UntilClose payload h = absurd (false≢true h)
 
 -- a body that falls short is ended, and nothing is written
-short_writes : {L : Type 0} (state : L → LinkState) (old : SessionView L) (end : WriterView)
+short_writes : {L C : Type 0} (state : L → LinkState) (old : SessionView L C) (end : WriterView)
     → old.reply.sent < 2 ^ 64
     → Writes state old (record old { reply = record old.reply { writer = end } }) []
     (allowance old.budget)
@@ -148,15 +149,16 @@ short_writes state old end limit =
       body = refl;
       settings = refl;
       reusable = refl;
+      context = refl;
       counted = same.counted;
     }
 
-short_ending : {L : Type 0} (state : L → LinkState) (old new : SessionView L) (e : Entry)
+short_ending : {L C : Type 0} (state : L → LinkState) (old new : SessionView L C) (e : Entry)
     (reply : Reply) (outcome : Poll (Result (Option ℕ) Error))
     → old.reply.owed ≡ [] → old.reply.writer ≡ filled e reply → old.reply.sent < 2 ^ 64
     → writer.is_short old.reply.writer ≡ true
     → EndsShort old new outcome → Ending state old new e reply outcome
-short_ending {L} state old new e reply outcome none is limit short w =
+short_ending {L} {C} state old new e reply outcome none is limit short w =
     let short_is : writer.is_short (filled e reply) ≡ true = ap (λ x. writer.is_short x) (sym is) ∙
     short in
     let ended : Ending state old (record old
@@ -172,9 +174,9 @@ short_ending {L} state old new e reply outcome none is limit short w =
           (out e.head.method reply.header) reply.body short_is);
       answer = inr (record { short = short_is; owed = none; answer = w.answer });
     } in
-    subst (λ (x : SessionView L). Ending state old x e reply outcome) (sym w.ends) ended
+    subst (λ (x : SessionView L C). Ending state old x e reply outcome) (sym w.ends) ended
 
-ending_free : {L : Type 0} (state : L → LinkState) (old new : SessionView L) (e : Entry)
+ending_free : {L C : Type 0} (state : L → LinkState) (old new : SessionView L C) (e : Entry)
     (reply : Reply) (outcome : Poll (Result (Option ℕ) Error)) (short : Bool)
     → writer.is_short old.reply.writer ≡ short → old.reply.owed ≡ []
     → old.reply.writer ≡ filled e reply → old.reply.sent < 2 ^ 64
@@ -185,7 +187,7 @@ ending_free state old new e reply outcome true short none is limit call = short_
 ending_free state old new e reply outcome false short none is limit call = begins_ending state old
     new e reply outcome is (ap (λ x. writer.is_short x) (sym is) ∙ short) call
 
-ending_at : {L : Type 0} (state : L → LinkState) (old new : SessionView L) (e : Entry)
+ending_at : {L C : Type 0} (state : L → LinkState) (old new : SessionView L C) (e : Entry)
     (reply : Reply) (outcome : Poll (Result (Option ℕ) Error)) (s : Step)
     → old.reply.sent < 2 ^ 64 → IsFinishing e old reply s
     → EndCall state old new outcome
@@ -200,7 +202,7 @@ ending_at state old new e reply outcome step.Finish limit h call = goes_on_endin
 ending_at state old new e reply outcome step.Head limit h call = absurd h
 ending_at state old new e reply outcome (step.Piece count) limit h call = absurd h
 
-pub ending : {L : Type 0} (state : L → LinkState) (old new : SessionView L) (e : Entry)
+pub ending : {L C : Type 0} (state : L → LinkState) (old new : SessionView L C) (e : Entry)
     (outcome : Poll (Result (Option ℕ) Error)) (h : AtFinish e old)
     → IfNone old.reply.refused (EndCall state old new outcome (stage_of old.reply))
     → Ending state old new e h.reply outcome
@@ -209,20 +211,31 @@ ending state old new e outcome h call =
     (omega (arith, h.replied.asked.written, h.replied.asked.limit)) h.finishing
     (at_none _ old.reply.refused h.headed.refused call)
 
-pub finish_since : {L : Type 0} (state : L → LinkState) (before : LinkState) (done : List Entry)
-    (old new : SessionView L) (e : Entry) (outcome : Poll (Result (Option ℕ) Error)) (owed : Bool)
+finish_since : {L C : Type 0} (state : L → LinkState) (before : LinkState) (done : List Entry)
+    (old new : SessionView L C) (e : Entry) (outcome : Poll (Result (Option ℕ) Error)) (owed : Bool)
     (written : ℕ) (h : AtFinish e old)
     → Ending state old new e h.reply outcome
+    → SettledSo before (state new.link) done (Some (record e { owed = owed; written = written }))
     → Since state before old done (Some e)
     → Since state before new done (Some (record e { owed = owed; written = written }))
-finish_since state before done old new e outcome owed written h w s =
+finish_since state before done old new e outcome owed written h w settled s =
     since_wrote state before done old new w.taking w.left e e.sent_head e.sent_body e.date e.date_text
     e.keep owed written [] w.writes
     (ap (λ x. w.taking ++ coming x new.reply.writer) h.sent_body ∙ w.bytes ∙ ap
     (λ x. coming x old.reply.writer ++ []) (sym h.sent_body))
-    (sym (append-nil (render e))) s
+    (sym (append-nil (render e))) settled s
 
-pub finish_grows : {L : Type 0} (state : L → LinkState) (now : ℕ) (behind : LinkState) (old new : SessionView L) (e : Entry)
+-- the reply is still owed
+pub owed_since : {L C : Type 0} (state : L → LinkState) (before : LinkState) (done : List Entry)
+    (old new : SessionView L C) (e : Entry) (outcome : Poll (Result (Option ℕ) Error)) (written : ℕ) (h : AtFinish e old)
+    → Ending state old new e h.reply outcome
+    → Since state before old done (Some e)
+    → Since state before new done (Some (record e { written = written }))
+owed_since state before done old new e outcome written h w s =
+    finish_since state before done old new e outcome e.owed written h w
+    (settled_owed before (state new.link) done (record e { written = written }) h.headed.owed) s
+
+pub finish_grows : {L C : Type 0} (state : L → LinkState) (now : ℕ) (behind : LinkState) (old new : SessionView L C) (e : Entry)
     (outcome : Poll (Result (Option ℕ) Error)) (owed : Bool) (written : ℕ) (h : AtFinish e old)
     → Ending state old new e h.reply outcome → written ≡ new.reply.sent
     → Grows now (state old.link) behind e (record e { owed = owed; written = written })
@@ -230,7 +243,7 @@ finish_grows state now behind old new e outcome owed written h w count =
     grows_written now (state old.link) behind e owed written (more_written state old new w.taking w.left e written h.request
     w.writes count h.replied.asked)
 
-answers : {L : Type 0} (state : L → LinkState) (old new : SessionView L) (e : Entry) (reply : Reply)
+answers : {L C : Type 0} (state : L → LinkState) (old new : SessionView L C) (e : Entry) (reply : Reply)
     (outcome told : Poll (Result (Option ℕ) Error))
     (w : Ending state old new e reply outcome) → outcome ≡ told → (told ≡ Ready (Err cut_off) → ⊥)
     → EndAnswer (state old.link) (state new.link) old.reply new.reply w.left told
@@ -249,7 +262,7 @@ not_done : (count : Option ℕ) → ◌≡◌ {A = Poll (Result (Option ℕ) Err
 not_done count h = cc
 
 -- a body that is ended isn't short
-long : {L : Type 0} (state : L → LinkState) (old new : SessionView L) (e : Entry) (reply : Reply)
+long : {L C : Type 0} (state : L → LinkState) (old new : SessionView L C) (e : Entry) (reply : Reply)
     (outcome told : Poll (Result (Option ℕ) Error))
     (w : Ending state old new e reply outcome) → outcome ≡ told → (told ≡ Ready (Err cut_off) → ⊥)
     → writer.is_short (filled e reply) ≡ false
@@ -260,7 +273,7 @@ long state old new e reply outcome told w same other =
     ]
 
 -- nor is its exchange
-pub finish_long : {L : Type 0} (state : L → LinkState) (old new : SessionView L) (e : Entry)
+pub finish_long : {L C : Type 0} (state : L → LinkState) (old new : SessionView L C) (e : Entry)
     (outcome : Poll (Result (Option ℕ) Error)) (count : Option ℕ) (owed : Bool) (written : ℕ) (h : AtFinish e old)
     → Ending state old new e h.reply outcome → outcome ≡ Ready (Ok count)
     → is_short (record e { owed = owed; written = written }) ≡ false
@@ -268,8 +281,8 @@ finish_long state old new e outcome count owed written h w ready =
     long_where_writer (record e { owed = owed; written = written }) h.reply h.replied.is h.headed.sent_head h.sent_body
     (long state old new e h.reply outcome (Ready (Ok count)) w ready (not_done count))
 
-pub finish_waits : {L J : Type 0} (runs : J → RequestView → Settings → Settings → List ℕ → Type 0)
-    (state : L → LinkState) (old new : SessionView L) (stage : Stage J) (e : Entry)
+pub finish_waits : {L C J : Type 0} (runs : J → RequestView → Settings → Settings → List ℕ → Type 0)
+    (state : L → LinkState) (old new : SessionView L C) (stage : Stage J) (e : Entry)
     (outcome : Poll (Result (Option ℕ) Error)) (written : ℕ) (h : AtFinish e old)
     → Ending state old new e h.reply outcome → written ≡ new.reply.sent → outcome ≡ Pending
     → stage ≡ at.Finish → IsSome old.budget
@@ -295,70 +308,92 @@ finish_waits runs state old new stage e outcome written h w count pending at_sta
       (waits_why state old new w.taking w.left some w.writes told.why, h.headed.owed),
     )
 
-pub finish_kept : {L : Type 0} (state : L → LinkState) (old new : SessionView L) (e : Entry)
-    (outcome : Poll (Result (Option ℕ) Error)) (owed : Bool) (written : ℕ) (h : AtFinish e old)
-    → Ending state old new e h.reply outcome → written ≡ new.reply.sent → IsKept old e
-    → IsKept new (record e { owed = owed; written = written })
-finish_kept state old new e outcome owed written h w count k =
-    kept_on state old new w.taking w.left e e.sent_head e.sent_body e.date e.date_text e.keep owed
-    written w.writes count k
-
 -- a reply that is ended has no bytes to come
-nothing_comes : {L : Type 0} (state : L → LinkState) (old new : SessionView L) (e : Entry)
+nothing_comes : {L C : Type 0} (state : L → LinkState) (old new : SessionView L C) (e : Entry)
     (reply : Reply) (outcome : Poll (Result (Option ℕ) Error))
     → Ending state old new e reply outcome → end_bytes new.reply.writer ≡ []
 nothing_comes state old new e reply outcome w = ap (λ x. end_bytes x) w.ended
 
--- the reply is whole behind the call
-pub finish_done : {L : Type 0} (state : L → LinkState) (before : LinkState) (done : List Entry)
-    (old new : SessionView L) (e : Entry) (outcome : Poll (Result (Option ℕ) Error))
+-- what is flushed behind the call is all of the reply
+pub done_since : {L C : Type 0} (state : L → LinkState) (before : LinkState) (done : List Entry)
+    (old new : SessionView L C) (e : Entry) (outcome : Poll (Result (Option ℕ) Error))
     (told_count : Option ℕ) (written : ℕ) (h : AtFinish e old)
     → Ending state old new e h.reply outcome → written ≡ new.reply.sent
     → outcome ≡ Ready (Ok told_count)
+    → Since state before old done (Some e)
+    → Since state before new done (Some (record e { owed = false; written = written }))
+done_since state before done old new e outcome told_count written h w count ready s =
+    let told = answers state old new e h.reply outcome (Ready (Ok told_count)) w ready
+    (not_done told_count) in
+    let owed = owed_since state before done old new e outcome written h w s in
+    let flushed : FlushedBy before (state new.link) (written_of done + written) =
+    let gone = owed.out in let all = told.2 in omega (arith, gone, all, count) in
+    finish_since state before done old new e outcome false written h w (flushed_so (◌≡◌ {A = Bool} false false) _ e.sent_head flushed) s
+  where
+    flushed_so : (P Q : Type 0) (head : Option ResponseView) → Q → IfSome head (λ head. P → Q)
+    flushed_so P Q None q = tt
+    flushed_so P Q (Some head) q = λ p. q
+
+-- the reply is whole behind the call
+pub finish_done : {L C : Type 0} (state : L → LinkState) (before : LinkState) (done : List Entry)
+    (old new : SessionView L C) (e : Entry) (outcome : Poll (Result (Option ℕ) Error))
+    (told_count : Option ℕ) (written : ℕ) (h : AtFinish e old)
+    → Ending state old new e h.reply outcome → outcome ≡ Ready (Ok told_count)
     → Since state before new done (Some (record e { owed = false; written = written }))
     → IsComplete before (state new.link) done (record e { owed = false; written = written })
-finish_done state before done old new e outcome told_count written h w count ready s =
+finish_done state before done old new e outcome told_count written h w ready s =
     let told = answers state old new e h.reply outcome (Ready (Ok told_count)) w ready
     (not_done told_count) in
     complete state before done new (record e { owed = false; written = written }) h.reply.header
     h.reply.body refl s told.0.owed
-    (nothing_comes state old new e h.reply outcome w) h.headed.sent_head h.sent_body count told.2
+    (nothing_comes state old new e h.reply outcome w) h.headed.sent_head h.sent_body
 
--- the same behind a shutdown
-pub finish_closed : {L : Type 0} (state : L → LinkState) (before : LinkState) (done : List Entry)
-    (old new closed : SessionView L) (e : Entry) (outcome : Poll (Result (Option ℕ) Error))
-    (told_count : Option ℕ) (written : ℕ) (h : AtFinish e old)
+-- what is left of the request's body may be read, where it wasn't refused
+pub finish_drains : {L C : Type 0} (state : L → LinkState) (old new : SessionView L C) (e : Entry)
+    (outcome : Poll (Result (Option ℕ) Error)) (told_count : Option ℕ) (written : ℕ) (h : AtFinish e old)
     → Ending state old new e h.reply outcome → written ≡ new.reply.sent
-    → outcome ≡ Ready (Ok told_count)
-    → closed ≡ record new { link = closed.link }
-    → (state closed.link).bytes_out ≡ (state new.link).bytes_out
-    → (state closed.link).flushed ≡ (state new.link).flushed
-    → Since state before closed done (Some (record e { owed = false; written = written }))
-    → IsComplete before (state closed.link) done (record e { owed = false; written = written })
-finish_closed {L} state before done old new closed e outcome told_count written h w count ready rest
-    out flushed s =
+    → outcome ≡ Ready (Ok told_count) → e.body_error ≡ None
+    → IsDraining (record e { owed = false; written = written }) new
+finish_drains state old new e outcome told_count written h w count ready unrefused =
     let told = answers state old new e h.reply outcome (Ready (Ok told_count)) w ready
     (not_done told_count) in
-    let same : closed.reply ≡ new.reply = ap (λ (x : SessionView L). x.reply) rest in
-    complete state before done closed (record e { owed = false; written = written }) h.reply.header
-    h.reply.body refl s
-    (ap (λ (r : ReplyState). r.owed) same ∙ told.0.owed)
-    (ap (λ (r : ReplyState). end_bytes r.writer) same ∙ nothing_comes state old new e h.reply
-    outcome w)
-    h.headed.sent_head h.sent_body (count ∙ sym (ap (λ (r : ReplyState). r.sent) same))
-    (omega (arith, out, flushed, told.2))
+    let asked = h.replied.asked in
+    let counted = w.writes.counted in
+    record {
+      request = h.request;
+      is = w.writes.request ∙ asked.is;
+      wish = asked.wish;
+      reply = h.reply;
+      replied = h.replied.is;
+      left = h.replied.left ∙ sym w.writes.settings;
+      sent_head = h.headed.sent_head;
+      sent_body = h.sent_body;
+      headed = w.headed ∙ h.headed.headed;
+      keep = h.headed.keep ∙ sym w.keep;
+      framing = ap (λ (x : WriterView). x.framing) w.ended;
+      nothing = ap (λ x. coming x new.reply.writer) h.sent_body ∙ nothing_comes state old new e h.reply outcome w;
+      free = told.0.free;
+      reply_owed = told.0.owed;
+      owed = refl;
+      unrefused = unrefused;
+      body = ap (λ (x : BodyState). x.refused) w.writes.body ∙ sym asked.body_error ∙ unrefused;
+      kept = ap (λ (x : BodyState). x.kept) w.writes.body ∙ asked.kept;
+      waits = ap (λ (x : BodyState). x.waits) w.writes.body ∙ asked.waits;
+      written = count;
+      limit = omega (arith, counted, count);
+      long = finish_long state old new e outcome told_count false written h w ready;
+    }
 
--- the flag said that the connection is not kept
-pub not_kept : {L : Type 0} (gives : Given → Reply → Type 0) (old : SessionView L) (e : Entry)
-    (h : AtFinish e old) → IsAllowed gives e → e.keep ≡ false
-not_kept gives old e h a =
-    let headed : (reply : Reply) × (e.reply ≡ Some reply) × (h.reply.header ≡ reply.header) ×
-    IsLawful h.reply.header × IsDated e =
-    at_some (λ header. (reply : Reply) × (e.reply ≡ Some reply) × (header ≡ reply.header) ×
-    IsLawful header × IsDated e) e.sent_head h.reply.header h.headed.sent_head a.sent_head in
-    let denied : wish e.head e.both ≡ false = sym h.replied.asked.wish ∙ h.replied.asked.denied in
-    let may : may_keep e ≡ false = rw denied refl in
-    headed.4.keep ∙ may
+-- the step goes on to the drain
+pub finish_on : {L C J : Type 0} (state : L → LinkState) (runs : J → RequestView → Settings → Settings → List ℕ → Type 0)
+    (old new : SessionView L C) (f : Entry) (from : Stage J) → from ≡ at.Finish → IsDraining f new → Went state old new
+    → SoundStage runs new (Some f) at.Drain × (rank {J = J} at.Drain < rank from)
+    × (ahead {J = J} new.budget at.Drain < ahead old.budget from)
+finish_on {L} {C} {J} state runs old new f from is drains went = (
+  (f, refl, drains),
+  rw is (omega arith),
+  ahead_down {J = J} state old new from at.Drain went (rw is (omega arith)),
+)
 
 -- which error a failed end ends with
 fails_as_is : (body_error : Option Error) (error : Error) (k : ErrorType) → error.kind ≡ k
@@ -383,8 +418,8 @@ plain_cause before old now done last body_error error k is which cause =
     (sym (fails_as_is body_error error k is which))
     (subst (λ k. FailureCause before old now done last error k) (sym is) cause)
 
-short_cause : {L : Type 0} (state : L → LinkState) (before old : LinkState) (done : List Entry)
-    (session : SessionView L) (f : Entry) (body_error : Option Error) (error : Error)
+short_cause : {L C : Type 0} (state : L → LinkState) (before old : LinkState) (done : List Entry)
+    (session : SessionView L C) (f : Entry) (body_error : Option Error) (error : Error)
     → error.kind ≡ kind.PrematureBodyEnd → f.body_error ≡ body_error
     → Since state before session done (Some f) → IsWrittenShort before (state session.link) done f
     → FailureCause before old (state session.link) done (Some f) (failure_of body_error error)
@@ -411,8 +446,8 @@ same_error : (a b : Error) → ◌≡◌ {A = Poll (Result (Option ℕ) Error)} 
     (Ready (Err b)) → a ≡ b
 same_error a b h = cc
 
-pub finish_fails : {L : Type 0} (state : L → LinkState) (before : LinkState) (done : List Entry)
-    (old new : SessionView L) (e : Entry) (outcome : Poll (Result (Option ℕ) Error))
+pub finish_fails : {L C : Type 0} (state : L → LinkState) (before : LinkState) (done : List Entry)
+    (old new : SessionView L C) (e : Entry) (outcome : Poll (Result (Option ℕ) Error))
     (error reason : Error) (written : ℕ) (h : AtFinish e old)
     → Ending state old new e h.reply outcome → outcome ≡ Ready (Err error)
     → reason ≡ failure_of e.body_error error

@@ -1,5 +1,5 @@
 -- Steps that read a head.
-use Rattle.std.proofs.Common.{◌≡◌, ℕ, inl, inr, List, [], true, Option, Some, None, IfNone, IsSome, option_map, Result, Ok, Err, sym, ◌∙◌, ap, subst}
+use Rattle.std.proofs.Common.{◌≡◌, ℕ, ◌+◌, ◌≤◌, inl, inr, List, [], true, Option, Some, None, IfNone, IsSome, option_map, option_to_list, Result, Ok, Err, refl, sym, ◌∙◌, ap, subst, arith}
 use Rattle.futures.specs.declared.task.Poll.{Poll}
 use Rattle.futures.specs.declared.task.Poll.TheVariants.{Ready, Pending}
 use Rattle.h1_error.specs.declared.error.Error.{Error}
@@ -18,28 +18,30 @@ use Rattle.h1_app.specs.declared.transcript.Entry.{Entry}
 use Rattle.h1_app.specs.declared.exchange.Stage.{Stage}
 use Rattle.h1_app.specs.declared.exchange.Stage.TheVariants as stage
 use Rattle.h1_app.specs.declared.exchange.Outcome.TheVariants as outcome
+use Rattle.h1_app.specs.Begun.{BeginsWith}
 use Rattle.h1_app.specs.Behind.{AfterRead}
-use Rattle.h1_app.specs.Causes.{LacksSo, FailureCause, EndCause}
+use Rattle.h1_app.specs.Causes.{LacksSo, AreAllDone, FailureCause, EndCause}
 use Rattle.h1_app.specs.Since.{Since, IfTold}
 use Rattle.h1_app.specs.Sound.{SoundStage, IsAwaiting}
 use Rattle.h1_app.specs.Turns.{OutcomeCause}
+use Rattle.h1_app.specs.Waits.{replies}
 use Rattle.h1_app.proofs.BehindLemmas.{read_map}
-use Rattle.h1_app.proofs.SinceLemmas.{told_ahead, told_lacks, since_received, head_failed}
+use Rattle.h1_app.proofs.SinceLemmas.{told_ahead, told_lacks, since_received, head_failed, all_done}
 
 -- the step's call, at a stage that awaits a head
-pub record AtHead {L : Type 0} (state : L → LinkState) (old new : SessionView L) (last : Option Entry) (answer : Poll (Result ReadRequest Error)) : Type 0 where
+pub record AtHead {L C : Type 0} (state : L → LinkState) (old new : SessionView L C) (last : Option Entry) (answer : Poll (Result ReadRequest Error)) : Type 0 where
   pub alone : last ≡ None
   pub awaiting : IsAwaiting old
   pub reads : ReadsRequest state old new answer
 
-pub at_head : {L J : Type 0} (state : L → LinkState) (runs : J → RequestView → Settings → Settings → List ℕ → Type 0) (old new : SessionView L) (last : Option Entry) (from : Stage J) (answer : Poll (Result ReadRequest Error))
+pub at_head : {L C J : Type 0} (state : L → LinkState) (runs : J → RequestView → Settings → Settings → List ℕ → Type 0) (old new : SessionView L C) (last : Option Entry) (from : Stage J) (answer : Poll (Result ReadRequest Error))
     → SoundStage runs old last from → from ≡ stage.Head → IfNone old.refused (ReadsRequest state old new answer) → AtHead state old new last answer
 at_head state runs old new last from answer sound at read =
     let s = rw at at sound in
     record { alone = s.0; awaiting = s.1; reads = subst (λ x. IfNone x (ReadsRequest state old new answer)) s.1.refused read }
 
 -- a session that kept its bytes
-pub none_since : {L : Type 0} (state : L → LinkState) (old new : SessionView L) (last : Option Entry) (answer : Poll (Result ReadRequest Error))
+pub none_since : {L C : Type 0} (state : L → LinkState) (old new : SessionView L C) (last : Option Entry) (answer : Poll (Result ReadRequest Error))
     → (h : AtHead state old new last answer) → BeginsNone old new h.reads.bytes
     → (before : LinkState) (done : List Entry) → Since state before old done last → Since state before new done last
 none_since state old new last answer h got before done s =
@@ -48,7 +50,7 @@ none_since state old new last answer h got before done s =
     (since_received state old new h.reads.bytes (allowance old.budget) h.reads.left before done h.reads.received got.received h.reads.reply h.awaiting.request got.request start)
 
 -- the session still awaits a head
-pub still_awaits : {L : Type 0} (state : L → LinkState) (old new : SessionView L) (last : Option Entry) (answer : Poll (Result ReadRequest Error))
+pub still_awaits : {L C : Type 0} (state : L → LinkState) (old new : SessionView L C) (last : Option Entry) (answer : Poll (Result ReadRequest Error))
     → (h : AtHead state old new last answer) → BeginsNone old new h.reads.bytes → new.refused ≡ None → IsAwaiting new
 still_awaits state old new last answer h none kept =
     let a = h.awaiting in
@@ -59,8 +61,6 @@ still_awaits state old new last answer h none kept =
       kept = rw none.body a.kept;
       body_refused = rw none.body a.body_refused;
       waits = rw none.body a.waits;
-      closing = rw none.settings a.closing;
-      pipelining = rw none.settings a.pipelining;
     }
 
 left_none : (budget : Option ℕ) (left : ℕ) (new : Option ℕ) → IsSome budget → new ≡ option_map (λ _. left) budget → left ≡ 0 → new ≡ Some 0
@@ -68,7 +68,7 @@ left_none None left new some e z = cc
 left_none (Some b) left new some e z = e ∙ ap (λ n. Some n) z
 
 -- what a pending read of a head waits for
-pub head_waits : {L J : Type 0} (state : L → LinkState) (pends : J → ℕ) (runs : J → RequestView → Settings → Settings → List ℕ → Type 0) (old new : SessionView L) (last : Option Entry) (from : Stage J)
+pub head_waits : {L C J : Type 0} (state : L → LinkState) (pends : J → ℕ) (runs : J → RequestView → Settings → Settings → List ℕ → Type 0) (old new : SessionView L C) (last : Option Entry) (from : Stage J)
     → IsSome old.budget → from ≡ stage.Head → (h : AtHead state old new last Pending) → OutcomeCause state pends runs old new last from from (outcome.Waits waiting.Read)
 head_waits state pends runs old new last from some at h =
     let a = h.reads.answer in
@@ -76,46 +76,62 @@ head_waits state pends runs old new last from some at h =
       subst (λ x. SoundStage runs new last x) (sym at) (h.alone, awaits),
       (
         elim a.3 [ inl rose ↦ inl rose | inr z ↦ inr (left_none old.budget h.reads.left new.budget some h.reads.budget z) ],
-        (λ before done s. subst (λ x. IfTold before.given (state new.link).given (λ since. LacksSo since done x)) (sym h.alone)
+        (λ before done s. subst (λ x. LacksSo before (state new.link) done x) (sym h.alone)
             (let start : Since state before new done None = subst (λ x. Since state before new done x) h.alone s in
-            told_lacks done before.given (state new.link).given h.reads.bytes
+            told_lacks before (state new.link) done h.reads.bytes (all_done state before new done start)
             (subst (λ xs. IfTold before.given (state new.link).given (AfterRead done (λ rest. rest ≡ xs))) a.0.received
             (told_ahead new done before.given (state new.link).given awaits.request start.read)) a.2)),
       ),
     )
 
-none_parts : {L : Type 0} (state : L → LinkState) (old new : SessionView L) (bytes : List ℕ) (left : ℕ) (why : NoRequest)
+none_parts : {L C : Type 0} (state : L → LinkState) (old new : SessionView L C) (bytes : List ℕ) (left : ℕ) (why : NoRequest)
     → HeadAnswer state old new bytes left (Ready (Ok (read.None why))) → BeginsNone old new bytes × (new.refused ≡ None) × ((state new.link).ended ≡ true) × (bytes ≡ [])
 none_parts state old new bytes left Closed a = a
 none_parts state old new bytes left IdleTimeout a = absurd a
 
 -- no request comes: the link ended, and no byte was received
-pub closed_since : {L : Type 0} (state : L → LinkState) (old new : SessionView L) (last : Option Entry) (why : NoRequest)
+pub closed_since : {L C : Type 0} (state : L → LinkState) (old new : SessionView L C) (last : Option Entry) (why : NoRequest)
     → AtHead state old new last (Ready (Ok (read.None why))) → (before : LinkState) (done : List Entry) → Since state before old done last → Since state before new done last
 closed_since state old new last why h =
     let a = none_parts state old new h.reads.bytes h.reads.left why h.reads.answer in
     none_since state old new last (Ready (Ok (read.None why))) h a.0
 
-pub closed_ends : {L : Type 0} (state : L → LinkState) (old new : SessionView L) (last : Option Entry) (why : NoRequest)
+pub closed_ends : {L C : Type 0} (state : L → LinkState) (old new : SessionView L C) (last : Option Entry) (why : NoRequest)
     → AtHead state old new last (Ready (Ok (read.None why))) → (before : LinkState) (done : List Entry) → Since state before new done last
     → EndCause before (state old.link) (state new.link) done last end.Finished
 closed_ends state old new last why h before done s =
     let a = none_parts state old new h.reads.bytes h.reads.left why h.reads.answer in
     let start : Since state before new done None = subst (λ x. Since state before new done x) h.alone s in (
-      h.alone,
+      subst (λ x. AreAllDone before (state new.link) done x) (sym h.alone) (all_done state before new done start),
       a.2,
       read_map done before.given (state new.link).given (λ rest. rest ≡ new.received) (λ rest. rest ≡ [])
           (λ rest e. e ∙ a.0.received ∙ a.3) (told_ahead new done before.given (state new.link).given a.0.request start.read),
     )
 
 -- a head read that failed
-pub failed_ends : {L : Type 0} (state : L → LinkState) (old new : SessionView L) (last : Option Entry) (error : Error)
+pub failed_ends : {L C : Type 0} (state : L → LinkState) (old new : SessionView L C) (last : Option Entry) (error : Error)
     → AtHead state old new last (Ready (Err error)) → (before : LinkState) (done : List Entry) → Since state before new done last
     → FailureCause before (state old.link) (state new.link) done last error error.kind
 failed_ends state old new last error h before done s =
     let a = h.reads.answer in
     let start : Since state before new done None = subst (λ x. Since state before new done x) h.alone s in
     subst (λ x. FailureCause before (state old.link) (state new.link) done x error error.kind) (sym h.alone)
-    (head_failed before (state old.link) (state new.link) done h.reads.bytes error error.kind
+    (head_failed before (state old.link) (state new.link) done h.reads.bytes error error.kind (all_done state before new done start)
     (read_map done before.given (state new.link).given (λ rest. rest ≡ new.received) (λ rest. rest ≡ h.reads.bytes) (λ rest e. e ∙ a.0.received)
     (told_ahead new done before.given (state new.link).given a.0.request start.read)) a.2)
+
+-- nothing is set on a session that read no head
+pub none_begins : {L C : Type 0} (old new : SessionView L C) (last : Option Entry) (bytes : List ℕ)
+    → last ≡ None → BeginsNone old new bytes → BeginsWith old.settings new.settings last last
+none_begins old new last bytes alone none = rw (alone, none.settings) (record { closing = refl; pipelining = refl; reuses = refl })
+
+pub closed_begins : {L C : Type 0} (state : L → LinkState) (old new : SessionView L C) (last : Option Entry) (why : NoRequest)
+    → AtHead state old new last (Ready (Ok (read.None why))) → BeginsWith old.settings new.settings last last
+closed_begins state old new last why h =
+    none_begins old new last h.reads.bytes h.alone (none_parts state old new h.reads.bytes h.reads.left why h.reads.answer).0
+
+-- a read was not ready at most once
+pub none_few : {L C : Type 0} (state : L → LinkState) (old new : SessionView L C) (last : Option Entry) (answer : Poll (Result ReadRequest Error))
+    → AtHead state old new last answer
+    → (state new.link).read_waits + replies (option_to_list last) ≤ (state old.link).read_waits + replies (option_to_list last) + 1
+none_few state old new last answer h = let few = h.reads.few in omega (arith, few)

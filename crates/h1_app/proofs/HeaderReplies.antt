@@ -24,7 +24,7 @@ use Rattle.h1_app.specs.Sound.{SoundStage, IsReplied, IsHeaded, fresh}
 use Rattle.h1_app.proofs.ReplyLemmas.{at_none, at_some, since_goes_on, grows_written, replied_on, headed_on, more_written, waits_why, refused_cause}
 
 -- the exchange whose header is being written
-pub record AtHeader {L : Type 0} (e : Entry) (session : SessionView L) : Type 0 where
+pub record AtHeader {L C : Type 0} (e : Entry) (session : SessionView L C) : Type 0 where
   pub request : Request
   pub reply : Reply
   pub replied : IsReplied e session request reply
@@ -33,8 +33,8 @@ pub record AtHeader {L : Type 0} (e : Entry) (session : SessionView L) : Type 0 
   pub writer : session.reply.writer ≡ fresh e reply
   pub at_step : session.reply.step ≡ step.Head
 
-pub at_header : {L J : Type 0} (runs : J → RequestView → Settings → Settings → List ℕ → Type 0)
-    (session : SessionView L) (last : Option Entry) (stage : Stage J) (e : Entry)
+pub at_header : {L C J : Type 0} (runs : J → RequestView → Settings → Settings → List ℕ → Type 0)
+    (session : SessionView L C) (last : Option Entry) (stage : Stage J) (e : Entry)
     → stage ≡ at.Header → last ≡ Some e → SoundStage runs session last stage → AtHeader e session
 at_header runs session last stage e p q sound =
     let h : SoundStage runs session last at.Header = subst (λ s. SoundStage runs session last s) p
@@ -52,13 +52,13 @@ at_header runs session last stage e p q sound =
     })
 
 -- the call goes on with the header
-pub header_call : {L : Type 0} (state : L → LinkState) (old new : SessionView L) (e : Entry)
+pub header_call : {L C : Type 0} (state : L → LinkState) (old new : SessionView L C) (e : Entry)
     (kept : Option ResponseView) (now : ℕ) (outcome : Poll (Result (Unit {0}) Error))
     (h : AtHeader e old)
     → IfNone old.reply.refused (IfSome old.request
     (λ request. HeaderCall state old new request None kept now outcome false))
     → WritesHeader state old new h.request None now outcome
-header_call {L} state old new e kept now outcome h call =
+header_call {L} {C} state old new e kept now outcome h call =
     written kept (at_some (λ request. HeaderCall state old new request None kept now outcome false)
     old.request h.request h.replied.asked.is
     (at_none _ old.reply.refused h.headed.refused call))
@@ -69,17 +69,17 @@ header_call {L} state old new e kept now outcome h call =
     written None w = w
     written (Some header) w = absurd (none-some header w.back)
 
-pub header_since : {L : Type 0} (state : L → LinkState) (before : LinkState) (done : List Entry)
-    (old new : SessionView L) (e : Entry) (now : ℕ) (outcome : Poll (Result (Unit {0}) Error))
+pub header_since : {L C : Type 0} (state : L → LinkState) (before : LinkState) (done : List Entry)
+    (old new : SessionView L C) (e : Entry) (now : ℕ) (outcome : Poll (Result (Unit {0}) Error))
     (written : ℕ)
     (h : AtHeader e old) → WritesHeader state old new h.request None now outcome
     → Since state before old done (Some e)
     → Since state before new done (Some (record e { written = written }))
 header_since state before done old new e now outcome written h w s =
     since_goes_on state before done old new w.taking w.left e e.owed written w.writes w.takes.0
-    w.takes.1.writer s
+    w.takes.1.writer h.headed.owed s
 
-pub header_grows : {L : Type 0} (state : L → LinkState) (old new : SessionView L) (e : Entry)
+pub header_grows : {L C : Type 0} (state : L → LinkState) (old new : SessionView L C) (e : Entry)
     (now : ℕ) (outcome : Poll (Result (Unit {0}) Error)) (written : ℕ)
     (h : AtHeader e old) → WritesHeader state old new h.request None now outcome
     → written ≡ new.reply.sent
@@ -89,7 +89,7 @@ header_grows state old new e now outcome written h w count =
     w.writes count h.replied.asked)
 
 -- what the call answers, nothing being handed in
-pub header_answer : {L : Type 0} (state : L → LinkState) (old new : SessionView L) (e : Entry)
+pub header_answer : {L C : Type 0} (state : L → LinkState) (old new : SessionView L C) (e : Entry)
     (now : ℕ) (outcome told : Poll (Result (Unit {0}) Error))
     (h : AtHeader e old) (w : WritesHeader state old new h.request None now outcome)
     → outcome ≡ told
@@ -98,7 +98,7 @@ header_answer state old new e now outcome told h w same =
     subst (λ (o : Poll (Result (Unit {0}) Error)). HeaderAnswer (state old.link) (state new.link)
     new.reply w.left o) same w.answer
 
-headed_written : {L : Type 0} (state : L → LinkState) (old new : SessionView L) (e : Entry)
+headed_written : {L C : Type 0} (state : L → LinkState) (old new : SessionView L C) (e : Entry)
     (now : ℕ) (outcome : Poll (Result (Unit {0}) Error)) (written : ℕ)
     (h : AtHeader e old) (w : WritesHeader state old new h.request None now outcome)
     → new.reply.refused ≡ None
@@ -107,8 +107,8 @@ headed_written state old new e now outcome written h w refused =
     headed_on old new e (record e { written = written }) h.reply refl refl refl w.takes.1.headed
     w.takes.1.keep refused h.headed
 
-pub header_waits : {L J : Type 0} (runs : J → RequestView → Settings → Settings → List ℕ → Type 0)
-    (state : L → LinkState) (old new : SessionView L) (stage : Stage J) (e : Entry) (now : ℕ)
+pub header_waits : {L C J : Type 0} (runs : J → RequestView → Settings → Settings → List ℕ → Type 0)
+    (state : L → LinkState) (old new : SessionView L C) (stage : Stage J) (e : Entry) (now : ℕ)
     (outcome : Poll (Result (Unit {0}) Error)) (written : ℕ)
     (h : AtHeader e old) → WritesHeader state old new h.request None now outcome
     → written ≡ new.reply.sent → outcome ≡ Pending
@@ -136,8 +136,8 @@ header_waits runs state old new stage e now outcome written h w count pending at
       (waits_why state old new w.taking w.left some w.writes told.why, h.headed.owed),
     )
 
-pub header_done : {L J : Type 0} (runs : J → RequestView → Settings → Settings → List ℕ → Type 0)
-    (state : L → LinkState) (old new : SessionView L) (e : Entry) (now : ℕ)
+pub header_done : {L C J : Type 0} (runs : J → RequestView → Settings → Settings → List ℕ → Type 0)
+    (state : L → LinkState) (old new : SessionView L C) (e : Entry) (now : ℕ)
     (outcome : Poll (Result (Unit {0}) Error)) (done : Unit {0}) (written : ℕ)
     (h : AtHeader e old) → WritesHeader state old new h.request None now outcome
     → written ≡ new.reply.sent → outcome ≡ Ready (Ok done)
@@ -157,8 +157,8 @@ header_done runs state old new e now outcome done written h w count ready =
       told.0.owed,
     )
 
-pub header_fails : {L : Type 0} (state : L → LinkState) (before : LinkState) (done : List Entry)
-    (old new : SessionView L) (last : Option Entry) (e : Entry) (now : ℕ)
+pub header_fails : {L C : Type 0} (state : L → LinkState) (before : LinkState) (done : List Entry)
+    (old new : SessionView L C) (last : Option Entry) (e : Entry) (now : ℕ)
     (outcome : Poll (Result (Unit {0}) Error)) (error : Error)
     (h : AtHeader e old) → WritesHeader state old new h.request None now outcome
     → outcome ≡ Ready (Err error)

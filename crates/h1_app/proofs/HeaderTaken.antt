@@ -1,5 +1,5 @@
 -- The reply's header is taken up, with the date and the flag of the poll.
-use Rattle.std.proofs.Common.{◌≡◌, ℕ, ◌/◌, ◌<◌, ◌⊎◌, List, ◌++◌, Bool, true, false, not, Option, Some, None, Result, Ok, Err, IfSome, IfNone, IsSome, is_some, refl, sym, ◌∙◌, ap, subst, append-nil, arith}
+use Rattle.std.proofs.Common.{◌≡◌, ℕ, ◌+◌, ◌/◌, ◌<◌, ◌⊎◌, List, [], ◌∷◌, ◌++◌, length, Bool, true, false, not, ◌&&◌, ◌||◌, Option, Some, None, Result, Ok, Err, IfSome, IfNone, IsSome, is_some, is_none, refl, sym, ◌∙◌, ap, subst, append-nil, length-append, arith}
 use Rattle.std.proofs.lemmas.Bool.{false≢true}
 use Rattle.std.proofs.lemmas.Option.{same_Some}
 use Rattle.futures.specs.declared.task.Poll.{Poll}
@@ -10,12 +10,15 @@ use Rattle.h1_link.specs.LinkState.{LinkState}
 use Rattle.h1_link.specs.Counts.{Rose}
 use Rattle.h1_head.specs.Views.{RequestView, ResponseView}
 use Rattle.h1_head.specs.Date.{IsDateAt}
-use Rattle.h1_head.specs.Wire.{head_bytes, reply_head}
+use Rattle.h1_head.specs.Wire.{head_bytes, print_status_line, reply_head}
+use Rattle.h1_fields.specs.Lines.{print_lines}
 use Rattle.h1_head.specs.Wish.{wish}
+use Rattle.h1_body.specs.Body.{Body, whole, unfinished, broken}
 use Rattle.h1_body.specs.Framing.{out}
+use Rattle.h1_body.specs.Reader.{reads}
 use Rattle.h1_body.specs.Writer.{begun}
 use Rattle.h1_server.specs.SessionView.{SessionView}
-use Rattle.h1_server.specs.Persistence.{keep_flag}
+use Rattle.h1_server.specs.Persistence.{keep_flag, has_reuses, is_whole}
 use Rattle.h1_server.specs.HeaderWrites.{WritesHeader, HeaderWrite, HeaderCall, HeaderAnswer, is_passed_over}
 use Rattle.h1_server.specs.declared.request.Request.{Request}
 use Rattle.h1_server.specs.declared.settings.Settings.{Settings}
@@ -25,15 +28,16 @@ use Rattle.h1_app.specs.declared.transcript.Entry.{Entry}
 use Rattle.h1_app.specs.declared.exchange.Stage.{Stage}
 use Rattle.h1_app.specs.declared.exchange.Stage.TheVariants as at
 use Rattle.h1_app.specs.Growth.{Grows}
-use Rattle.h1_app.specs.Application.{Given, LawfulReplies, IsLawful}
+use Rattle.h1_app.specs.Application.{Given, LawfulReplies, IsLawful, how_of, how_stands}
 use Rattle.h1_app.specs.Causes.{FailureCause}
 use Rattle.h1_app.specs.Exchange.{render_parts, IsAllowed, may_keep, given_to}
 use Rattle.h1_app.specs.Since.{Since, coming}
 use Rattle.h1_app.specs.Sound.{SoundStage, IsReplied, IsHeaded, IsUnwritten, fresh}
-use Rattle.h1_app.proofs.ReplyLemmas.{at_none, at_some, since_wrote, stays_itself, grows_replying, replied_on, more_written, waits_why, refused_cause}
+use Rattle.h1_app.specs.Turns.{ahead}
+use Rattle.h1_app.proofs.ReplyLemmas.{at_none, at_some, since_wrote, settled_owed, ahead_wrote, stays_itself, grows_replying, replied_on, more_written, waits_why, refused_cause}
 
 -- the exchange whose header is to be taken up
-pub record AtTakeHeader {L : Type 0} (e : Entry) (session : SessionView L) : Type 0 where
+pub record AtTakeHeader {L C : Type 0} (e : Entry) (session : SessionView L C) : Type 0 where
   pub request : Request
   pub reply : Reply
   pub replied : IsReplied e session request reply
@@ -41,8 +45,8 @@ pub record AtTakeHeader {L : Type 0} (e : Entry) (session : SessionView L) : Typ
   pub sent_head : e.sent_head ≡ None
   pub sent_body : e.sent_body ≡ None
 
-pub at_take_header : {L J : Type 0} (runs : J → RequestView → Settings → Settings → List ℕ → Type 0)
-    (session : SessionView L) (last : Option Entry) (stage : Stage J) (e : Entry)
+pub at_take_header : {L C J : Type 0} (runs : J → RequestView → Settings → Settings → List ℕ → Type 0)
+    (session : SessionView L C) (last : Option Entry) (stage : Stage J) (e : Entry)
     → stage ≡ at.TakeHeader → last ≡ Some e → SoundStage runs session last stage
     → AtTakeHeader e session
 at_take_header runs session last stage e p q sound =
@@ -71,7 +75,7 @@ headed_as e sent date text keep written =
     }
 
 -- the call with the header handed in
-pub taking_header : {L : Type 0} (state : L → LinkState) (old new : SessionView L) (e : Entry)
+pub taking_header : {L C : Type 0} (state : L → LinkState) (old new : SessionView L C) (e : Entry)
     (header kept : Option ResponseView) (now : ℕ) (outcome : Poll (Result (Unit {0}) Error))
     (h : AtTakeHeader e old) → header ≡ Some h.reply.header
     → IfNone old.reply.refused (IfSome old.request
@@ -94,7 +98,7 @@ taking_header state old new e header kept now outcome h is call =
     b) h.unwritten.headed three
 
 -- a header that is owed, or written, was taken out
-pub out_where_pending : {L : Type 0} (state : L → LinkState) (old new : SessionView L)
+pub out_where_pending : {L C : Type 0} (state : L → LinkState) (old new : SessionView L C)
     (request : Request) (header kept : Option ResponseView) (now : ℕ)
     (outcome : Poll (Result (Unit {0}) Error))
     → HeaderWrite state old new request header kept now outcome → outcome ≡ Pending → kept ≡ None
@@ -102,7 +106,7 @@ out_where_pending state old new request header None now outcome w p = refl
 out_where_pending state old new request header (Some kept) now outcome w p = let e = w.answer in
     absurd (cc)
 
-pub out_where_done : {L : Type 0} (state : L → LinkState) (old new : SessionView L)
+pub out_where_done : {L C : Type 0} (state : L → LinkState) (old new : SessionView L C)
     (request : Request) (header kept : Option ResponseView) (now : ℕ)
     (outcome : Poll (Result (Unit {0}) Error)) (done : Unit {0})
     → HeaderWrite state old new request header kept now outcome → outcome ≡ Ready (Ok done)
@@ -112,7 +116,7 @@ out_where_done state old new request header (Some kept) now outcome done w p = l
     absurd (cc)
 
 -- a header that stays handed in changes nothing
-pub same_where_kept : {L : Type 0} (state : L → LinkState) (old new : SessionView L)
+pub same_where_kept : {L C : Type 0} (state : L → LinkState) (old new : SessionView L C)
     (request : Request) (header kept : Option ResponseView) (now : ℕ)
     (outcome : Poll (Result (Unit {0}) Error)) (none : Bool)
     → HeaderWrite state old new request header kept now outcome → is_some kept ≡ not none
@@ -122,7 +126,7 @@ same_where_kept state old new request header None now outcome none w is false_is
 same_where_kept state old new request header (Some kept) now outcome none w is false_is = w.same
 
 -- a header that was taken out is written
-pub writes_header : {L : Type 0} (state : L → LinkState) (old new : SessionView L)
+pub writes_header : {L C : Type 0} (state : L → LinkState) (old new : SessionView L C)
     (request : Request) (header kept : Option ResponseView) (now : ℕ)
     (outcome : Poll (Result (Unit {0}) Error))
     → HeaderWrite state old new request header kept now outcome → kept ≡ None
@@ -136,7 +140,7 @@ pub out_where_none : (kept : Option ResponseView) (none : Bool) → is_some kept
 out_where_none None none is true_is = refl
 out_where_none (Some header) none is true_is = absurd (false≢true (ap not (sym true_is) ∙ sym is))
 
-answers : {L : Type 0} (state : L → LinkState) (old new : SessionView L) (request : Request)
+answers : {L C : Type 0} (state : L → LinkState) (old new : SessionView L C) (request : Request)
     (header : Option ResponseView) (now : ℕ) (outcome told : Poll (Result (Unit {0}) Error))
     (w : WritesHeader state old new request header now outcome) → outcome ≡ told
     → HeaderAnswer (state old.link) (state new.link) new.reply w.left told
@@ -160,8 +164,8 @@ parts_headed : (method : List ℕ) (r : Option Reply) (b : Option (List ℕ)) (d
 parts_headed method r b date old_date keep old_keep h sent none no_head = rw (none, no_head)
     (append-nil (head_bytes (reply_head sent date keep)))
 
-pub headed_since : {L : Type 0} (state : L → LinkState) (before : LinkState) (done : List Entry)
-    (old new : SessionView L) (e : Entry) (now : ℕ) (outcome : Poll (Result (Unit {0}) Error))
+pub headed_since : {L C : Type 0} (state : L → LinkState) (before : LinkState) (done : List Entry)
+    (old new : SessionView L C) (e : Entry) (now : ℕ) (outcome : Poll (Result (Unit {0}) Error))
     (sent : ResponseView) (text : List ℕ) (keep : Bool) (written : ℕ)
     (h : AtTakeHeader e old) → WritesHeader state old new h.request (Some h.reply.header) now
     outcome
@@ -183,9 +187,10 @@ headed_since state before done old new e now outcome sent text keep written h w 
     ∙ ap (λ x. coming x old.reply.writer ++ head_bytes (reply_head sent text keep))
     (sym h.sent_body))
     (parts_headed e.head.method e.reply e.sent_body text e.date_text keep e.keep e.sent_head sent
-    h.sent_body h.sent_head) s
+    h.sent_body h.sent_head)
+    (settled_owed before (state new.link) done (headed_as e sent (now / 1000) text keep written) refl) s
 
-pub headed_grows : {L : Type 0} (state : L → LinkState) (old new : SessionView L) (e : Entry)
+pub headed_grows : {L C : Type 0} (state : L → LinkState) (old new : SessionView L C) (e : Entry)
     (now : ℕ) (outcome : Poll (Result (Unit {0}) Error))
     (sent : ResponseView) (date : ℕ) (text : List ℕ) (keep : Bool) (written : ℕ)
     (h : AtTakeHeader e old) → WritesHeader state old new h.request (Some h.reply.header) now
@@ -196,9 +201,35 @@ headed_grows state old new e now outcome sent date text keep written h w count m
     (rw h.sent_head moment) (stays_itself e.sent_body)
     (more_written state old new w.taking w.left e written h.request w.writes count h.replied.asked)
 
+and_true : (b : Bool) → (b && true) ≡ b
+and_true true = refl
+and_true false = refl
+
+and_false : (b : Bool) → (b && false) ≡ false
+and_false true = refl
+and_false false = refl
+
+-- what the flag asks of the request's body, by how the body stood when the reply was made
+pub keeps_as : (e : Entry) (stands : Body) (refused : Option Error) → e.how ≡ how_stands stands refused
+    → (wish e.head e.both && not e.left.keep_off && has_reuses e.left.reuses
+    && ((is_whole stands && is_none refused) || (not e.left.closing && is_none refused))) ≡ may_keep e
+keeps_as e (whole payload used) None how = rw how refl
+keeps_as e (unfinished payload) None how = rw (how, and_true (not e.left.closing)) refl
+keeps_as e (broken payload) None how = rw (how, and_true (not e.left.closing)) refl
+keeps_as e stands (Some error) how = rw (how, and_false (is_whole stands), and_false (not e.left.closing)) refl
+
+-- the flag of the header is the one that the exchange may have
+keep_flag_is : {L C : Type 0} (e : Entry) (session : SessionView L C) (request : Request)
+    → request.wish ≡ wish e.head e.both → e.left ≡ session.settings → e.how ≡ how_of session.body
+    → keep_flag request.wish session.settings session.body ≡ may_keep e
+keep_flag_is e session request wishes left how =
+    ap (λ w. keep_flag w session.settings session.body) wishes
+    ∙ ap (λ s. keep_flag (wish e.head e.both) s session.body) (sym left)
+    ∙ keeps_as e (reads session.body.reader []) session.body.refused how
+
 -- the exchange is allowed with the header that the application's relation gives
-pub headed_allowed : {L : Type 0} (gives : Given → Reply → Type 0) (state : L → LinkState)
-    (old new : SessionView L) (e : Entry) (now : ℕ) (outcome : Poll (Result (Unit {0}) Error))
+pub headed_allowed : {L C : Type 0} (gives : Given → Reply → Type 0) (state : L → LinkState)
+    (old new : SessionView L C) (e : Entry) (now : ℕ) (outcome : Poll (Result (Unit {0}) Error))
     (sent : ResponseView) (text : List ℕ) (keep : Bool) (written : ℕ)
     (h : AtTakeHeader e old) → WritesHeader state old new h.request (Some h.reply.header) now
     outcome
@@ -213,10 +244,8 @@ headed_allowed gives state old new e now outcome sent text keep written h w is d
     let given : (e.filtered ≡ Some e.head) × gives (given_to e e.head) h.reply =
     at_some (λ reply. (e.filtered ≡ Some e.head) × gives (given_to e e.head) reply) e.reply
     h.reply h.replied.is a.reply in
-    let denied : wish e.head e.both ≡ false = sym h.replied.asked.wish ∙ h.replied.asked.denied in
-    let flag : keep_flag h.request.wish old.settings old.body ≡ false = rw h.replied.asked.denied
-    refl in
-    let may : may_keep f ≡ false = rw denied refl in
+    let flag : keep_flag h.request.wish old.settings old.body ≡ may_keep f = keep_flag_is f old h.request
+    h.replied.asked.wish h.replied.left h.replied.how in
     record {
       filtered = a.filtered;
       reply = a.reply;
@@ -226,16 +255,16 @@ headed_allowed gives state old new e now outcome sent text keep written h w is d
         is,
         subst (λ x. IsLawful x) (sym is)
             (lawful (given_to e e.head) h.reply given.1),
-        record { date = dated; limit = omega arith; keep = keeps ∙ t.keep ∙ flag ∙ sym may },
+        record { date = dated; limit = omega arith; keep = keeps ∙ t.keep ∙ flag },
       );
       sent_body = a.sent_body;
       handed = a.handed;
-      denied = a.denied;
+      reuses = a.reuses;
       owed = λ owed. refl;
     }
 
 -- the exchange behind the call
-headed_replied : {L : Type 0} (state : L → LinkState) (old new : SessionView L) (e : Entry)
+headed_replied : {L C : Type 0} (state : L → LinkState) (old new : SessionView L C) (e : Entry)
     (now : ℕ) (outcome : Poll (Result (Unit {0}) Error))
     (sent : ResponseView) (date : ℕ) (text : List ℕ) (keep : Bool) (written : ℕ)
     (h : AtTakeHeader e old) → WritesHeader state old new h.request (Some h.reply.header) now
@@ -261,8 +290,8 @@ headed_replied state old new e now outcome sent date text keep written h w is ke
           h.replied.asked.header,
     )
 
-pub headed_waits : {L J : Type 0} (runs : J → RequestView → Settings → Settings → List ℕ → Type 0)
-    (state : L → LinkState) (old new : SessionView L) (e : Entry) (now : ℕ)
+pub headed_waits : {L C J : Type 0} (runs : J → RequestView → Settings → Settings → List ℕ → Type 0)
+    (state : L → LinkState) (old new : SessionView L C) (e : Entry) (now : ℕ)
     (outcome : Poll (Result (Unit {0}) Error))
     (sent : ResponseView) (date : ℕ) (text : List ℕ) (keep : Bool) (written : ℕ)
     (h : AtTakeHeader e old) → WritesHeader state old new h.request (Some h.reply.header) now
@@ -292,8 +321,8 @@ headed_waits runs state old new e now outcome sent date text keep written h w is
       (waits_why state old new w.taking w.left some w.writes told.0.why, refl),
     )
 
-pub headed_done : {L J : Type 0} (runs : J → RequestView → Settings → Settings → List ℕ → Type 0)
-    (state : L → LinkState) (old new : SessionView L) (e : Entry) (now : ℕ)
+pub headed_done : {L C J : Type 0} (runs : J → RequestView → Settings → Settings → List ℕ → Type 0)
+    (state : L → LinkState) (old new : SessionView L C) (e : Entry) (now : ℕ)
     (outcome : Poll (Result (Unit {0}) Error)) (done : Unit {0})
     (sent : ResponseView) (date : ℕ) (text : List ℕ) (keep : Bool) (written : ℕ)
     (h : AtTakeHeader e old) → WritesHeader state old new h.request (Some h.reply.header) now
@@ -319,8 +348,41 @@ headed_done runs state old new e now outcome done sent date text keep written h 
       told.0.owed,
     )
 
-pub headed_fails : {L : Type 0} (state : L → LinkState) (before : LinkState) (done : List Entry)
-    (old new : SessionView L) (last : Option Entry) (request : Request)
+-- a head has bytes
+some_head : (view : ResponseView) → 0 < length (head_bytes view)
+some_head view =
+    let all : length (head_bytes view) ≡ length (print_status_line view ++ print_lines view.fields) + 2 =
+    length-append (print_status_line view ++ print_lines view.fields) (13 ∷ 10 ∷ []) in
+    omega (arith, all)
+
+-- where nothing is owed any more, what was taken up was written
+all_written : (owed taking piece next : List ℕ) → owed ++ taking ≡ piece ++ next → next ≡ [] → 0 < length taking
+    → 0 < length piece
+all_written owed taking piece next bytes none some =
+    let all : length (owed ++ taking) ≡ length (piece ++ next) = ap length bytes in
+    let no : length next ≡ 0 = ap length none in
+    omega (arith, all, no, some, length-append owed taking, length-append piece next)
+
+-- a header that is written spends of the budget
+pub headed_ahead : {L C J : Type 0} (state : L → LinkState) (old new : SessionView L C) (e : Entry)
+    (now : ℕ) (outcome : Poll (Result (Unit {0}) Error)) (done : Unit {0}) (from : Stage J)
+    (h : AtTakeHeader e old) → WritesHeader state old new h.request (Some h.reply.header) now
+    outcome
+    → outcome ≡ Ready (Ok done) → IsSome old.budget → from ≡ at.TakeHeader
+    → ahead {J = J} new.budget at.TakeBody < ahead old.budget from
+headed_ahead {L} {C} {J} state old new e now outcome done from h w ready some is =
+    let told = answers state old new h.request (Some h.reply.header) now outcome (Ready (Ok done)) w
+    ready in
+    let wrote : 0 < length w.writes.sent.piece = all_written old.reply.owed w.taking w.writes.sent.piece
+    new.reply.owed w.writes.sent.bytes told.0.owed
+    (subst (λ xs. 0 < length xs) (sym w.takes.bytes)
+    (some_head (reply_head h.reply.header w.takes.date (keep_flag h.request.wish old.settings old.body)))) in
+    subst (λ s. ahead {J = J} new.budget at.TakeBody < ahead old.budget s) (sym is)
+    (ahead_wrote {J = J} state old new w.taking w.left at.TakeHeader at.TakeBody some w.writes wrote
+    (omega arith))
+
+pub headed_fails : {L C : Type 0} (state : L → LinkState) (before : LinkState) (done : List Entry)
+    (old new : SessionView L C) (last : Option Entry) (request : Request)
     (header : Option ResponseView) (now : ℕ) (outcome : Poll (Result (Unit {0}) Error))
     (error : Error)
     → WritesHeader state old new request header now outcome → outcome ≡ Ready (Err error)

@@ -1,17 +1,28 @@
 -- An exchange that is whole joins those that ended.
-use Rattle.std.proofs.Common.{◌≡◌, ℕ, ◌+◌, ◌-◌, ◌^◌, min, List, [], ◌∷◌, ◌++◌, length, drop, Some, None, IfSome, refl, sym, ◌∙◌, ap, subst, append-nil, arith}
+use Rattle.std.proofs.Common.{◌≡◌, ℕ, ◌+◌, ◌-◌, ◌^◌, min, List, [], ◌∷◌, ◌++◌, length, drop, Bool, false, Option, Some, None, IfSome, IsSome, refl, sym, ◌∙◌, ap, subst, append-nil, arith}
+use Rattle.std.proofs.lemmas.Bool.{false≢true}
 use Rattle.h1_link.specs.LinkState.{LinkState}
 use Rattle.h1_head.specs.RequestHead.{HeadAt}
+use Rattle.h1_head.specs.Views.{ResponseView}
 use Rattle.h1_body.specs.Body.{whole, ahead}
 use Rattle.h1_body.specs.Framing.{framing}
-use Rattle.h1_body.specs.Reader.{body}
+use Rattle.h1_body.specs.Laws.{GrowsTo}
+use Rattle.h1_body.specs.Read.{HasRead}
+use Rattle.h1_body.specs.Reader.{body, reads}
+use Rattle.h1_body.specs.declared.framing.Framing.{Framing}
+use Rattle.h1_body.specs.declared.reader.BodyReader.{BodyReader}
+use Rattle.h1_body.proofs.ReadLemmas.{read_is}
+use Rattle.h1_body.proofs.LawLemmas.{bodies_grow}
 use Rattle.h1_server.specs.SessionView.{SessionView}
+use Rattle.h1_server.specs.declared.body.BodyState.{BodyState}
+use Rattle.h1_app.specs.declared.application.Reply.{Reply}
 use Rattle.h1_app.specs.declared.transcript.Entry.{Entry}
 use Rattle.h1_app.specs.Behind.{ReadBehind, WroteBehind, AfterRead, AfterWrote, DoneBehind, IsDoneAt, FlushedBy, StoodAs, written_of}
 use Rattle.h1_app.specs.Exchange.{render}
 use Rattle.h1_app.specs.Joins.{IsEnded, IsRestarted}
-use Rattle.h1_app.specs.Since.{Since, ReadEntry, ReadSo, WroteSo}
+use Rattle.h1_app.specs.Since.{Since, ReadEntry, ReadSo, WroteSo, StoodSo}
 use Rattle.h1_app.proofs.BehindLemmas.{told_map}
+use Rattle.h1_app.proofs.StoodLemmas.{stood_as}
 
 -- a request that was read whole, behind the others
 pub read_join : (done : List Entry) (since rest : List ℕ) (e : Entry) (n k : ℕ) → ReadBehind since done rest
@@ -41,36 +52,54 @@ done_join flushed total (f ∷ more) e h is =
     let same : total + (f.written + written_of more + e.written) ≡ total + f.written + (written_of more + e.written) = omega arith in
     (h.0, done_join flushed (total + f.written) more e h.1 (subst (λ n. IsDoneAt flushed n e) same is))
 
--- what is read behind the exchange is what is received
-read_ended : {L : Type 0} (state : L → LinkState) (old new : SessionView L) (done : List Entry) (e : Entry) (since : List ℕ)
-    → IsEnded state old e → IsRestarted old new → AfterRead done (λ rest. ReadEntry rest e old) since
-    → AfterRead (done ++ e ∷ []) (λ rest. ReadSo rest new None) since
-read_ended state old new done e since ended again h =
-    let p = h.2 in
-    let all : body (framing e.head) (drop p.n h.0) ≡ whole e.body (length p.used) =
-    ap (body (framing e.head)) p.bytes ∙ p.decoded.read old.received ∙ ap (ahead e.body (length p.used)) ended.read
-    ∙ whole_is (append-nil e.body) in
-    let rest : drop (length p.used) (drop p.n h.0) ≡ new.received =
-    ap (drop (length p.used)) p.bytes ∙ behind p.used old.received ∙ sym again.received in (
-      drop (length p.used) (drop p.n h.0),
-      read_join done since h.0 e p.n (length p.used) h.1 p.head all ended.unrefused (ended.stood (length p.used)),
-      rw again.request rest,
-    )
+-- a body of which nothing is to come stays whole, whatever stands behind it
+body_ended : (f : Framing) (used received payload : List ℕ) (reader : BodyReader) → HasRead f used payload reader
+    → reads reader [] ≡ whole [] 0 → body f (used ++ received) ≡ whole payload (length used)
+body_ended f used received payload reader read is =
+    let all : body f used ≡ whole payload (length used) =
+    read_is f used payload reader read ∙ ap (ahead payload (length used)) is ∙ whole_is (append-nil payload) in
+    let grown : GrowsTo (whole payload (length used)) (body f (used ++ received)) =
+    subst (λ b. GrowsTo b (body f (used ++ received))) all (bodies_grow f used received) in
+    grown
   where
     whole_is : {payload : List ℕ} {used : ℕ} → payload ++ [] ≡ payload → whole (payload ++ []) (used + 0) ≡ whole payload used
     whole_is {payload} {used} is =
         let same : used + 0 ≡ used = omega arith in
         ap (λ xs. whole xs (used + 0)) is ∙ ap (whole payload) same
 
+stood_ended : (e : Entry) (used received : List ℕ) (now : BodyState) (reply : Option Reply) → HasRead (framing e.head) used e.body now.reader
+    → reads now.reader [] ≡ whole [] 0 → IfSome reply (λ reply. StoodSo e.how e now)
+    → IfSome reply (λ reply. StoodAs e.how e (whole e.body (length used)))
+stood_ended e used received now None read is h = tt
+stood_ended e used received now (Some reply) read is h =
+    subst (λ b. StoodAs e.how e b) (sym (read.read received) ∙ body_ended (framing e.head) used received e.body now.reader read is)
+    (stood_as e.how e used received now read h)
+
+-- what is read behind the exchange is what is received
+read_ended : {L C : Type 0} (old new : SessionView L C) (done : List Entry) (e : Entry) (since : List ℕ)
+    → IsEnded old e → IsRestarted old new → AfterRead done (λ rest. ReadEntry rest e old) since
+    → AfterRead (done ++ e ∷ []) (λ rest. ReadSo rest new None) since
+read_ended old new done e since ended again h =
+    let p = h.2 in
+    let all : body (framing e.head) (drop p.n h.0) ≡ whole e.body (length p.used) =
+    ap (body (framing e.head)) p.bytes ∙ body_ended (framing e.head) p.used old.received e.body old.body.reader p.decoded ended.read in
+    let rest : drop (length p.used) (drop p.n h.0) ≡ new.received =
+    ap (drop (length p.used)) p.bytes ∙ behind p.used old.received ∙ sym again.received in (
+      drop (length p.used) (drop p.n h.0),
+      read_join done since h.0 e p.n (length p.used) h.1 p.head all ended.unrefused
+          (stood_ended e p.used old.received old.body e.reply p.decoded ended.read p.stood),
+      rw again.request rest,
+    )
+  where
     behind : (front rest : List ℕ) → drop (length front) (front ++ rest) ≡ rest
     behind [] rest = refl
     behind (b ∷ front) rest = behind front rest
 
-wrote_ended : {L : Type 0} (state : L → LinkState) (old new : SessionView L) (done : List Entry) (e : Entry) (since : List ℕ)
-    → IsEnded state old e → IsRestarted old new
+wrote_ended : {L C : Type 0} (old new : SessionView L C) (done : List Entry) (e : Entry) (since : List ℕ)
+    → IsEnded old e → IsRestarted old new
     → AfterWrote done (λ rest. WroteSo rest old (Some e) × (old.reply.sent ≡ min (length rest) (2 ^ 64 - 1))) since
     → AfterWrote (done ++ e ∷ []) (λ rest. WroteSo rest new None × (new.reply.sent ≡ min (length rest) (2 ^ 64 - 1))) since
-wrote_ended state old new done e since ended again h =
+wrote_ended old new done e since ended again h =
     let all : h.0 ≡ render e =
     sym (ap (λ xs. h.0 ++ old.reply.owed ++ xs) ended.nothing ∙ append-nil (h.0 ++ old.reply.owed)
     ∙ ap (λ xs. h.0 ++ xs) ended.owed ∙ append-nil h.0) ∙ h.2.0 in
@@ -81,26 +110,33 @@ wrote_ended state old new done e since ended again h =
       ((refl, again.owed), rw again.sent refl),
     )
 
+-- a reply of which nothing is owed was flushed
+flushed_ended : (sent : Option ResponseView) (owed : Bool) (P : Type 0) → IsSome sent → owed ≡ false → IfSome sent (λ head. owed ≡ false → P) → P
+flushed_ended None owed P some none h = absurd (false≢true some)
+flushed_ended (Some head) owed P some none h = h none
+
 -- an exchange that is whole joins those that ended
-pub since_joined : {L : Type 0} (state : L → LinkState) (before : LinkState) (old new : SessionView L) (done : List Entry) (e : Entry)
-    → IsEnded state old e → IsRestarted old new
+pub since_joined : {L C : Type 0} (state : L → LinkState) (before : LinkState) (old new : SessionView L C) (done : List Entry) (e : Entry)
+    → IsEnded old e → IsRestarted old new
     → Since state before old done (Some e) → Since state before new (done ++ e ∷ []) None
 since_joined state before old new done e ended again s = rw again.link (record {
   later = s.later;
   read = told_map before.given (state old.link).given (AfterRead done (λ rest. ReadEntry rest e old)) (AfterRead (done ++ e ∷ []) (λ rest. ReadSo rest new None))
-      (λ since h. read_ended state old new done e since ended again h) s.read;
+      (λ since h. read_ended old new done e since ended again h) s.read;
   wrote = told_map before.written (state old.link).written
       (AfterWrote done (λ rest. WroteSo rest old (Some e) × (old.reply.sent ≡ min (length rest) (2 ^ 64 - 1))))
       (AfterWrote (done ++ e ∷ []) (λ rest. WroteSo rest new None × (new.reply.sent ≡ min (length rest) (2 ^ 64 - 1))))
-      (λ since h. wrote_ended state old new done e since ended again h) s.wrote;
+      (λ since h. wrote_ended old new done e since ended again h) s.wrote;
   stopped = tt;
   flushed = done_join (FlushedBy before (state old.link)) 0 done e s.flushed (record {
     sent_head = ended.sent_head;
     sent_body = ended.sent_body;
-    flushed_so = omega (arith, s.out, ended.written, ended.flushed);
+    flushed_so = let flushed = flushed_ended e.sent_head e.owed (FlushedBy before (state old.link) (written_of done + e.written)) ended.sent_head ended.flushed s.settled in
+        omega (arith, flushed);
     long = ended.long;
     keep = ended.keep;
     closes = ended.closes;
   });
+  settled = tt;
   out = omega (arith, s.out, again.sent, ended.written, written_join done e);
 })

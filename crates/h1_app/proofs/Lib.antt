@@ -5,6 +5,8 @@ pub mod AskLemmas
 pub mod BeginLemmas
 pub mod BehindLemmas
 pub mod BodyReplies
+pub mod DrainEnds
+pub mod DrainLemmas
 pub mod EndReplies
 pub mod FinishReplies
 pub mod GoneLemmas
@@ -16,3 +18,13 @@ pub mod ReadLemmas
 pub mod ReplyLemmas
 pub mod SinceLemmas
 pub mod JoinLemmas
+pub mod CompleteLemmas
+pub mod ServedLemmas
+pub mod WaitingLemmas
+pub mod GrowthLemmas
+pub mod NextLemmas
+pub mod SoundLemmas
+pub mod StoodLemmas
+pub mod TurnLemmas
+pub mod OthersLemmas
+pub mod RefusalLemmas

@@ -4,31 +4,35 @@ use Rattle.h1_link.specs.LinkState.{LinkState}
 use Rattle.h1_link.specs.Later.{KeepsBytes}
 use Rattle.h1_link.proofs.Laters.{keeps_itself, later_itself, later_on, later_keeps, append_known-nil}
 use Rattle.h1_server.specs.SessionView.{SessionView, IsNewSession}
+use Rattle.h1_server.specs.declared.settings.Settings.{Settings}
 use Rattle.h1_app.specs.declared.transcript.Entry.{Entry}
 use Rattle.h1_app.specs.Behind.{AfterRead, AfterWrote, written_of}
 use Rattle.h1_app.specs.Since.{Since, IfTold, ReadSo, WroteSo, StoppedSo}
 use Rattle.h1_app.proofs.BehindLemmas.{read_same, wrote_same, flushed_on}
-use Rattle.h1_app.proofs.SinceLemmas.{rose_later}
-use Rattle.h1_app.proofs.ReplyLemmas.{stopped_on}
+use Rattle.h1_app.proofs.SinceLemmas.{rose_later, settled_on, stopped_on}
 
 told_new : (known : Option (List ℕ)) (P : List ℕ → Type 0) → P [] → IfTold known known P
 told_new None P p = tt
 told_new (Some bytes) P p = ([], sym (append-nil bytes), p)
 
+new_read : {L C : Type 0} (link : L) (session : SessionView L C) → IsNewSession link session → ReadSo [] session None
+new_read link session is = rw (is.request, is.received) refl
+
 -- nothing was read or written over a link since the session over it was made
-pub since_made : {L : Type 0} (state : L → LinkState) (link : L) (session : SessionView L) (done : List Entry) (last : Option Entry)
+pub since_new : {L C : Type 0} (state : L → LinkState) (link : L) (session : SessionView L C) (done : List Entry) (last : Option Entry)
     → IsNewSession link session → done ≡ [] → last ≡ None → Since state (state link) session done last
-since_made state link session done last is nothing none = rw (nothing, none, is.link) (record {
+since_new state link session done last is nothing none = rw (nothing, none, is.link) (record {
   later = later_itself (state link);
-  read = told_new (state link).given (AfterRead [] (λ rest. ReadSo rest session None)) ([], refl, rw (is.request, is.received) refl);
+  read = told_new (state link).given (AfterRead [] (λ rest. ReadSo rest session None)) ([], refl, new_read link session is);
   wrote = told_new (state link).written (AfterWrote [] (λ rest. WroteSo rest session None × (session.reply.sent ≡ min (length rest) (2 ^ 64 - 1))))
       ([], refl, ((refl, is.reply.0), rw is.reply.4 refl));
   stopped = tt;
   flushed = tt;
+  settled = tt;
   out = omega (arith, is.reply.4);
 })
 
-read_as : {L : Type 0} (old new : SessionView L) (last : Option Entry) (since : List ℕ)
+read_as : {L C : Type 0} (old new : SessionView L C) (last : Option Entry) (since : List ℕ)
     → new.received ≡ old.received → new.request ≡ old.request → new.body ≡ old.body
     → ReadSo since old last → ReadSo since new last
 read_as old new None since received request body h = rw (received, request) h
@@ -38,18 +42,19 @@ read_as old new (Some e) since received request body h = record {
   head = h.head;
   bytes = h.bytes ∙ ap (λ xs. h.used ++ xs) (sym received);
   decoded = rw body h.decoded;
+  stood = rw body h.stood;
 }
 
-wrote_as : {L : Type 0} (old new : SessionView L) (last : Option Entry) (since : List ℕ)
+wrote_as : {L C : Type 0} (old new : SessionView L C) (last : Option Entry) (since : List ℕ)
     → new.reply ≡ old.reply → WroteSo since old last → WroteSo since new last
 wrote_as old new None since reply h = rw reply h
 wrote_as old new (Some e) since reply h = rw reply h
 
 -- the link was used, and no byte of it moved
-pub since_linked : {L : Type 0} (state : L → LinkState) (old new : SessionView L) (last : Option Entry) (before : LinkState) (done : List Entry)
+pub since_linked : {L C : Type 0} (state : L → LinkState) (old new : SessionView L C) (last : Option Entry) (before : LinkState) (done : List Entry)
     → KeepsBytes (state old.link) (state new.link) → new.received ≡ old.received → new.request ≡ old.request
     → new.body ≡ old.body → new.reply ≡ old.reply → Since state before old done last → Since state before new done last
-since_linked {L} state old new last before done kept received request body reply s =
+since_linked {L} {C} state old new last before done kept received request body reply s =
     let later = later_keeps (state old.link) (state new.link) kept in
     record {
       later = later_on before (state old.link) (state new.link) s.later later;
@@ -62,6 +67,7 @@ since_linked {L} state old new last before done kept received request body reply
           (kept.written ∙ sym (append_known-nil _)) (λ rest h. (wrote_as old new last rest reply h.0, rw reply h.1)) s.wrote;
       stopped = stays last s.stopped;
       flushed = flushed_on before (state old.link) (state new.link) 0 done later.flushed s.flushed;
+      settled = settled_on before (state old.link) (state new.link) done last later.flushed s.settled;
       out = rw reply (rose_later (written_of done + old.reply.sent) before.bytes_out _ _ kept.counts.bytes_out s.out);
     }
   where
@@ -70,8 +76,16 @@ since_linked {L} state old new last before done kept received request body reply
     stays (Some e) h = stopped_on state old new e.body_error body received (later_keeps (state old.link) (state new.link) kept) h
 
 -- a poll's budget is no part of it
-pub since_budget : {L : Type 0} (state : L → LinkState) (old new : SessionView L) (budget : Option ℕ) (last : Option Entry) (before : LinkState) (done : List Entry)
+pub since_budget : {L C : Type 0} (state : L → LinkState) (old new : SessionView L C) (budget : Option ℕ) (last : Option Entry) (before : LinkState) (done : List Entry)
     → new ≡ record old { budget = budget } → Since state before old done last → Since state before new done last
-since_budget {L} state old new budget last before done is s =
-    let set : SessionView L = record old { budget = budget } in
+since_budget {L} {C} state old new budget last before done is s =
+    let set : SessionView L C = record old { budget = budget } in
     rw is (since_linked state old set last before done (keeps_itself (state old.link)) refl refl refl refl s)
+
+-- nothing was read or written since a session was made and set
+pub since_made : {L C : Type 0} (state : L → LinkState) (link : L) (fresh session : SessionView L C) (settings : Settings) (done : List Entry) (last : Option Entry)
+    → IsNewSession link fresh → session ≡ record fresh { settings = settings } → done ≡ [] → last ≡ None → Since state (state link) session done last
+since_made {L} {C} state link fresh session settings done last is set nothing none =
+    let start : Since state (state link) fresh done last = since_new state link fresh done last is nothing none in
+    let made : SessionView L C = record fresh { settings = settings } in
+    rw set (since_linked state fresh made last (state link) done (keeps_itself (state fresh.link)) refl refl refl refl start)

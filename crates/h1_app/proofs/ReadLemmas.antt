@@ -13,10 +13,12 @@ use Rattle.h1_link.specs.Later.{Later}
 use Rattle.h1_body.specs.Reader.{reads}
 use Rattle.h1_body.specs.declared.reader.BodyReader.{BodyReader}
 use Rattle.h1_body.proofs.RunLemmas.{ahead-ahead, ahead_none}
+use Rattle.h1_server.specs.Calls.{OneOther, CallsFew, is_done}
 use Rattle.h1_server.specs.Decoding.{Decoded}
 use Rattle.h1_server.specs.Requests.{refused_for_good}
 use Rattle.h1_server.specs.Payload.{BodyRefusal, PayloadAnswer, ReadsPayload}
 use Rattle.h1_server.specs.SessionView.{SessionView, allowance}
+use Rattle.h1_server.specs.declared.settings.Settings.{Settings}
 use Rattle.h1_server.proofs.MovedLemmas.{moved_itself, moved_on}
 use Rattle.h1_app.specs.Application.{ReadsOnly, RefusedBy, WaitsBy}
 use Rattle.h1_app.specs.EchoRun.{ReadsAtOnce}
@@ -87,7 +89,7 @@ decoded_on a b c used more payload further first second = record {
 }
 
 -- the causes of refusals and waits go on
-refusal_on : {L : Type 0} (state : L → LinkState) (a b c : SessionView L) (k : ErrorType) → Later (state a.link) (state b.link)
+refusal_on : {L C : Type 0} (state : L → LinkState) (a b c : SessionView L C) (k : ErrorType) → Later (state a.link) (state b.link)
     → BodyRefusal state b c k → BodyRefusal state a c k
 refusal_on state a b c kind.InvalidBody later h = h
 refusal_on state a b c kind.ConnectionClosed later h = h
@@ -95,7 +97,7 @@ refusal_on state a b c kind.ReadError later h = (let counts = later.counts in om
 refusal_on state a b c kind.NoMemory later h = tt
 refusal_on state a b c _ later h = absurd h
 
-refused_on : {L : Type 0} (state : L → LinkState) (a b c : SessionView L) (refused : Option Error) → Later (state a.link) (state b.link)
+refused_on : {L C : Type 0} (state : L → LinkState) (a b c : SessionView L C) (refused : Option Error) → Later (state a.link) (state b.link)
     → b.body.refused ≡ refused → RefusedBy state a b refused → RefusedBy state b c refused → RefusedBy state a c refused
 refused_on state a b c (Some error) later is first second =
     (second.0, second.1 ∙ first.1, second.2 ∙ first.2, second.3 ∙ first.3)
@@ -106,17 +108,17 @@ refused_on state a b c None later is first second = on c.body.refused second
     on None h = tt
     on (Some error) h = (refusal_on state a b c error.kind later h.0, h.1)
 
-waits_on : {L : Type 0} (state : L → LinkState) (a b c : SessionView L) (waits : Bool) → (state b.link).read_waits ≡ (state a.link).read_waits
+waits_on : {L C : Type 0} (state : L → LinkState) (a b c : SessionView L C) (waits : Bool) → (state b.link).read_waits ≡ (state a.link).read_waits
     → WaitsBy state b c waits → WaitsBy state a c waits
 waits_on state a b c false same h = h ∙ same
 waits_on state a b c true same h = (h.0, h.1, subst (λ n. Rose n (state c.link).read_waits ⊎ (c.budget ≡ Some 0)) same h.2)
 
-refused_itself : {L : Type 0} (state : L → LinkState) (s : SessionView L) (refused : Option Error) → s.body.refused ≡ refused → RefusedBy state s s refused
+refused_itself : {L C : Type 0} (state : L → LinkState) (s : SessionView L C) (refused : Option Error) → s.body.refused ≡ refused → RefusedBy state s s refused
 refused_itself state s (Some error) is = (is, refl, refl, refl)
 refused_itself state s None is = rw is tt
 
 -- reading nothing
-pub reads_itself : {L : Type 0} (state : L → LinkState) (s : SessionView L) → ReadsOnly state s s
+pub reads_itself : {L C : Type 0} (state : L → LinkState) (s : SessionView L C) → ReadsOnly state s s
 reads_itself state s = record {
   piece = [];
   used = [];
@@ -127,18 +129,21 @@ reads_itself state s = record {
   within = within_itself s.budget;
   flushed = refl;
   few = omega arith;
+  calls = omega arith;
   bytes = append-nil s.received;
   decoded = record { reads = λ more. sym (ahead_none (reads s.body.reader more)) };
   kept = kept_itself s.body.kept;
   request = refl;
   head_refused = refl;
+  reuses = refl;
   reply = refl;
+  context = refl;
   refused = refused_itself state s s.body.refused refl;
   waits = λ free. rw free refl;
 }
 
 -- reading on, where no read was pending or refused before
-pub reads_on : {L : Type 0} (state : L → LinkState) (a b c : SessionView L) → ReadsOnly state a b → ReadsAtOnce state a b → ReadsOnly state b c
+pub reads_on : {L C : Type 0} (state : L → LinkState) (a b c : SessionView L C) → ReadsOnly state a b → ReadsAtOnce state a b → ReadsOnly state b c
     → ReadsOnly state a c
 reads_on state a b c first free second = record {
   piece = first.piece ++ second.piece;
@@ -150,6 +155,7 @@ reads_on state a b c first free second = record {
   within = within_on a.budget b.budget first.spent second.spent first.budget first.within second.within;
   flushed = second.flushed ∙ first.flushed;
   few = omega (arith, free.link_waits, second.few);
+  calls = omega (arith, free.link_others, second.calls);
   bytes = sym (append_assoc a.received first.piece second.piece) ∙ ap (λ xs. xs ++ second.piece) first.bytes
       ∙ append_assoc first.used b.received second.piece ∙ ap (λ xs. first.used ++ xs) second.bytes
       ∙ sym (append_assoc first.used second.used c.received);
@@ -157,13 +163,15 @@ reads_on state a b c first free second = record {
   kept = kept_on a.body.kept b.body.kept c.body.kept first.payload second.payload first.kept second.kept;
   request = second.request ∙ first.request;
   head_refused = second.head_refused ∙ first.head_refused;
+  reuses = second.reuses ∙ first.reuses;
   reply = second.reply ∙ first.reply;
+  context = second.context ∙ first.context;
   refused = refused_on state a b c a.body.refused first.moved.later free.refused first.refused (subst (RefusedBy state b c) free.refused second.refused);
   waits = λ none. waits_on state a b c c.body.waits free.link_waits (second.waits (free.waits ∙ none));
 }
 
 -- what a call that reads says of refusals and waits
-payload_refused : {L : Type 0} (state : L → LinkState) (old new : SessionView L) (payload : List ℕ) (left : ℕ) (outcome : Poll (Result (Option (List ℕ)) Error))
+payload_refused : {L C : Type 0} (state : L → LinkState) (old new : SessionView L C) (payload : List ℕ) (left : ℕ) (outcome : Poll (Result (Option (List ℕ)) Error))
     → PayloadAnswer state old new payload left outcome → IfSome new.body.refused (λ error. BodyRefusal state old new error.kind × (error.kind ≢ kind.NoMemory))
 payload_refused state old new payload left (Ready (Ok (Some piece))) h = rw h.2 tt
 payload_refused state old new payload left (Ready (Ok None)) h = rw h.2 tt
@@ -179,7 +187,7 @@ payload_refused state old new payload left (Ready (Err error)) h =
     by_kind error _ is h = absurd h
 payload_refused state old new payload left Pending h = rw h.2 tt
 
-payload_waits : {L : Type 0} (state : L → LinkState) (old new : SessionView L) (payload : List ℕ) (left : ℕ) (outcome : Poll (Result (Option (List ℕ)) Error))
+payload_waits : {L C : Type 0} (state : L → LinkState) (old new : SessionView L C) (payload : List ℕ) (left : ℕ) (outcome : Poll (Result (Option (List ℕ)) Error))
     → IsSome old.budget → new.budget ≡ option_map (λ _. left) old.budget
     → PayloadAnswer state old new payload left outcome → old.body.waits ≡ false → WaitsBy state old new new.body.waits
 payload_waits state old new payload left (Ready (Ok (Some piece))) there step h none = rw (h.3.waits, none) h.3.link_waits
@@ -192,10 +200,15 @@ payload_waits state old new payload left Pending there step h none =
     why (inl rose) = inl rose
     why (inr spent) = inr (budget_none old.budget new.budget left there step spent)
 
+-- at most one link call of a call moved no byte
+pub calls_most : (before now : LinkState) (done : Bool) → CallsFew before now done → OneOther before now
+calls_most before now true same = omega (arith, same)
+calls_most before now false most = most
+
 -- one call that reads
-pub reads_payload : {L : Type 0} (state : L → LinkState) (old new : SessionView L) (outcome : Poll (Result (Option (List ℕ)) Error))
-    → IsSome old.budget → old.body.refused ≡ None → ReadsPayload state old new outcome → ReadsOnly state old new
-reads_payload state old new outcome there none call = record {
+pub reads_payload : {L C : Type 0} (state : L → LinkState) (old new : SessionView L C) (outcome : Poll (Result (Option (List ℕ)) Error))
+    → IsSome old.budget → old.body.refused ≡ None → ReadsPayload state old new outcome → OneOther (state old.link) (state new.link) → ReadsOnly state old new
+reads_payload state old new outcome there none call most = record {
   piece = call.reads.piece;
   used = call.reads.used;
   payload = call.payload;
@@ -209,19 +222,22 @@ reads_payload state old new outcome there none call = record {
   kept = call.reads.keeps_payload;
   request = call.request;
   few = call.few;
+  calls = most;
   head_refused = call.refused;
+  reuses = ap (λ (s : Settings). s.reuses) call.settings;
   reply = call.reply;
+  context = call.context;
   refused = rw none (payload_refused state old new call.payload call.left outcome call.answer);
   waits = payload_waits state old new call.payload call.left outcome there call.budget call.answer;
 }
 
 -- one call, which answers a refusal again
-pub reads_call : {L : Type 0} (state : L → LinkState) (old new : SessionView L) (outcome : Poll (Result (Option (List ℕ)) Error))
+pub reads_call : {L C : Type 0} (state : L → LinkState) (old new : SessionView L C) (outcome : Poll (Result (Option (List ℕ)) Error))
     → IsSome old.budget → IfSome old.body.refused (λ error. (outcome ≡ Ready (Err error)) × (new ≡ old))
-    → IfNone old.body.refused (ReadsPayload state old new outcome) → ReadsOnly state old new
-reads_call {L} state old new outcome there again reads = by_refused old.body.refused refl again reads
+    → IfNone old.body.refused (ReadsPayload state old new outcome) → CallsFew (state old.link) (state new.link) (is_done outcome) → ReadsOnly state old new
+reads_call {L} {C} state old new outcome there again reads calls = by_refused old.body.refused refl again reads
   where
     by_refused : (o : Option Error) → old.body.refused ≡ o → IfSome o (λ error. (outcome ≡ Ready (Err error)) × (new ≡ old))
         → IfNone o (ReadsPayload state old new outcome) → ReadsOnly state old new
-    by_refused None is again reads = reads_payload state old new outcome there is reads
+    by_refused None is again reads = reads_payload state old new outcome there is reads (calls_most (state old.link) (state new.link) (is_done outcome) calls)
     by_refused (Some error) is again reads = subst (ReadsOnly state old) (sym again.1) (reads_itself state old)

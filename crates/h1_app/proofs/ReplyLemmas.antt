@@ -1,5 +1,5 @@
 -- How an exchange goes on as its reply is written.
-use Rattle.std.proofs.Common.{◌≡◌, ℕ, ◌+◌, ◌-◌, ◌^◌, ◌≤◌, ◌⊎◌, inl, inr, min, List, [], ◌++◌, length, Bool, Option, Some, None, IfSome, IfNone, IsSome, option_map, refl, sym, ◌∙◌, ap, subst, append_assoc, append-nil, length-append, arith}
+use Rattle.std.proofs.Common.{◌≡◌, ℕ, suc, zero, ◌+◌, ◌-◌, ◌^◌, ◌<◌, ◌≤◌, ◌⊎◌, inl, inr, min, List, [], ◌++◌, length, Bool, true, false, Option, Some, None, IfSome, IfNone, IsSome, option_map, refl, sym, ◌∙◌, ap, subst, append_assoc, append-nil, length-append, arith}
 use Rattle.std.proofs.lemmas.Bool.{false≢true}
 use Rattle.futures.specs.declared.task.Poll.{Poll}
 use Rattle.futures.specs.declared.task.Poll.TheVariants.{Ready}
@@ -8,25 +8,30 @@ use Rattle.h1_error.specs.declared.error.ErrorType.TheVariants as kind
 use Rattle.h1_error.specs.declared.error.Error.{Error}
 use Rattle.h1_link.specs.LinkState.{LinkState}
 use Rattle.h1_link.specs.Counts.{Rose, RoseBy}
-use Rattle.h1_link.specs.Later.{Later}
 use Rattle.h1_link.proofs.Laters.{later_on}
 use Rattle.h1_head.specs.Views.{ResponseView}
+use Rattle.h1_body.specs.Framing.{framing}
 use Rattle.h1_server.specs.Moved.{Moved}
 use Rattle.h1_server.specs.SessionView.{SessionView, allowance}
 use Rattle.h1_server.specs.Writes.{Writes, IsRefused}
+use Rattle.h1_server.specs.declared.body.BodyState.{BodyState}
 use Rattle.h1_server.specs.declared.request.Request.{Request}
 use Rattle.h1_server.specs.declared.reply.ReplyState.{ReplyState}
 use Rattle.h1_server.specs.declared.reply.Step.{Step}
 use Rattle.h1_app.specs.declared.application.Reply.{Reply}
+use Rattle.h1_app.specs.declared.exchange.Stage.{Stage}
 use Rattle.h1_app.specs.declared.transcript.Entry.{Entry}
+use Rattle.h1_app.specs.declared.transcript.How.{How}
+use Rattle.h1_app.specs.declared.transcript.How.TheVariants.{Open, Whole, Failed}
 use Rattle.h1_app.specs.Growth.{Grows, Stays, DatedAt, RepliedOn, RefusedIn}
-use Rattle.h1_app.specs.Behind.{written_of}
+use Rattle.h1_app.specs.Behind.{FlushedBy, IsBelow, written_of}
 use Rattle.h1_app.specs.Causes.{FailureCause}
 use Rattle.h1_app.specs.Exchange.{render}
-use Rattle.h1_app.specs.Since.{Since, ReadSo, WroteSo, coming, StopsBody}
-use Rattle.h1_app.specs.Sound.{IsAsked, IsReplied, IsHeaded, IsKept}
-use Rattle.h1_app.specs.Turns.{Went}
+use Rattle.h1_app.specs.Since.{Since, ReadSo, WroteSo, coming, SettledSo, StoodSo}
+use Rattle.h1_app.specs.Sound.{IsAsked, IsReplied, IsHeaded}
+use Rattle.h1_app.specs.Turns.{Went, ahead, place}
 use Rattle.h1_app.proofs.BehindLemmas.{read_same, wrote_on, flushed_on}
+use Rattle.h1_app.proofs.SinceLemmas.{stopped_on}
 
 pub at_none : {A : Type 0} (P : Type 0) (o : Option A) → o ≡ None → IfNone o P → P
 at_none P o e h = rw e at h
@@ -62,7 +67,7 @@ budget_left (Some all) next left some e within =
     let same : all - (all - left) ≡ left = omega arith in
     (e ∙ ap Some (sym same), omega arith)
 
-pub went_itself : {L : Type 0} (state : L → LinkState) (session : SessionView L)
+pub went_itself : {L C : Type 0} (state : L → LinkState) (session : SessionView L C)
     → Moved (state session.link) (state session.link) [] [] 0
     → IsSome session.budget → Went state session session
 went_itself state session moved some = record {
@@ -72,6 +77,7 @@ went_itself state session moved some = record {
   moved = moved;
   budget = none_spent session.budget;
   within = within session.budget;
+  context = refl;
 }
   where
     none_spent : (budget : Option ℕ) → budget ≡ option_map (λ left. left - 0) budget
@@ -82,12 +88,12 @@ went_itself state session moved some = record {
     within None = tt
     within (Some left) = omega arith
 
-pub went_same : {L : Type 0} (state : L → LinkState) (old new : SessionView L) → new ≡ old
+pub went_same : {L C : Type 0} (state : L → LinkState) (old new : SessionView L C) → new ≡ old
     → Moved (state old.link) (state old.link) [] [] 0 → IsSome old.budget → Went state old new
 went_same state old new same moved some = subst (λ x. Went state old x) (sym same)
     (went_itself state old moved some)
 
-pub went_wrote : {L : Type 0} (state : L → LinkState) (old new : SessionView L) (taking : List ℕ)
+pub went_wrote : {L C : Type 0} (state : L → LinkState) (old new : SessionView L C) (taking : List ℕ)
     (left : ℕ)
     → IsSome old.budget → Writes state old new taking left → Went state old new
 went_wrote state old new taking left some w =
@@ -99,10 +105,47 @@ went_wrote state old new taking left some w =
       moved = w.sent.moved;
       budget = spent.0;
       within = spent.1;
+      context = w.context;
     }
 
+-- fewer steps may follow where the stage's place goes down
+pub ahead_down : {L C J : Type 0} (state : L → LinkState) (old new : SessionView L C) (from to : Stage J)
+    → Went state old new → place to < place from → ahead new.budget to < ahead old.budget from
+ahead_down state old new from to went less =
+    subst (λ b. ahead b to < ahead old.budget from) (sym went.budget) (falls old.budget)
+  where
+    falls : (budget : Option ℕ) → ahead (option_map (λ left. left - went.spent) budget) to < ahead budget from
+    falls None = less
+    falls (Some left) = omega (arith, less)
+
+-- and where a byte was moved
+ahead_moved : {L C J : Type 0} (state : L → LinkState) (old new : SessionView L C) (from to : Stage J)
+    → (went : Went state old new) → IsSome old.budget → 0 < length went.wrote → place to < place from + 10
+    → ahead new.budget to < ahead old.budget from
+ahead_moved state old new from to went some wrote less =
+    subst (λ b. ahead b to < ahead old.budget from) (sym went.budget)
+    (falls old.budget some went.within went.spent refl)
+  where
+    falls : (budget : Option ℕ) → IsSome budget → IfSome budget (λ left. went.spent ≤ left)
+        → (spent : ℕ) → went.spent ≡ spent
+        → ahead (option_map (λ left. left - went.spent) budget) to < ahead budget from
+    falls None h within spent is = absurd (false≢true h)
+    falls (Some left) h within zero is =
+        let none : length went.wrote ≡ 0 = ap length ((went.moved.free is).1) in
+        omega (arith, none, wrote)
+    falls (Some left) h within (suc spent) is = omega (arith, within, less, is)
+
+-- the same of a call that wrote
+pub ahead_wrote : {L C J : Type 0} (state : L → LinkState) (old new : SessionView L C) (taking : List ℕ) (left : ℕ)
+    (from to : Stage J)
+    → IsSome old.budget → (w : Writes state old new taking left) → 0 < length w.sent.piece → place to < place from + 10
+    → ahead new.budget to < ahead old.budget from
+unfolding went_wrote
+ahead_wrote state old new taking left from to some w wrote less =
+    ahead_moved state old new from to (went_wrote state old new taking left some w) some wrote less
+
 -- why a write waits
-pub waits_why : {L : Type 0} (state : L → LinkState) (old new : SessionView L) (taking : List ℕ)
+pub waits_why : {L C : Type 0} (state : L → LinkState) (old new : SessionView L C) (taking : List ℕ)
     (left : ℕ)
     → IsSome old.budget → Writes state old new taking left
     → Rose (state old.link).write_waits (state new.link).write_waits ⊎ (left ≡ 0)
@@ -114,23 +157,54 @@ waits_why state old new taking left some w (inr none) = inr (w.budget ∙ at_zer
     at_zero None h = absurd (false≢true h)
     at_zero (Some all) h = ap Some none
 
--- a body that can't be read on stays so
-pub stops_on : {L : Type 0} (state : L → LinkState) (old new : SessionView L) (k : ErrorType)
-    → new.body ≡ old.body → new.received ≡ old.received → Later (state old.link) (state new.link)
-    → StopsBody state old k → StopsBody state new k
-stops_on state old new kind.InvalidBody body received later h = rw body h
-stops_on state old new kind.ConnectionClosed body received later h =
-    (later.ended h.0, rw (received, body) h.1)
-stops_on state old new kind.ReadError body received later h = rw (received, body) h
-stops_on state old new _ body received later h = absurd h
+-- how the body stood when the application replied stays
+stood_so : (how : How) (e f : Entry) (old new : BodyState)
+    → f.head ≡ e.head → f.body ≡ e.body → f.body_error ≡ e.body_error → f.handed ≡ e.handed
+    → new ≡ old → StoodSo how e old → StoodSo how f new
+stood_so Whole e f old new head body error handed same h =
+    (error ∙ h.0, handed ∙ h.1 ∙ ap length (sym body), rw same h.2)
+stood_so Open e f old new head body error handed same h = (
+  error ∙ h.0,
+  subst (λ n. IsBelow (framing f.head) n) (sym handed)
+      (subst (λ x. IsBelow (framing x) e.handed) (sym head) h.1),
+)
+stood_so Failed e f old new head body error handed same h =
+    subst (λ x. IsSome x) (sym error) h
 
-pub stopped_on : {L : Type 0} (state : L → LinkState) (old new : SessionView L) (error : Option Error)
-    → new.body ≡ old.body → new.received ≡ old.received → Later (state old.link) (state new.link)
-    → IfSome error (λ error. StopsBody state old error.kind)
-    → IfSome error (λ error. StopsBody state new error.kind)
-stopped_on state old new None body received later h = tt
-stopped_on state old new (Some error) body received later h = stops_on state old new error.kind body
-    received later h
+pub stood_on : (reply : Option Reply) (how : How) (e f : Entry) (old new : BodyState)
+    → f.head ≡ e.head → f.body ≡ e.body → f.body_error ≡ e.body_error → f.handed ≡ e.handed
+    → new ≡ old → IfSome reply (λ reply. StoodSo how e old) → IfSome reply (λ reply. StoodSo how f new)
+stood_on None how e f old new head body error handed same h = tt
+stood_on (Some reply) how e f old new head body error handed same h =
+    stood_so how e f old new head body error handed same h
+
+-- nothing is asked of a reply while it is owed
+pub settled_owed : (before now : LinkState) (done : List Entry) (e : Entry) → e.owed ≡ true
+    → SettledSo before now done (Some e)
+settled_owed before now done e owed = by_head e.sent_head where
+  by_head : (head : Option ResponseView)
+      → IfSome head (λ head. e.owed ≡ false → FlushedBy before now (written_of done + e.written))
+  by_head None = tt
+  by_head (Some head) = λ free. absurd (false≢true (sym free ∙ owed))
+
+-- nor before its header was taken up
+pub settled_none : (before now : LinkState) (done : List Entry) (e : Entry) → e.sent_head ≡ None
+    → SettledSo before now done (Some e)
+settled_none before now done e none = rw none tt
+
+-- a reply that was flushed stays so
+pub settled_on : (before old now : LinkState) (done : List Entry) (e f : Entry) → f.sent_head ≡ e.sent_head
+    → f.owed ≡ e.owed → f.written ≡ e.written → old.flushed ≤ now.flushed
+    → SettledSo before old done (Some e) → SettledSo before now done (Some f)
+settled_on before old now done e f headed owed count le h =
+    subst (λ x. IfSome x (λ head. f.owed ≡ false → FlushedBy before now (written_of done + f.written)))
+    (sym headed) (by_head e.sent_head h)
+  where
+    by_head : (head : Option ResponseView)
+        → IfSome head (λ head. e.owed ≡ false → FlushedBy before old (written_of done + e.written))
+        → IfSome head (λ head. f.owed ≡ false → FlushedBy before now (written_of done + f.written))
+    by_head None h = tt
+    by_head (Some head) h = λ free. let flushed = h (sym owed ∙ free) in omega (arith, flushed, count, le)
 
 -- bytes that were owed, or are taken up, are written in front
 pub join : (since piece owed next taking before behind whole extra : List ℕ)
@@ -158,17 +232,18 @@ rose_on : (front old new by before mid now : ℕ) → new ≡ min (old + by) (2 
 rose_on front old new by before mid now counted one two = omega arith
 
 -- a call that writes goes on with what was read and written since
-pub since_wrote : {L : Type 0} (state : L → LinkState) (before : LinkState) (done : List Entry)
-    (old new : SessionView L) (taking : List ℕ) (left : ℕ)
+pub since_wrote : {L C : Type 0} (state : L → LinkState) (before : LinkState) (done : List Entry)
+    (old new : SessionView L C) (taking : List ℕ) (left : ℕ)
     (e : Entry) (head : Option ResponseView) (body : Option (List ℕ)) (date : ℕ) (text : List ℕ)
     (keep owed : Bool) (written : ℕ) (extra : List ℕ)
     → Writes state old new taking left
     → taking ++ coming body new.reply.writer ≡ coming e.sent_body old.reply.writer ++ extra
     → render (replying e head body date text keep owed written) ≡ render e ++ extra
+    → SettledSo before (state new.link) done (Some (replying e head body date text keep owed written))
     → Since state before old done (Some e)
     → Since state before new done (Some (replying e head body date text keep owed written))
-since_wrote {L} state before done old new taking left e head body date text keep owed written extra w
-    takes renders s =
+since_wrote {L} {C} state before done old new taking left e head body date text keep owed written extra w
+    takes renders settled s =
     let f : Entry = replying e head body date text keep owed written in
     let moved : Moved (state old.link) (state new.link) [] w.sent.piece
     (allowance old.budget - left) = w.sent.moved in
@@ -183,6 +258,7 @@ since_wrote {L} state before done old new taking left e head body date text keep
             bytes = h.bytes ∙ ap
                 (λ xs. h.used ++ xs) (sym w.received);
             decoded = rw w.body h.decoded;
+            stood = stood_on e.reply e.how e f old.body new.body refl refl refl refl w.body h.stood;
           }) s.read;
       wrote = wrote_on done before.written (state old.link).written (state new.link).written w.sent.piece
           (λ rest. WroteSo rest old (Some e) × (old.reply.sent ≡ min (length rest) (2 ^ 64 - 1)))
@@ -197,23 +273,25 @@ since_wrote {L} state before done old new taking left e head body date text keep
           )) s.wrote;
       stopped = stopped_on state old new e.body_error w.body w.received moved.later s.stopped;
       flushed = flushed_on before (state old.link) (state new.link) 0 done moved.later.flushed s.flushed;
+      settled = settled;
       out = rose_on (written_of done) old.reply.sent new.reply.sent (length w.sent.piece) _ _ _ w.counted s.out
           moved.out;
     }
 
 -- a call that takes nothing up
-pub since_goes_on : {L : Type 0} (state : L → LinkState) (before : LinkState) (done : List Entry)
-    (old new : SessionView L) (taking : List ℕ) (left : ℕ)
+pub since_goes_on : {L C : Type 0} (state : L → LinkState) (before : LinkState) (done : List Entry)
+    (old new : SessionView L C) (taking : List ℕ) (left : ℕ)
     (e : Entry) (owed : Bool) (written : ℕ)
-    → Writes state old new taking left → taking ≡ [] → new.reply.writer ≡ old.reply.writer
+    → Writes state old new taking left → taking ≡ [] → new.reply.writer ≡ old.reply.writer → owed ≡ true
     → Since state before old done (Some e)
     → Since state before new done (Some (record e { owed = owed; written = written }))
-since_goes_on state before done old new taking left e owed written w none same s =
+since_goes_on state before done old new taking left e owed written w none same unflushed s =
     since_wrote state before done old new taking left e e.sent_head e.sent_body e.date e.date_text e.keep
     owed written [] w
     (ap (λ xs. xs ++ coming e.sent_body new.reply.writer) none ∙ ap (coming e.sent_body) same ∙ sym
     (append-nil (coming e.sent_body old.reply.writer)))
-    (sym (append-nil (render e))) s
+    (sym (append-nil (render e)))
+    (settled_owed before (state new.link) done (record e { owed = owed; written = written }) unflushed) s
 
 pub stays_itself : {T : Type 0} (o : Option T) → Stays o o
 stays_itself None = tt
@@ -225,9 +303,10 @@ pub dated_same : (now : ℕ) (head : Option ResponseView) (old new : Entry) → 
 dated_same now None old new is head date text keep = rw (head ∙ is) tt
 dated_same now (Some header) old new is head date text keep = (date, text, keep)
 
-pub replied_same : (reply : Option Reply) (old new : Entry) → new.how ≡ old.how → new.left ≡ old.left → RepliedOn reply old new
-replied_same None old new how left = tt
-replied_same (Some reply) old new how left = (how, left)
+pub replied_same : (reply : Option Reply) (old new : Entry) → new.how ≡ old.how → new.left ≡ old.left
+    → new.handed ≡ old.handed → RepliedOn reply old new
+replied_same None old new how left handed = tt
+replied_same (Some reply) old new how left handed = (how, left, handed)
 
 pub refused_same : (before behind : LinkState) (refused : Option Error) → RefusedIn before behind refused refused
 refused_same before behind None = tt
@@ -248,7 +327,7 @@ grows_replying now before behind e head body date text keep owed written headed 
   body_error = stays_itself e.body_error;
   refused = refused_same before behind e.body_error;
   reply = stays_itself e.reply;
-  replied = replied_same e.reply e _ refl refl;
+  replied = replied_same e.reply e _ refl refl refl;
   sent_head = headed;
   dated = dated;
   sent_body = bodied;
@@ -268,7 +347,7 @@ grows_written now before behind e owed written more =
     (stays_itself e.sent_head) (dated_same now e.sent_head e _ refl refl refl refl refl) (stays_itself e.sent_body) more
 
 -- a reply that is being written stays the application's
-pub replied_on : {L : Type 0} (state : L → LinkState) (old new : SessionView L) (taking : List ℕ)
+pub replied_on : {L C : Type 0} (state : L → LinkState) (old new : SessionView L C) (taking : List ℕ)
     (left : ℕ)
     (e : Entry) (head : Option ResponseView) (body : Option (List ℕ)) (date : ℕ) (text : List ℕ)
     (keep owed : Bool) (written : ℕ)
@@ -282,7 +361,7 @@ replied_on state old new taking left e head body date text keep owed written req
         header = r.asked.header;
         both = r.asked.both;
         wish = r.asked.wish;
-        denied = r.asked.denied;
+        reuses = rw w.settings r.asked.reuses;
         body_error = rw w.body r.asked.body_error;
         handed = r.asked.handed;
         filtered = r.asked.filtered;
@@ -296,17 +375,7 @@ replied_on state old new taking left e head body date text keep owed written req
       left = r.left ∙ sym w.settings;
     }
 
--- what an exchange says of the session goes on being so
-pub kept_on : {L : Type 0} (state : L → LinkState) (old new : SessionView L) (taking : List ℕ)
-    (left : ℕ)
-    (e : Entry) (head : Option ResponseView) (body : Option (List ℕ)) (date : ℕ) (text : List ℕ)
-    (keep owed : Bool) (written : ℕ)
-    → Writes state old new taking left → written ≡ new.reply.sent → IsKept old e
-    → IsKept new (replying e head body date text keep owed written)
-kept_on state old new taking left e head body date text keep owed written w count k =
-    record { written = count; body_error = rw w.body k.body_error; how = rw w.body k.how }
-
-pub more_written : {L : Type 0} (state : L → LinkState) (old new : SessionView L) (taking : List ℕ)
+pub more_written : {L C : Type 0} (state : L → LinkState) (old new : SessionView L C) (taking : List ℕ)
     (left : ℕ) (e : Entry) (written : ℕ)
     (request : Request) → Writes state old new taking left → written ≡ new.reply.sent
     → IsAsked e old request → e.written ≤ written
@@ -314,7 +383,7 @@ more_written state old new taking left e written request w count a = omega
     (arith, w.counted, count, a.written, a.limit)
 
 -- the header goes on where the reply keeps what was taken up
-pub headed_on : {L : Type 0} (old new : SessionView L) (e f : Entry) (reply : Reply)
+pub headed_on : {L C : Type 0} (old new : SessionView L C) (e f : Entry) (reply : Reply)
     → f.sent_head ≡ e.sent_head → f.keep ≡ e.keep → f.owed ≡ e.owed
     → new.reply.headed ≡ old.reply.headed → new.reply.keep ≡ old.reply.keep
     → new.reply.refused ≡ None

@@ -1,5 +1,5 @@
 -- The transcript, the bytes given and the bytes written agree.
-use Rattle.std.specs.Prelude.{◌≡◌, ℕ, ◌+◌, ◌-◌, ◌^◌, List, [], ◌∷◌, ◌++◌, length, min, true, IfSome}
+use Rattle.std.specs.Prelude.{◌≡◌, ℕ, ◌+◌, ◌-◌, ◌^◌, List, [], ◌∷◌, ◌++◌, length, min, true, false, Option, IfSome}
 use Rattle.std.specs.List.{AllByRecursion}
 use Rattle.h1_link.specs.LinkState.{LinkState}
 use Rattle.h1_error.specs.declared.error.ErrorType.{ErrorType}
@@ -8,6 +8,7 @@ use Rattle.h1_body.specs.Body.{Body, whole, unfinished, broken, payload_of}
 use Rattle.h1_app.specs.declared.application.Reply.{Reply}
 use Rattle.h1_app.specs.declared.transcript.Entry.{Entry}
 use Rattle.h1_app.specs.Application.{Given}
+use Rattle.h1_app.specs.Begun.{AreBegun}
 use Rattle.h1_app.specs.Behind.{StoodAs, IsDoneAt, FlushedBy}
 use Rattle.h1_app.specs.Exchange.{render, IsAllowed}
 use Rattle.h1_app.specs.Since.{IfTold}
@@ -55,8 +56,9 @@ AreDone flushed total (e ∷ f ∷ more) =
 
 -- The transcript of a connection whose link had the state `before` when it was made agrees with
 -- what the link gave and took since. A link that doesn't tell its bytes is told nothing of.
-pub record Agrees (gives : Given → Reply → Type 0) (before now : LinkState) (transcript : List Entry) : Type 0 where
+pub record Agrees (gives : Given → Reply → Type 0) (limit : Option ℕ) (before now : LinkState) (transcript : List Entry) : Type 0 where
   pub read : IfTold before.given now.given (λ since. (requests : List Message) × Begins since requests × AreOf now transcript requests)
   pub allowed : AllByRecursion (IsAllowed gives) transcript
+  pub begun : AreBegun limit 0 false transcript
   pub written : IfTold before.written now.written (λ since. AreReplies since transcript)
   pub done : AreDone (FlushedBy before now) 0 transcript

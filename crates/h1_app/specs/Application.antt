@@ -44,28 +44,28 @@ how_stands (broken payload) None = Open
 abbrev pub how_of : BodyState → How
 how_of body = how_stands (reads body.reader []) body.refused
 
-abbrev pub payload_of : {L : Type 0} → SessionView L → List ℕ
+abbrev pub payload_of : {L C : Type 0} → SessionView L C → List ℕ
 payload_of session = unwrap_or session.body.kept []
 
-abbrev pub given_by : {L : Type 0} → RequestView → Settings → SessionView L → Given
+abbrev pub given_by : {L C : Type 0} → RequestView → Settings → SessionView L C → Given
 given_by head began session = record { head = head; handed = payload_of session; how = how_of session.body; body_error = session.body.refused; began = began; left = session.settings }
 
 -- a refusal that was answered before stays, with all that was read; a new one has its cause
-abbrev pub RefusedBy : {L : Type 0} → (L → LinkState) → SessionView L → SessionView L → Option Error → Type 0
+abbrev pub RefusedBy : {L C : Type 0} → (L → LinkState) → SessionView L C → SessionView L C → Option Error → Type 0
 RefusedBy state old new (Some error) =
     (new.body.refused ≡ Some error) × (new.body.reader ≡ old.body.reader) × (new.received ≡ old.received)
     × ((state new.link).ended ≡ (state old.link).ended)
 RefusedBy state old new None = IfSome new.body.refused (λ error. BodyRefusal state old new error.kind × (error.kind ≢ NoMemory))
 
 -- where a read was pending, nothing is left to be used, and the link or the budget is why
-abbrev pub WaitsBy : {L : Type 0} → (L → LinkState) → SessionView L → SessionView L → Bool → Type 0
+abbrev pub WaitsBy : {L C : Type 0} → (L → LinkState) → SessionView L C → SessionView L C → Bool → Type 0
 WaitsBy state old new false = (state new.link).read_waits ≡ (state old.link).read_waits
 WaitsBy state old new true = Lacks new.body.reader new.received × (new.body.refused ≡ None)
     × (Rose (state old.link).read_waits (state new.link).read_waits ⊎ (new.budget ≡ Some 0))
 
 -- The application only reads the body and sets what may be set: the bytes that it used become the
 -- payload that it was handed.
-pub record ReadsOnly {L : Type 0} (state : L → LinkState) (old new : SessionView L) : Type 0 where
+pub record ReadsOnly {L C : Type 0} (state : L → LinkState) (old new : SessionView L C) : Type 0 where
   pub piece : List ℕ
   pub used : List ℕ
   pub payload : List ℕ
@@ -76,12 +76,17 @@ pub record ReadsOnly {L : Type 0} (state : L → LinkState) (old new : SessionVi
   pub flushed : (state new.link).flushed ≡ (state old.link).flushed
   -- a read was not ready at most once
   pub few : (state new.link).read_waits ≤ (state old.link).read_waits + 1
+  -- a call of the link moved nothing at most once
+  pub calls : (state new.link).others ≤ (state old.link).others + 1
   pub bytes : old.received ++ piece ≡ used ++ new.received
   pub decoded : Decoded old.body.reader new.body.reader used payload
   pub kept : new.body.kept ≡ option_map (λ front. front ++ payload) old.body.kept
   pub request : new.request ≡ old.request
   pub head_refused : new.refused ≡ old.refused
+  pub reuses : new.settings.reuses ≡ old.settings.reuses
   pub reply : new.reply ≡ old.reply
+  -- what the caller keeps with the connection stays
+  pub context : new.context ≡ old.context
   pub refused : RefusedBy state old new old.body.refused
   -- told by the session's note of a pending read, where it was cleared before
   pub waits : old.body.waits ≡ false → WaitsBy state old new new.body.waits
@@ -102,7 +107,7 @@ PendsBy before now true = Unit {0}
 PendsBy before now false = Rose before now
 
 -- the session's request has this head
-abbrev pub IsAskedFor : {L : Type 0} → RequestView → SessionView L → Type 0
+abbrev pub IsAskedFor : {L C : Type 0} → RequestView → SessionView L C → Type 0
 IsAskedFor head session = IfSome session.request (λ request. request.header ≡ head)
 
 -- One Content-Length line, which reads as one number.

@@ -15,12 +15,12 @@ use Rattle.h1_app.specs.Application.{Given, ReadsOnly, payload_of, how_of}
 use Rattle.h1_app.specs.Sound.{lent}
 
 -- the exchange with what the session read for it
-abbrev pub noted : {L : Type 0} → Entry → SessionView L → Entry
+abbrev pub noted : {L C : Type 0} → Entry → SessionView L C → Entry
 noted e session = record e { body = payload_of session; handed = length (payload_of session); body_error = session.body.refused; how = how_of session.body; left = session.settings }
 
 -- the application read with the session as it is lent, and the payload went back to the exchange
-pub record AsksAs {L : Type 0} (state : L → LinkState) (old new : SessionView L) (e noted_e : Entry) (answer : Asked) : Type 0 where
-  pub behind : SessionView L
+pub record AsksAs {L C : Type 0} (state : L → LinkState) (old new : SessionView L C) (e noted_e : Entry) (answer : Asked) : Type 0 where
+  pub behind : SessionView L C
   pub reads : ReadsOnly state (lent old e.body) behind
   pub session : new ≡ record behind { body = record behind.body { kept = None; waits = false } }
   pub entry : noted_e ≡ noted e behind

@@ -24,7 +24,8 @@ IsBelow UntilClose handed = Unit {0}
 -- How the request's body stood (RFC 9112, section 6): the payload of all of it was handed in, or
 -- its end was still to come, or the reading of it was refused.
 abbrev pub StoodAs : How → Entry → Body → Type 0
-StoodAs Whole e body = (e.body_error ≡ None) × ((used : ℕ) × (body ≡ whole e.body used))
+StoodAs Whole e body =
+    (e.body_error ≡ None) × (e.handed ≡ length e.body) × ((used : ℕ) × (body ≡ whole e.body used))
 StoodAs Open e body = (e.body_error ≡ None) × IsBelow (framing e.head) e.handed
 StoodAs Failed e body = IsSome e.body_error
 

@@ -1,5 +1,5 @@
 -- When each answer of a poll comes.
-use Rattle.std.specs.Prelude.{◌≡◌, ◌≢◌, ℕ, ◌+◌, ◌≤◌, ◌⊎◌, List, length, drop, Bool, true, false, Option, Some, None}
+use Rattle.std.specs.Prelude.{◌≡◌, ◌≢◌, ℕ, ◌+◌, ◌<◌, ◌≤◌, ◌⊎◌, List, [], ◌∷◌, ◌++◌, length, drop, true, false, Option, Some, None}
 use Rattle.h1_error.specs.declared.error.Error.{Error}
 use Rattle.h1_error.specs.declared.error.ErrorType.{ErrorType}
 use Rattle.h1_error.specs.declared.error.ErrorType.TheVariants as kind
@@ -11,9 +11,7 @@ use Rattle.h1_error.specs.declared.progress.Progress.{Progress}
 use Rattle.h1_error.specs.declared.progress.Progress.TheVariants as progress
 use Rattle.h1_link.specs.LinkState.{LinkState}
 use Rattle.h1_link.specs.Counts.{Rose, RoseBy}
-use Rattle.h1_head.specs.Views.{RequestView}
 use Rattle.h1_head.specs.RequestHead.{HeadAt}
-use Rattle.h1_head.specs.Wish.{wish}
 use Rattle.h1_body.specs.Body.{Body, unfinished, broken}
 use Rattle.h1_body.specs.Reader.{body}
 use Rattle.h1_body.specs.Framing.{framing}
@@ -21,10 +19,11 @@ use Rattle.h1_app.specs.declared.transcript.Entry.{Entry}
 use Rattle.h1_app.specs.declared.exchange.Stage.{Stage}
 use Rattle.h1_app.specs.declared.exchange.Stage.TheVariants as stage
 use Rattle.h1_app.specs.Stream.{Tail, empty, begun, refused, EndsAs}
-use Rattle.h1_app.specs.Behind.{WroteBehind, AfterRead, FlushedBy, written_of}
+use Rattle.h1_app.specs.Behind.{WroteBehind, AfterRead, DoneBehind, FlushedBy, written_of, is_until_close}
 use Rattle.h1_app.specs.Exchange.{render, is_short}
 use Rattle.h1_app.specs.Since.{IfTold}
-use Rattle.h1_app.specs.View.{View}
+use Rattle.h1_app.specs.View.{View, entries}
+use Rattle.h1_app.specs.Waits.{replies}
 
 -- the bytes are the requests of these exchanges, each with a body that was read whole, and this tail
 abbrev pub ReadAll : List ℕ → List Entry → Tail → Type 0
@@ -40,11 +39,6 @@ pub record LastStands (since : List ℕ) (e : Entry) (stands : Body) : Type 0 wh
 abbrev pub LastAfter : List ℕ → List Entry → Entry → Body → Type 0
 LastAfter since done e stands = AfterRead done (λ rest. LastStands rest e stands) since
 
--- what is awaited is not among the bytes given: a head, or more of the last request's body
-abbrev pub LacksSo : List ℕ → List Entry → Option Entry → Type 0
-LacksSo since done None = ReadAll since done empty ⊎ ReadAll since done begun
-LacksSo since done (Some e) = LastAfter since done e (unfinished e.body) × (e.reply ≡ None)
-
 -- the reply was written whole, behind those of the exchanges that ended, and flushed, and nothing of
 -- it is owed
 pub record IsComplete (before now : LinkState) (done : List Entry) (e : Entry) : Type 0 where
@@ -53,6 +47,29 @@ pub record IsComplete (before now : LinkState) (done : List Entry) (e : Entry) :
   pub written : IfTold before.written now.written (λ since. WroteBehind since done (render e))
   pub flushed : FlushedBy before now (written_of done + e.written)
   pub unowed : e.owed ≡ false
+
+-- every exchange is over: all replies were written whole and flushed, and the connection was kept
+-- behind each of them
+pub record AreAllDone (before now : LinkState) (done : List Entry) (last : Option Entry) : Type 0 where
+  pub none : last ≡ None
+  pub written : IfTold before.written now.written (λ since. WroteBehind since done [])
+  pub flushed : DoneBehind (FlushedBy before now) 0 done
+
+-- the reply is complete, and the connection is kept behind it
+pub record IsDone (before now : LinkState) (done : List Entry) (e : Entry) : Type 0 where
+  pub complete : IsComplete before now done e
+  pub long : is_short e ≡ false
+  pub keep : e.keep ≡ true
+  pub closes : is_until_close e ≡ false
+
+-- what is awaited is not among the bytes given: a head, or more of the last request's body, which
+-- the application reads, or which is drained behind the reply
+abbrev pub LacksSo : LinkState → LinkState → List Entry → Option Entry → Type 0
+LacksSo before now done None =
+    AreAllDone before now done None
+    × IfTold before.given now.given (λ since. ReadAll since done empty ⊎ ReadAll since done begun)
+LacksSo before now done (Some e) = ((e.reply ≡ None) ⊎ IsDone before now done e)
+    × IfTold before.given now.given (λ since. LastAfter since done e (unfinished e.body))
 
 -- the render of a short reply was written whole, behind those of the exchanges that ended
 pub record IsWrittenShort (before now : LinkState) (done : List Entry) (e : Entry) : Type 0 where
@@ -64,6 +81,12 @@ pub record EndsBody (before now : LinkState) (done : List Entry) (e : Entry) (er
   pub is : e.body_error ≡ Some error
   pub replied : IsComplete before now done e ⊎ IsWrittenShort before now done e
 
+-- and an error that the drain met ends it behind a reply that is done; `risen` is what the error asks
+-- of the poll that met it
+abbrev pub StopsLast : LinkState → LinkState → List Entry → Entry → Error → Type 0 → Type 0
+StopsLast before now done e error risen =
+    EndsBody before now done e error ⊎ (IsDone before now done e × (e.body_error ≡ None) × risen)
+
 abbrev pub OfLast : Option Entry → (Entry → Type 0) → Type 0
 OfLast None P = ⊥
 OfLast (Some e) P = P e
@@ -71,39 +94,51 @@ OfLast (Some e) P = P e
 -- when a connection fails with an error of this kind; `done` are the exchanges in front of the last
 abbrev pub FailureCause : LinkState → LinkState → LinkState → List Entry → Option Entry → Error → ErrorType → Type 0
 FailureCause before old now done last error (kind.InvalidHTTPHeader fault) =
-    (last ≡ None) × IfTold before.given now.given (λ since. ReadAll since done (refused fault))
+    AreAllDone before now done last × IfTold before.given now.given (λ since. ReadAll since done (refused fault))
 FailureCause before old now done last error kind.ConnectionClosed = (now.ended ≡ true)
-    × (((last ≡ None) × IfTold before.given now.given (λ since. ReadAll since done begun))
-    ⊎ OfLast last (λ e. EndsBody before now done e error × IfTold before.given now.given (λ since. LastAfter since done e (unfinished e.body))))
+    × ((AreAllDone before now done last × IfTold before.given now.given (λ since. ReadAll since done begun))
+    ⊎ OfLast last (λ e. StopsLast before now done e error (Unit {0}) × IfTold before.given now.given (λ since. LastAfter since done e (unfinished e.body))))
 FailureCause before old now done last error kind.InvalidBody =
-    OfLast last (λ e. EndsBody before now done e error × IfTold before.given now.given (λ since. LastAfter since done e (broken e.body)))
+    OfLast last (λ e. StopsLast before now done e error (Unit {0}) × IfTold before.given now.given (λ since. LastAfter since done e (broken e.body)))
 FailureCause before old now done last error kind.ReadError =
-    ((last ≡ None) × Rose old.read_faults now.read_faults × IfTold before.given now.given (λ since. LacksSo since done None))
-    ⊎ OfLast last (λ e. EndsBody before now done e error × IfTold before.given now.given (λ since. LastAfter since done e (unfinished e.body)))
+    ((last ≡ None) × Rose old.read_faults now.read_faults × LacksSo before now done None)
+    ⊎ OfLast last (λ e. StopsLast before now done e error (Rose old.read_faults now.read_faults) × IfTold before.given now.given (λ since. LastAfter since done e (unfinished e.body)))
 FailureCause before old now done last error kind.WriteError = Rose old.write_faults now.write_faults
 FailureCause before old now done last error kind.PrematureBodyEnd =
     OfLast last (λ e. IsWrittenShort before now done e × (e.body_error ≡ None))
-FailureCause before old now done last error kind.NotBuilt =
-    (last ≡ None) × IfTold before.given now.given (AfterRead done (λ rest.
-    (n : ℕ) × (head : RequestView) × (both : Bool) × HeadAt rest n head both × (wish head both ≡ true)))
 FailureCause before old now done last error kind.NoMemory = Unit {0}
 FailureCause before old now done last error _ = ⊥
 
 -- when a connection ends; `old` is the link's state before the poll that gave the end
 abbrev pub EndCause : LinkState → LinkState → LinkState → List Entry → Option Entry → End → Type 0
-EndCause before old now done last end.Finished = (last ≡ None) × (now.ended ≡ true)
+EndCause before old now done last end.Finished = AreAllDone before now done last × (now.ended ≡ true)
     × IfTold before.given now.given (λ since. ReadAll since done empty)
 EndCause before old now done last end.NotKept =
-    OfLast last (λ e. IsComplete before now done e × (is_short e ≡ false) × (e.keep ≡ false) × (e.body_error ≡ None))
-EndCause before old now done last end.Overread = ⊥
+    OfLast last (λ e. IsComplete before now done e × (is_short e ≡ false) × (e.body_error ≡ None)
+    × ((e.keep ≡ false) ⊎ (is_until_close e ≡ true)))
+EndCause before old now done last end.Overread =
+    OfLast last (λ e. IsDone before now done e × (e.left.pipelining ≡ false)
+    × IfTold before.given now.given (AfterRead (done ++ e ∷ []) (λ rest. 0 < length rest)))
 EndCause before old now done last (end.Failed error) = FailureCause before old now done last error error.kind
 
--- the application was not ready by itself: its job's count rose since the job that was there before
--- the poll, or, where a head was awaited then, since one that began in it
-abbrev pub PendedBy : {J : Type 0} → (J → Type 0) → (J → ℕ) → Stage J → Stage J → Type 0
-PendedBy begins pends (stage.Answer before) (stage.Answer job) = Rose (pends before) (pends job)
-PendedBy {J} begins pends stage.Head (stage.Answer job) = (before : J) × begins before × Rose (pends before) (pends job)
-PendedBy begins pends _ _ = ⊥
+-- a job that began in this poll was not ready by itself: its count rose since it began
+abbrev pub PendedNew : {J : Type 0} → (J → Type 0) → (J → ℕ) → Stage J → Type 0
+PendedNew {J} begins pends (stage.Answer job) = (before : J) × begins before × Rose (pends before) (pends job)
+PendedNew begins pends _ = ⊥
+
+-- the same of the job that was there before the poll, or, where a head was awaited then, of one that
+-- began in it
+abbrev pub PendedOn : {J : Type 0} → (J → Type 0) → (J → ℕ) → Stage J → Stage J → Type 0
+PendedOn begins pends (stage.Answer before) (stage.Answer job) = Rose (pends before) (pends job)
+PendedOn begins pends stage.Head to = PendedNew begins pends to
+PendedOn begins pends _ _ = ⊥
+
+-- the application was not ready by itself: with the exchange that was last, or with one that began
+-- in this poll; what has ended stays so
+pub record PendedBy {J : Type 0} (begins : J → Type 0) (pends : J → ℕ) (from to : List Entry) (before now : Stage J) : Type 0 where
+  pub longer : length from ≤ length to
+  pub same : length to ≡ length from → PendedOn begins pends before now
+  pub later : length from < length to → PendedNew begins pends now
 
 -- where the link tells its bytes, so many more were given and written
 abbrev pub ToldGrowth : Option (List ℕ) → Option (List ℕ) → Option (List ℕ) → Option (List ℕ) → ℕ → Type 0
@@ -112,18 +147,19 @@ ToldGrowth (Some given) (Some more) (Some written) (Some further) count =
 ToldGrowth given more written further count = Unit {0}
 
 -- when a poll waits
-abbrev pub WaitCause : {L A J : Type 0} → (J → Type 0) → (J → ℕ) → LinkState → LinkState → LinkState → View L A J → View L A J → Waiting → Type 0
+abbrev pub WaitCause : {L C A J : Type 0} → (J → Type 0) → (J → ℕ) → LinkState → LinkState → LinkState → View L C A J → View L C A J → Waiting → Type 0
 WaitCause begins pends before old now from to waiting.Read = Rose old.read_waits now.read_waits
-    × IfTold before.given now.given (λ since. LacksSo since to.done to.last)
+    × LacksSo before now to.done to.last
 WaitCause begins pends before old now from to waiting.Write = Rose old.write_waits now.write_waits
     × OfLast to.last (λ e. e.owed ≡ true)
-WaitCause begins pends before old now from to waiting.App = (now.read_waits ≡ old.read_waits)
-    × PendedBy begins pends from.stage to.stage
+WaitCause begins pends before old now from to waiting.App =
+    (now.read_waits + replies (entries from) ≤ old.read_waits + replies (entries to))
+    × PendedBy begins pends from.done to.done from.stage to.stage
 WaitCause begins pends before old now from to waiting.Budget = RoseBy 64 old.moves now.moves
     × ToldGrowth old.given now.given old.written now.written 64
 
 -- when each answer of a poll comes; `before` is the link's state since which bytes count
-abbrev pub Cause : {L A J : Type 0} → (L → LinkState) → (J → Type 0) → (J → ℕ) → LinkState → View L A J → View L A J → Progress → Type 0
+abbrev pub Cause : {L C A J : Type 0} → (L → LinkState) → (J → Type 0) → (J → ℕ) → LinkState → View L C A J → View L C A J → Progress → Type 0
 Cause state begins pends before from to (progress.Pending what) =
     (to.end ≡ None) × WaitCause begins pends before (state from.session.link) (state to.session.link) from to what
 Cause state begins pends before from to (progress.Ready reason) =

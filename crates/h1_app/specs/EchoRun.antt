@@ -19,14 +19,15 @@ pub record EchoRuns (gathered : List ℕ) (head : RequestView) (began now : Sett
   pub body : gathered ≡ payload
   pub settings : (now ≡ began) ⊎ (now ≡ echo_settings head began)
 
--- no read was pending or refused
-pub record ReadsAtOnce {L : Type 0} (state : L → LinkState) (old new : SessionView L) : Type 0 where
+-- no read was pending or refused, and each link call moved bytes
+pub record ReadsAtOnce {L C : Type 0} (state : L → LinkState) (old new : SessionView L C) : Type 0 where
   pub refused : new.body.refused ≡ old.body.refused
   pub waits : new.body.waits ≡ old.body.waits
   pub link_waits : (state new.link).read_waits ≡ (state old.link).read_waits
+  pub link_others : (state new.link).others ≡ (state old.link).others
 
 -- why the reading stopped, or that it goes on
-abbrev pub StopCause : {L : Type 0} → (L → LinkState) → SessionView L → SessionView L → Option Stopped → Type 0
+abbrev pub StopCause : {L C : Type 0} → (L → LinkState) → SessionView L C → SessionView L C → Option Stopped → Type 0
 StopCause state old new None = ReadsAtOnce state old new
 StopCause state old new (Some stopped.Whole) = (how_of new.body ≡ Whole) × (new.body.refused ≡ None)
 StopCause state old new (Some stopped.Refused) = (error : Error) × (new.body.refused ≡ Some error)
@@ -34,7 +35,7 @@ StopCause state old new (Some stopped.Waits) = new.body.waits ≡ true
 StopCause state old new (Some (stopped.Failed error)) = error.kind ≡ NoMemory
 
 -- what was gathered stays all that was read, unless there was no memory for it
-abbrev pub Gathers : {L : Type 0} → List ℕ → List ℕ → SessionView L → SessionView L → Option Stopped → Type 0
+abbrev pub Gathers : {L C : Type 0} → List ℕ → List ℕ → SessionView L C → SessionView L C → Option Stopped → Type 0
 Gathers before now old new (Some (stopped.Failed error)) = Unit {0}
 Gathers before now old new _ = before ≡ payload_of old → now ≡ payload_of new
 
@@ -49,7 +50,7 @@ IsStopOf error NoMemory stop = stop ≡ stopped.Failed error
 IsStopOf error _ stop = stop ≡ stopped.Refused
 
 -- the reading so far: no read was pending or refused, and what was read is gathered
-pub record Reading {L : Type 0} (state : L → LinkState) (before now : List ℕ) (old new : SessionView L) : Type 0 where
+pub record Reading {L C : Type 0} (state : L → LinkState) (before now : List ℕ) (old new : SessionView L C) : Type 0 where
   pub only : ReadsOnly state old new
   pub free : ReadsAtOnce state old new
   pub settings : new.settings ≡ old.settings

@@ -1,5 +1,5 @@
 -- One exchange: a request, what the application read of it, its reply and what was written.
-use Rattle.std.specs.Prelude.{◌≡◌, ℕ, ◌<◌, List, [], ◌∷◌, ◌++◌, length, Bool, true, false, ◌&&◌, not, nat_lt, Option, Some, None, IfSome, IsSome}
+use Rattle.std.specs.Prelude.{◌≡◌, ℕ, ◌<◌, ◌≤◌, List, [], ◌∷◌, ◌++◌, length, take, Bool, true, false, ◌&&◌, not, nat_lt, Option, Some, None, IfSome, IsSome}
 use Rattle.h1_head.specs.Views.{RequestView, ResponseView}
 use Rattle.h1_head.specs.Wish.{wish}
 use Rattle.h1_head.specs.Wire.{head_bytes, reply_head}
@@ -8,6 +8,7 @@ use Rattle.h1_body.specs.declared.framing.Framing.{Framing}
 use Rattle.h1_body.specs.declared.framing.Framing.TheVariants.{Counted, Chunked, UntilClose}
 use Rattle.h1_body.specs.Writer.{body_bytes}
 use Rattle.h1_body.specs.Framing.{out}
+use Rattle.h1_server.specs.Persistence.{has_reuses}
 use Rattle.h1_app.specs.declared.application.Reply.{Reply}
 use Rattle.h1_app.specs.declared.transcript.Entry.{Entry}
 use Rattle.h1_app.specs.declared.transcript.How.{How}
@@ -49,18 +50,18 @@ is_short e = short_of e.sent_head e.sent_body where
   short_of (Some head) None = false
   short_of (Some head) (Some sent) = short_by (out e.head.method head) (shown e.reply sent)
 
--- The flag of the reply to the request with this index (RFC 9112, section 9.3): the request wishes
--- it, keep-alive is not off, and the request's body is whole, or it may still be read.
+-- The flag of a reply (RFC 9112, section 9.3): the request wishes it, keep-alive is not off, requests
+-- are left, and the request's body is whole, or it may still be read.
 abbrev pub may_keep : Entry → Bool
-may_keep e = wish e.head e.both && not e.left.keep_off && may_follow e.how where
+may_keep e = wish e.head e.both && not e.left.keep_off && has_reuses e.left.reuses && may_follow e.how where
   may_follow : How → Bool
   may_follow Whole = true
   may_follow Open = not e.left.closing
   may_follow Failed = false
 
--- what the application was given when it replied
+-- what the application was given when it replied: the payload that it was handed, and no more
 abbrev pub given_to : Entry → RequestView → Given
-given_to e filtered = record { head = filtered; handed = e.body; how = e.how; body_error = e.body_error; began = e.began; left = e.left }
+given_to e filtered = record { head = filtered; handed = take e.handed e.body; how = e.how; body_error = e.body_error; began = e.began; left = e.left }
 
 -- the second of the Date and the flag that went with the header
 pub record IsDated (e : Entry) : Type 0 where
@@ -75,6 +76,6 @@ pub record IsAllowed (gives : Given → Reply → Type 0) (e : Entry) : Type 0 w
   pub reply : IfSome e.reply (λ reply. (e.filtered ≡ Some e.head) × gives (given_to e e.head) reply)
   pub sent_head : IfSome e.sent_head (λ header. (reply : Reply) × (e.reply ≡ Some reply) × (header ≡ reply.header) × IsLawful header × IsDated e)
   pub sent_body : IfSome e.sent_body (λ sent. (reply : Reply) × (e.reply ≡ Some reply) × (sent ≡ reply.body))
-  pub handed : e.handed ≡ length e.body
-  pub denied : wish e.head e.both ≡ false
+  pub handed : e.handed ≤ length e.body
+  pub reuses : e.left.reuses ≡ e.began.reuses
   pub owed : e.owed ≡ true → IsSome e.sent_head

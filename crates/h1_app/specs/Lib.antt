@@ -3,10 +3,12 @@ pub mod Stream
 pub mod Exchange
 pub mod View
 pub mod Behind
+pub mod Begun
 pub mod Since
 pub mod Sound
 pub mod Agrees
 pub mod Growth
+pub mod Waits
 pub mod Causes
 pub mod Turns
 pub mod Asking
@@ -15,3 +17,6 @@ pub mod EchoRun
 pub mod EchoLaw
 pub mod Gone
 pub mod Joins
+pub mod Persistent
+pub mod Complete
+pub mod Draining

@@ -1,5 +1,5 @@
 -- One step of a connection: what it moved, what stays, and why it stops.
-use Rattle.std.specs.Prelude.{◌≡◌, ℕ, ◌+◌, ◌-◌, ◌<◌, ◌≤◌, ◌⊎◌, List, Bool, true, Option, Some, None, option_map, IfSome}
+use Rattle.std.specs.Prelude.{◌≡◌, ℕ, ◌+◌, ◌-◌, ◌<◌, ◌≤◌, ◌*◌, ◌⊎◌, List, Bool, true, Option, Some, None, option_map, IfSome}
 use Rattle.h1_error.specs.declared.progress.Waiting.{Waiting}
 use Rattle.h1_error.specs.declared.progress.Waiting.TheVariants as waiting
 use Rattle.h1_link.specs.LinkState.{LinkState}
@@ -15,7 +15,7 @@ use Rattle.h1_app.specs.declared.exchange.Outcome.{Outcome}
 use Rattle.h1_app.specs.declared.exchange.Outcome.TheVariants as outcome
 use Rattle.h1_app.specs.Growth.{Grows, IsBegun}
 use Rattle.h1_app.specs.Causes.{EndCause, LacksSo, OfLast}
-use Rattle.h1_app.specs.Since.{Since, IfTold}
+use Rattle.h1_app.specs.Since.{Since}
 use Rattle.h1_app.specs.Sound.{SoundStage}
 
 -- the exchange that is last grows, or begins
@@ -26,23 +26,45 @@ ExtendsLast now shutdown before behind (Some old) None = ⊥
 ExtendsLast now shutdown before behind (Some old) (Some new) = Grows now before behind old new
 
 -- what was moved over the link, within the budget
-pub record Went {L : Type 0} (state : L → LinkState) (old new : SessionView L) : Type 0 where
+pub record Went {L C : Type 0} (state : L → LinkState) (old new : SessionView L C) : Type 0 where
   pub read : List ℕ
   pub wrote : List ℕ
   pub spent : ℕ
   pub moved : Moved (state old.link) (state new.link) read wrote spent
   pub budget : new.budget ≡ option_map (λ left. left - spent) old.budget
   pub within : IfSome old.budget (λ left. spent ≤ left)
+  -- what the caller keeps with the connection stays
+  pub context : new.context ≡ old.context
 
 -- how far an exchange is from its end
 abbrev pub rank : {J : Type 0} → Stage J → ℕ
-rank stage.Head = 6
-rank (stage.Answer job) = 5
-rank stage.TakeHeader = 4
-rank stage.Header = 3
-rank stage.TakeBody = 2
-rank stage.Body = 1
-rank stage.Finish = 0
+rank stage.Head = 8
+rank (stage.Answer job) = 7
+rank stage.TakeHeader = 6
+rank stage.Header = 5
+rank stage.TakeBody = 4
+rank stage.Body = 3
+rank stage.Finish = 2
+rank stage.Drain = 1
+rank stage.Next = 0
+
+-- Where a stage lies between one byte of a reply and the next: it goes down from step to step, but
+-- where a header is taken up and written, which spends of the budget.
+abbrev pub place : {J : Type 0} → Stage J → ℕ
+place stage.Header = 9
+place stage.TakeBody = 8
+place stage.Body = 7
+place stage.Finish = 6
+place stage.Drain = 5
+place stage.Next = 4
+place stage.Head = 3
+place (stage.Answer job) = 2
+place stage.TakeHeader = 1
+
+-- how many steps may follow in a poll at most
+abbrev pub ahead : {J : Type 0} → Option ℕ → Stage J → ℕ
+ahead None at = place at
+ahead (Some left) at = 10 * left + place at
 
 -- where the job of the stage comes from: it was there, or it began in this step
 abbrev pub JobFrom : {J : Type 0} → (J → Type 0) → (J → ℕ) → Stage J → Stage J → Type 0
@@ -55,19 +77,12 @@ abbrev pub JobPends : {J : Type 0} → (J → ℕ) → Stage J → Stage J → T
 JobPends pends (stage.Answer before) (stage.Answer job) = Rose (pends before) (pends job)
 JobPends pends _ _ = ⊥
 
--- how often reads of a step were not ready: once at most where a head is awaited or the application
--- reads, and never where a reply is written
-abbrev pub WaitsFew : {J : Type 0} → Stage J → ℕ → ℕ → Type 0
-WaitsFew stage.Head before now = now ≤ before + 1
-WaitsFew (stage.Answer job) before now = now ≤ before + 1
-WaitsFew _ before now = now ≡ before
-
 -- why a step stops; `before` is the link's state since which bytes count, and `done` are the exchanges
 -- in front of the last
-abbrev pub WaitsOn : {L J : Type 0} → (L → LinkState) → (J → ℕ) → SessionView L → SessionView L → Option Entry → Stage J → Stage J → Waiting → Type 0
+abbrev pub WaitsOn : {L C J : Type 0} → (L → LinkState) → (J → ℕ) → SessionView L C → SessionView L C → Option Entry → Stage J → Stage J → Waiting → Type 0
 WaitsOn state pends old new last from to waiting.Read =
     (Rose (state old.link).read_waits (state new.link).read_waits ⊎ (new.budget ≡ Some 0))
-    × ((before : LinkState) (done : List Entry) → Since state before new done last → IfTold before.given (state new.link).given (λ since. LacksSo since done last))
+    × ((before : LinkState) (done : List Entry) → Since state before new done last → LacksSo before (state new.link) done last)
 WaitsOn state pends old new last from to waiting.Write =
     (Rose (state old.link).write_waits (state new.link).write_waits ⊎ (new.budget ≡ Some 0))
     × OfLast last (λ e. e.owed ≡ true)
@@ -75,15 +90,9 @@ WaitsOn state pends old new last from to waiting.App =
     ((state new.link).read_waits ≡ (state old.link).read_waits) × JobPends pends from to
 WaitsOn state pends old new last from to waiting.Budget = ⊥
 
--- what holds where the application is asked next
-abbrev pub IfAnswering : {J : Type 0} → Stage J → Type 0 → Type 0
-IfAnswering (stage.Answer job) P = P
-IfAnswering _ P = Unit {0}
-
-abbrev pub OutcomeCause : {L J : Type 0} → (L → LinkState) → (J → ℕ) → (J → RequestView → Settings → Settings → List ℕ → Type 0) → SessionView L → SessionView L → Option Entry → Stage J → Stage J → Outcome → Type 0
+abbrev pub OutcomeCause : {L C J : Type 0} → (L → LinkState) → (J → ℕ) → (J → RequestView → Settings → Settings → List ℕ → Type 0) → SessionView L C → SessionView L C → Option Entry → Stage J → Stage J → Outcome → Type 0
 OutcomeCause state pends runs old new last from to outcome.Done =
-    SoundStage runs new last to × (rank to < rank from)
-    × IfAnswering to ((state new.link).read_waits ≡ (state old.link).read_waits)
+    SoundStage runs new last to × (rank to < rank from) × (ahead new.budget to < ahead old.budget from)
 OutcomeCause state pends runs old new last from to (outcome.Waits what) =
     SoundStage runs new last to × WaitsOn state pends old new last from to what
 OutcomeCause state pends runs old new last from to (outcome.Ends reason) =

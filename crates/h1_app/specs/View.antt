@@ -1,14 +1,17 @@
 -- What contracts see of a connection.
-use Rattle.std.specs.Prelude.{◌≡◌, List, [], ◌++◌, option_to_list, Option, None}
+use Rattle.std.specs.Prelude.{◌≡◌, ℕ, List, [], ◌++◌, option_to_list, Option, Some, None}
 use Rattle.h1_error.specs.declared.progress.End.{End}
 use Rattle.h1_server.specs.SessionView.{SessionView}
 use Rattle.h1_app.specs.declared.transcript.Entry.{Entry}
 use Rattle.h1_app.specs.declared.transcript.Transcript.{Transcript}
 use Rattle.h1_app.specs.declared.exchange.Stage.{Stage}
+use Rattle.h1_app.specs.declared.options.HttpServerOptions.{HttpServerOptions}
 
-pub record View (L A J : Type 0) : Type 0 where
-  pub session : SessionView L
+pub record View (L C A J : Type 0) : Type 0 where
+  pub session : SessionView L C
   pub app : A
+  -- how many requests more than the first may be served; none is no limit
+  pub limit : Option ℕ
   -- every exchange but the last
   pub done : List Entry
   pub last : Option Entry
@@ -16,17 +19,23 @@ pub record View (L A J : Type 0) : Type 0 where
   pub end : Option End
 
 -- the transcript
-abbrev pub entries : {L A J : Type 0} → View L A J → List Entry
+abbrev pub entries : {L C A J : Type 0} → View L C A J → List Entry
 entries view = view.done ++ option_to_list view.last
 
 -- the transcript as it is kept
 abbrev pub transcript_entries : Transcript → List Entry
 transcript_entries transcript = transcript.done.items ++ option_to_list transcript.last
 
+-- the limit that is set on a server
+abbrev pub limit_of : Option HttpServerOptions → Option ℕ
+limit_of None = None
+limit_of (Some options) = options.keepalive_request_limit
+
 -- a connection that read and wrote nothing yet
-pub record IsNewConnection {L A J : Type 0} (application : A) (start : L) (made : View L A J) : Type 0 where
+pub record IsNewConnection {L C A J : Type 0} (application : A) (options : Option HttpServerOptions) (start : L) (made : View L C A J) : Type 0 where
   pub link : made.session.link ≡ start
   pub app : made.app ≡ application
+  pub limit : made.limit ≡ limit_of options
   pub done : made.done ≡ []
   pub last : made.last ≡ None
   pub end : made.end ≡ None

@@ -1,10 +1,10 @@
 //! The connection: it moves an exchange on, step by step.
-ghost use Rattle.std.specs.Prelude.{[], ◌≡◌, ◌<◌, ◌≤◌, ◌+◌, IfOk, IfSome, IfNone, IsSome, IsOkAnd, None, Some};
+ghost use Rattle.std.specs.Prelude.{[], ◌≡◌, ◌<◌, ◌≤◌, ◌+◌, ◌*◌, length, IfOk, IfSome, IfNone, IsSome, IsOkAnd, None, Some};
 ghost use Rattle.h1_error.specs.declared.progress.Progress.TheVariants as answer;
 ghost use Rattle.h1_app.specs.Gone.{outcome_end};
 
 use crate::exchange::{Outcome, Stage};
-use crate::steps::step;
+use crate::steps::{next_exchange, step};
 use crate::{HttpServer, ServeHttp, Transcript};
 use h1_error::{End, Error, Progress, Waiting};
 use h1_link::Link;
@@ -30,15 +30,15 @@ pub struct Connection<L: Link + Drop, SV: ServeHttp<L, C> + Drop, B: Drop, C: Dr
 impl<L: Link + Drop, SV: ServeHttp<L, C> + Drop, B: Drop, C: Drop> Model
     for Connection<L, SV, B, C> {
     ghost use Rattle.std.specs.Arc.{arc_value};
-    ghost use Rattle.h1_app.specs.View.{View};
+    ghost use Rattle.h1_app.specs.View.{View, limit_of};
 
-    ghost Value = { View L SV SV.Job };
+    ghost Value = { View L C SV SV.Job };
 
     ghost use Rattle.h1_app.specs.Sound.{Sound};
 
-    ghost view = { λ c. record { session = c.session; app = (arc_value c.server).app; done = c.transcript.done.items; last = c.transcript.last; stage = c.stage; end = c.end } };
+    ghost view = { λ c. record { session = c.session; app = (arc_value c.server).app; limit = limit_of (arc_value c.server).server_options; done = c.transcript.done.items; last = c.transcript.last; stage = c.stage; end = c.end } };
 
-    ghost invariant = { λ c. Sound (SV.gives (arc_value c.server).app) (SV.runs (arc_value c.server).app) c.session c.transcript.done.items c.transcript.last c.stage c.end };
+    ghost invariant = { λ c. Sound (SV.gives (arc_value c.server).app) (SV.runs (arc_value c.server).app) (limit_of (arc_value c.server).server_options) c.session c.transcript.done.items c.transcript.last c.stage c.end };
 }
 
 impl<L: Link + Drop, SV: ServeHttp<L, C> + Drop, B: Drop, C: Drop> Connection<L, SV, B, C> {
@@ -50,20 +50,22 @@ impl<L: Link + Drop, SV: ServeHttp<L, C> + Drop, B: Drop, C: Drop> Connection<L,
     ghost use Rattle.h1_app.specs.Since.{Since};
     ghost use Rattle.h1_app.specs.Agrees.{Agrees};
     ghost use Rattle.h1_app.specs.Growth.{Extends};
-    ghost use Rattle.h1_app.specs.Turns.{WaitsFew};
+    ghost use Rattle.h1_app.specs.Waits.{WaitsFew, replies};
     ghost use Rattle.h1_app.specs.Causes.{Cause};
     ghost use Rattle.h1_app.specs.Sound.{Sound};
-    ghost use Rattle.h1_app.specs.Gone.{Gone, TurnCause, outcome_end, waiting_for};
+    ghost use Rattle.h1_app.specs.Gone.{Gone, TurnCause, TurnOthers, outcome_end, waiting_for};
 
     /// A connection of this server over a link.
     pub fn new(alloc: Global, server: Arc<HttpServer<SV, B>>, link: L) -> Result<Self, Error>
-        ensures fresh { IsOkAnd result (IsNewConnection (arc_value server).app link) }
+        ensures fresh { IsOkAnd result (IsNewConnection (arc_value server).app (arc_value server).server_options link) }
         ensures since { IfOk result (λ made. Since L.state (L.state link) made.session made.done made.last) }
     {
+        let mut session = HttpSession::new(alloc, link)?;
+        session.set_keepalive_reuses_remaining(server.request_limit());
         Ok(Connection {
             alloc,
             server,
-            session: HttpSession::new(alloc, link)?,
+            session,
             transcript: Transcript::new(alloc),
             stage: Stage::Head,
             end: None,
@@ -71,20 +73,22 @@ impl<L: Link + Drop, SV: ServeHttp<L, C> + Drop, B: Drop, C: Drop> Connection<L,
     }
 
     /// Moves the connection on, until it has ended or has to wait. `now` is milliseconds since the
-    /// epoch and never falls; with `shutdown` a reply to a head that becomes whole in this poll
-    /// closes the connection.
+    /// epoch and never falls; with `shutdown` a request whose head becomes whole in this poll begins
+    /// with keep-alive off, and is the last unless the application turns it on.
     pub fn poll(&mut self, now: u64, shutdown: bool) -> Progress
         requires { now < 253_402_300_800_000 }
-        ensures app { self.new.app ≡ self.old.app }
+        ensures app { (self.new.app ≡ self.old.app) × (self.new.limit ≡ self.old.limit) }
         ensures later { Later (L.state self.old.session.link) (L.state self.new.session.link) }
         ensures plan { L.same_plan self.old.session.link self.new.session.link }
+        ensures context { self.new.session.context ≡ self.old.session.context }
         ensures since { (before : LinkState) → Since L.state before self.old.session self.old.done self.old.last
             → Since L.state before self.new.session self.new.done self.new.last }
         ensures agrees { (before : LinkState) → Since L.state before self.old.session self.old.done self.old.last
-            → Agrees (SV.gives self.new.app) before (L.state self.new.session.link) (entries self.new) }
+            → Agrees (SV.gives self.new.app) self.new.limit before (L.state self.new.session.link) (entries self.new) }
         ensures extends { Extends now shutdown (L.state self.old.session.link) (L.state self.new.session.link) (entries self.old) (entries self.new) }
         ensures most { (L.state self.new.session.link).moves ≤ (L.state self.old.session.link).moves + 64 }
-        ensures few { (L.state self.new.session.link).read_waits ≤ (L.state self.old.session.link).read_waits + 1 }
+        ensures few { (L.state self.new.session.link).read_waits + replies (entries self.old) ≤ (L.state self.old.session.link).read_waits + replies (entries self.new) + 1 }
+        ensures others { (L.state self.new.session.link).others + 3 * length self.old.done ≤ (L.state self.old.session.link).others + 3 * length (entries self.new) + 1 }
         ensures ended { IfSome self.old.end (λ reason. (result ≡ answer.Ready reason) × (self.new ≡ self.old)) }
         ensures cause { IfNone self.old.end ((before : LinkState) → Since L.state before self.old.session self.old.done self.old.last
             → Cause L.state SV.begins SV.pends before self.old self.new result) }
@@ -102,8 +106,9 @@ impl<L: Link + Drop, SV: ServeHttp<L, C> + Drop, B: Drop, C: Drop> Connection<L,
         requires budget { self.old.session.budget ≡ Some 64 }
         requires moment { now < 253_402_300_800_000 }
         ensures gone { Gone L.state SV.begins SV.pends L.same_plan now shutdown self.old self.new }
-        ensures sound { Sound (SV.gives self.new.app) (SV.runs self.new.app) self.new.session self.new.done self.new.last self.new.stage self.new.end }
-        ensures few { (L.state self.new.session.link).read_waits ≤ (L.state self.old.session.link).read_waits + 1 }
+        ensures sound { Sound (SV.gives self.new.app) (SV.runs self.new.app) self.new.limit self.new.session self.new.done self.new.last self.new.stage self.new.end }
+        ensures few { (L.state self.new.session.link).read_waits + replies (entries self.old) ≤ (L.state self.old.session.link).read_waits + replies (entries self.new) + 1 }
+        ensures others { (L.state self.new.session.link).others + 3 * length self.old.done ≤ (L.state self.old.session.link).others + 3 * length (entries self.new) + 1 }
         ensures cause { (before : LinkState) → Since L.state before self.old.session self.old.done self.old.last
             → Cause L.state SV.begins SV.pends before self.old self.new result }
     {
@@ -116,26 +121,31 @@ impl<L: Link + Drop, SV: ServeHttp<L, C> + Drop, B: Drop, C: Drop> Connection<L,
         }
     }
 
-    // One step. Where it ends the connection, the connection keeps the end.
+    // One step of the last exchange, or from it to the next. Where it ends the connection, the
+    // connection keeps the end.
     fn turn(&mut self, now: u64, shutdown: bool) -> Outcome
         requires alive { self.old.end ≡ None }
         requires budget { IsSome self.old.session.budget }
         requires moment { now < 253_402_300_800_000 }
         ensures gone { Gone L.state SV.begins SV.pends L.same_plan now shutdown self.old self.new }
-        ensures sound { Sound (SV.gives self.new.app) (SV.runs self.new.app) self.new.session self.new.done self.new.last self.new.stage self.new.end }
+        ensures sound { Sound (SV.gives self.new.app) (SV.runs self.new.app) self.new.limit self.new.session self.new.done self.new.last self.new.stage self.new.end }
         ensures end { self.new.end ≡ outcome_end result }
-        ensures few { WaitsFew self.old.stage (L.state self.old.session.link).read_waits (L.state self.new.session.link).read_waits }
-        ensures outcome { TurnCause L.state SV.pends self.old.session self.new.session self.new.last self.old.stage self.new.stage result }
+        ensures few { WaitsFew (L.state self.old.session.link) (L.state self.new.session.link) (entries self.old) (entries self.new) result }
+        ensures others { TurnOthers L.state self.old self.new result }
+        ensures outcome { TurnCause L.state SV.pends self.old self.new result }
     {
-        let outcome = step(
-            self.alloc,
-            &self.server,
-            &mut self.session,
-            &mut self.transcript.last,
-            &mut self.stage,
-            now,
-            shutdown,
-        );
+        let outcome = match self.stage {
+            Stage::Next => next_exchange(&mut self.session, &mut self.transcript, &mut self.stage),
+            _ => step(
+                self.alloc,
+                &self.server,
+                &mut self.session,
+                &mut self.transcript.last,
+                &mut self.stage,
+                now,
+                shutdown,
+            ),
+        };
         self.end = end_of(outcome);
         outcome
     }

@@ -18,6 +18,10 @@ pub enum Stage<J> {
     Body,
     /// The end of the body is to be written and flushed.
     Finish,
+    /// The rest of the request's body is to be read.
+    Drain,
+    /// The exchange is over, and the next one begins.
+    Next,
 }
 
 /// What one step of an exchange comes to.

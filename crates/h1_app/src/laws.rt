@@ -1,17 +1,63 @@
 //! Laws of connections, each the contract of a function that does nothing (RFC 9112, section 9.3.2).
-ghost use Rattle.std.specs.Prelude.{List, [], ◌∷◌, ◌++◌, Some, None};
+ghost use Rattle.std.specs.Prelude.{◌≡◌, ℕ, List, [], ◌∷◌, ◌++◌, length, Option, Some, None, option_map, option_to_list};
+ghost use Rattle.std.specs.List.{AllByRecursion};
+ghost use Rattle.h1_error.specs.declared.progress.End.{End};
+ghost use Rattle.h1_error.specs.declared.progress.Waiting.{Waiting};
+ghost use Rattle.h1_error.specs.declared.progress.Waiting.TheVariants as waiting;
+ghost use Rattle.h1_error.specs.declared.progress.Progress.TheVariants as progress;
+ghost use Rattle.h1_link.specs.Counts.{Rose, RoseBy};
 ghost use Rattle.h1_link.specs.LinkState.{LinkState};
-ghost use Rattle.h1_server.specs.SessionView.{SessionView};
+ghost use Rattle.bytes.specs.Filled.{Filled};
+ghost use Rattle.h1_server.specs.Reuse.{prefix_of};
+ghost use Rattle.h1_server.specs.SessionView.{SessionView, IsNewSession};
 ghost use Rattle.h1_app.specs.declared.transcript.Entry.{Entry};
+ghost use Rattle.h1_app.specs.declared.reused.HttpPersistentSettings.{HttpPersistentSettings};
+ghost use Rattle.h1_app.specs.Persistent.{applied, with_prefix};
 ghost use Rattle.h1_app.specs.Joins.{IsEnded, IsRestarted};
 ghost use Rattle.h1_app.specs.Since.{Since};
+ghost use Rattle.h1_app.specs.Agrees.{Agrees};
+ghost use Rattle.h1_app.specs.Causes.{Cause, EndCause, PendedBy};
+ghost use Rattle.h1_app.specs.Complete.{IsValid, GaveOf, AreWithin, NoFault, KeepsOn, ServesAll};
+ghost use Rattle.h1_app.specs.Stream.{Message};
+ghost use Rattle.h1_app.specs.View.{View};
 
+use crate::ServeHttp;
 use h1_link::Link;
 
 /// Behind an exchange whose request was read whole and whose reply was written whole, the bytes that
 /// were received and not used are the input of the next one, and nothing is owed any more.
-pub fn the_next_exchange_begins_behind_the_last<L: Link>()
-    ensures { (before : LinkState) (old new : SessionView L) → (done : List Entry) (e : Entry)
-        → IsEnded L.state old e → IsRestarted old new
+pub fn the_next_exchange_begins_behind_the_last<L: Link, C>()
+    ensures { (before : LinkState) (old new : SessionView L C) (done : List Entry) (e : Entry)
+        → IsEnded old e → IsRestarted old new
         → Since L.state before old done (Some e) → Since L.state before new (done ++ e ∷ []) None }
+{}
+
+/// A link that is handed on with what was received holds the input behind the request: a new session
+/// that is set so goes on where the last one stood.
+pub fn a_link_that_is_handed_on_goes_on<L: Link, C>()
+    ensures { (old fresh : SessionView L C) (prefix : Option Filled) (settings : HttpPersistentSettings C)
+        → IsNewSession old.link fresh → option_map (λ bytes. bytes.items) prefix ≡ prefix_of old.received
+        → settings.pipelined_prefix ≡ None → IsRestarted old (applied (with_prefix settings prefix) fresh) }
+{}
+
+/// Valid input is served: where the application keeps the connection, the limit allows so many
+/// requests and no call of the link failed, every end is that of a connection whose requests were
+/// all served, or want of memory.
+pub fn valid_input_is_served<L: Link + Drop, SV: ServeHttp<L, C> + Drop, C: Drop>()
+    ensures { (app : SV) (limit : Option ℕ) (before old now : LinkState) (input : List ℕ) (requests : List Message)
+        → (done : List Entry) (last : Option Entry) (reason : End)
+        → IsValid input requests → GaveOf input before now → AreWithin limit (length requests) → NoFault old now
+        → Agrees (SV.gives app) limit before now (done ++ option_to_list last) → AllByRecursion KeepsOn (done ++ option_to_list last)
+        → EndCause before old now done last reason → ServesAll before now requests done last reason }
+{}
+
+/// A poll that met nothing that wasn't ready, in the link or in the application, waits for its budget
+/// alone: it moved at least 64 bytes.
+pub fn only_the_budget_is_awaited<L: Link + Drop, SV: ServeHttp<L, C> + Drop, C: Drop>()
+    ensures { (before : LinkState) (from to : View L C SV SV.Job) (what : Waiting)
+        → Cause L.state SV.begins SV.pends before from to (progress.Pending what)
+        → (Rose (L.state from.session.link).read_waits (L.state to.session.link).read_waits → ⊥)
+        → (Rose (L.state from.session.link).write_waits (L.state to.session.link).write_waits → ⊥)
+        → (PendedBy SV.begins SV.pends from.done to.done from.stage to.stage → ⊥)
+        → (what ≡ waiting.Budget) × RoseBy 64 (L.state from.session.link).moves (L.state to.session.link).moves }
 {}

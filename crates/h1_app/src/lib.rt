@@ -1,8 +1,9 @@
-//! The connection: an application behind a link, and one exchange over it (RFC 9112).
+//! The connection: an application behind a link, and one exchange behind the other over it
+//! (RFC 9112).
 //!
-//! A [`Connection`] reads a request, lets the application read its body and reply, and writes the
-//! reply. It keeps a transcript of what it read and wrote, and its contracts tie the transcript to
-//! the bytes of the link.
+//! A [`Connection`] reads a request, lets the application read its body and reply, writes the reply
+//! and goes on with the next request. It keeps a transcript of what it read and wrote, and its
+//! contracts tie the transcript to the bytes of the link.
 #![tactic(auto)]
 
 mod application;
@@ -10,6 +11,8 @@ mod connection;
 mod echo;
 mod exchange;
 mod laws;
+mod options;
+mod reused;
 mod server;
 mod steps;
 mod transcript;
@@ -21,8 +24,13 @@ pub use exchange::{Outcome, Stage};
 pub use h1_body::BodyBytes;
 pub use h1_error::{End, Error, ErrorType, HeadFault, Progress, Waiting};
 pub use h1_server::HttpSession;
-pub use laws::the_next_exchange_begins_behind_the_last;
-pub use server::{HttpServer, NoModules};
+pub use laws::{
+    a_link_that_is_handed_on_goes_on, only_the_budget_is_awaited,
+    the_next_exchange_begins_behind_the_last, valid_input_is_served,
+};
+pub use options::HttpServerOptions;
+pub use reused::{HttpPersistentSettings, ReusedHttpStream};
+pub use server::{HttpServer, HttpServerApp, NoModules, Plain};
 pub use transcript::{Entry, How, Transcript};
 
 #[cfg(test)]

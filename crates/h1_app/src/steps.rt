@@ -1,21 +1,26 @@
 //! The steps of an exchange: each makes the calls of one stage.
-ghost use Rattle.std.specs.Prelude.{◌≡◌, List, ◌<◌, IsSome, IfSome};
+ghost use Rattle.std.specs.Prelude.{◌≡◌, List, ◌<◌, IsSome, IfSome, option_to_list};
 ghost use Rattle.h1_link.specs.LinkState.{LinkState};
 ghost use Rattle.h1_app.specs.Application.{LawfulReplies};
 ghost use Rattle.h1_app.specs.Exchange.{IsAllowed};
 ghost use Rattle.h1_app.specs.declared.transcript.Entry.{Entry};
 ghost use Rattle.h1_app.specs.Since.{Since};
-ghost use Rattle.h1_app.specs.Sound.{SoundStage, IsKept};
-ghost use Rattle.h1_app.specs.Turns.{Went, JobFrom, WaitsFew, OutcomeCause, ExtendsLast};
+ghost use Rattle.h1_app.specs.Sound.{SoundStage, IsKept, NotOver};
+ghost use Rattle.h1_app.specs.Begun.{BeginsWith};
+ghost use Rattle.h1_app.specs.Waits.{WaitsFew, OthersFew};
+ghost use Rattle.h1_app.specs.Turns.{Went, JobFrom, OutcomeCause, ExtendsLast};
 
 mod answering;
 mod asking;
+mod draining;
+mod joining;
 mod replying;
 
 use crate::exchange::{Outcome, Stage};
 use crate::{Entry, HttpServer, ServeHttp};
 use h1_link::Link;
 use h1_server::HttpSession;
+pub(crate) use joining::next_exchange;
 use std::alloc::Global;
 
 /// Makes one step: the calls of the stage at which the exchange stands.
@@ -39,6 +44,7 @@ where
     requires lawful { LawfulReplies (SV.gives server.now.app) }
     requires budget { IsSome session.old.budget }
     requires moment { now < 253_402_300_800_000 }
+    requires unfinished { NotOver stage.old }
     ensures went { Went L.state session.old session.new }
     ensures plan { L.same_plan session.old.link session.new.link }
     ensures since { (before : LinkState) (done : List Entry) → Since L.state before session.old done last.old → Since L.state before session.new done last.new }
@@ -46,7 +52,9 @@ where
     ensures kept { IfSome last.new (IsKept session.new) }
     ensures extends { ExtendsLast now shutdown (L.state session.old.link) (L.state session.new.link) last.old last.new }
     ensures job { JobFrom SV.begins SV.pends stage.old stage.new }
-    ensures few { WaitsFew stage.old (L.state session.old.link).read_waits (L.state session.new.link).read_waits }
+    ensures begins { BeginsWith session.old.settings session.new.settings last.old last.new }
+    ensures few { WaitsFew (L.state session.old.link) (L.state session.new.link) (option_to_list last.old) (option_to_list last.new) result }
+    ensures others { OthersFew (L.state session.old.link) (L.state session.new.link) stage.old stage.new result }
     ensures outcome { OutcomeCause L.state SV.pends (SV.runs server.now.app) session.old session.new last.new stage.old stage.new result }
 {
     match stage {
@@ -57,5 +65,7 @@ where
         Stage::TakeBody => replying::take_body(alloc, server, session, last, stage, now),
         Stage::Body => replying::write_body(server, session, last, stage, now),
         Stage::Finish => replying::finish(server, session, last, stage, now),
+        Stage::Drain => draining::drain(alloc, server, session, last, stage, now),
+        Stage::Next => unreachable!(),
     }
 }

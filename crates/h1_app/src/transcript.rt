@@ -1,10 +1,11 @@
 //! What a connection read and wrote, exchange by exchange.
-ghost use Rattle.std.specs.Prelude.{◌≡◌, ◌<◌, [], None, length, slice_get};
+ghost use Rattle.std.specs.Prelude.{◌≡◌, ◌<◌, ◌++◌, [], None, IsSome, OnOk, OnErr, IfErr, length, slice_get, option_to_list};
+ghost use Rattle.h1_error.specs.declared.error.ErrorType.TheVariants.{NoMemory};
 ghost use Rattle.std.specs.Option.{option_copied};
 
 use crate::Reply;
 use h1_body::BodyBytes;
-use h1_error::Error;
+use h1_error::{Error, ErrorType};
 use h1_head::{RequestHeader, ResponseHeader};
 use h1_server::Settings;
 use std::alloc::Global;
@@ -69,6 +70,25 @@ impl Transcript {
         Transcript {
             done: Vec::new(alloc),
             last: None,
+        }
+    }
+
+    /// The last exchange joins those that ended.
+    pub(crate) fn end_last(&mut self) -> Result<(), Error>
+        requires { IsSome self.old.last }
+        ensures ok { OnOk result ((self.new.done.items ≡ self.old.done.items ++ option_to_list self.old.last) × (self.new.last ≡ None)) }
+        ensures err { OnErr result ((self.new.done.items ≡ self.old.done.items) × (self.new.last ≡ self.old.last)) }
+        ensures memory { IfErr result (λ error. error.kind ≡ NoMemory) }
+    {
+        let Some(entry) = self.last.take() else {
+            unreachable!()
+        };
+        match self.done.push(entry) {
+            Ok(()) => Ok(()),
+            Err(failed) => {
+                self.last = Some(failed.value);
+                Err(Error::from(ErrorType::NoMemory))
+            }
         }
     }
 

@@ -1,5 +1,5 @@
 //! The application runs, until it has replied.
-ghost use Rattle.std.specs.Prelude.{◌≡◌, List, ◌+◌, Bool, ◌<◌, ◌≤◌, IsSome, IfSome, None, Some};
+ghost use Rattle.std.specs.Prelude.{◌≡◌, List, ◌+◌, Bool, ◌<◌, ◌≤◌, IsSome, IfSome, None, Some, option_to_list};
 ghost use Rattle.h1_link.specs.LinkState.{LinkState};
 ghost use Rattle.h1_app.specs.Exchange.{IsAllowed};
 ghost use Rattle.h1_app.specs.declared.transcript.Entry.{Entry};
@@ -11,6 +11,7 @@ ghost use Rattle.h1_app.specs.Exchange.{given_to};
 ghost use Rattle.h1_app.specs.Sound.{SoundStage, IsKept, IsAnswerStage};
 ghost use Rattle.h1_app.specs.Asking.{AsksAs, RunsOn, GivesAsked, PendsAsked, IsAskedOf, noted};
 ghost use Rattle.h1_app.specs.Turns.{Went, JobFrom, OutcomeCause, ExtendsLast};
+ghost use Rattle.h1_app.specs.Waits.{WaitsFew, OthersFew};
 
 use crate::exchange::{Outcome, Stage};
 use crate::{Entry, How, HttpServer, Reply, ServeHttp};
@@ -49,7 +50,8 @@ where
     ensures kept { IfSome last.new (IsKept session.new) }
     ensures extends { (shutdown : Bool) → ExtendsLast now shutdown (L.state session.old.link) (L.state session.new.link) last.old last.new }
     ensures job { JobFrom SV.begins SV.pends stage.old stage.new }
-    ensures few { (L.state session.new.link).read_waits ≤ (L.state session.old.link).read_waits + 1 }
+    ensures few { WaitsFew (L.state session.old.link) (L.state session.new.link) (option_to_list last.old) (option_to_list last.new) result }
+    ensures others { OthersFew (L.state session.old.link) (L.state session.new.link) stage.old stage.new result }
     ensures outcome { OutcomeCause L.state SV.pends (SV.runs server.now.app) session.old session.new last.new stage.old stage.new result }
 {
     let Some(entry) = last else { unreachable!() };

@@ -1,5 +1,5 @@
 //! A head is awaited; with it the exchange begins.
-ghost use Rattle.std.specs.Prelude.{◌≡◌, List, ◌≤◌, ◌+◌, ◌<◌, IsSome, IfSome, IfOk, IfErr, None, Some};
+ghost use Rattle.std.specs.Prelude.{◌≡◌, List, ◌≤◌, ◌+◌, ◌<◌, IsSome, IfSome, IfOk, IfErr, None, Some, option_to_list};
 ghost use Rattle.h1_error.specs.declared.error.ErrorType.TheVariants.{NoMemory};
 ghost use Rattle.h1_link.specs.LinkState.{LinkState};
 ghost use Rattle.h1_app.specs.Exchange.{IsAllowed};
@@ -7,14 +7,16 @@ ghost use Rattle.h1_app.specs.declared.transcript.Entry.{Entry};
 ghost use Rattle.h1_app.specs.Since.{Since};
 ghost use Rattle.h1_server.specs.Keepalive.{keepalive_set};
 ghost use Rattle.h1_app.specs.Sound.{SoundStage, IsKept, IsNewEntry, BegunAs, head_time};
+ghost use Rattle.h1_app.specs.Begun.{BeginsWith};
 ghost use Rattle.h1_app.specs.Turns.{Went, JobFrom, OutcomeCause, ExtendsLast};
+ghost use Rattle.h1_app.specs.Waits.{WaitsFew, OthersFew};
 ghost use Rattle.h1_app.specs.declared.exchange.Stage.TheVariants as at;
 
 use crate::exchange::{Outcome, Stage};
 use crate::{Entry, How, HttpServer, ServeHttp};
 use futures::task::Poll;
 use h1_body::BodyBytes;
-use h1_error::{End, Error, ErrorType, Waiting};
+use h1_error::{End, Error, Waiting};
 use h1_link::Link;
 use h1_server::{HttpSession, ReadRequest, Request, Settings};
 use std::alloc::Global;
@@ -47,7 +49,9 @@ where
     ensures kept { IfSome last.new (IsKept session.new) }
     ensures extends { ExtendsLast now shutdown (L.state session.old.link) (L.state session.new.link) last.old last.new }
     ensures job { JobFrom SV.begins SV.pends stage.old stage.new }
-    ensures few { (L.state session.new.link).read_waits ≤ (L.state session.old.link).read_waits + 1 }
+    ensures begins { BeginsWith session.old.settings session.new.settings last.old last.new }
+    ensures few { WaitsFew (L.state session.old.link) (L.state session.new.link) (option_to_list last.old) (option_to_list last.new) result }
+    ensures others { OthersFew (L.state session.old.link) (L.state session.new.link) stage.old stage.new result }
     ensures outcome { OutcomeCause L.state SV.pends (SV.runs server.now.app) session.old session.new last.new stage.old stage.new result }
 {
     match session.poll_read_request(now) {
@@ -85,9 +89,6 @@ where
     let Some(request) = session.request() else {
         unreachable!()
     };
-    if request.wish {
-        return Outcome::Ends(End::Failed(Error::from(ErrorType::NotBuilt)));
-    }
     let entry = match new_entry(alloc, request, settings) {
         Ok(entry) => entry,
         Err(error) => return Outcome::Ends(End::Failed(error)),

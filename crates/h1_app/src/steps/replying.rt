@@ -10,6 +10,7 @@ ghost use Rattle.h1_app.specs.Since.{Since};
 ghost use Rattle.h1_app.specs.Application.{LawfulReplies};
 ghost use Rattle.h1_app.specs.Sound.{SoundStage, IsKept, IsPieceOf, failure_of};
 ghost use Rattle.h1_app.specs.Turns.{Went, JobFrom, OutcomeCause, ExtendsLast};
+ghost use Rattle.h1_app.specs.Waits.{OthersFew};
 
 use crate::exchange::{Outcome, Stage};
 use crate::{Entry, HttpServer, ServeHttp};
@@ -50,6 +51,7 @@ where
     ensures extends { (shutdown : Bool) → ExtendsLast now shutdown (L.state session.old.link) (L.state session.new.link) last.old last.new }
     ensures job { JobFrom SV.begins SV.pends stage.old stage.new }
     ensures few { (L.state session.new.link).read_waits ≡ (L.state session.old.link).read_waits }
+    ensures others { OthersFew (L.state session.old.link) (L.state session.new.link) stage.old stage.new result }
     ensures outcome { OutcomeCause L.state SV.pends (SV.runs server.now.app) session.old session.new last.new stage.old stage.new result }
 {
     let Some(entry) = last else { unreachable!() };
@@ -57,38 +59,23 @@ where
         Ok(headers) => headers,
         Err(error) => return Outcome::Ends(End::Failed(error)),
     };
-    match session.poll_write_response_header(&mut header, now) {
+    let answer = session.poll_write_response_header(&mut header, now);
+    let keep = session.reply_keeps();
+    let written = session.written_bytes();
+    match answer {
         Poll::Pending => {
-            note_header(
-                entry,
-                sent,
-                now,
-                session.reply_keeps(),
-                session.written_bytes(),
-            );
+            note_header(entry, sent, now, keep, written);
             *stage = Stage::Header;
             Outcome::Waits(Waiting::Write)
         }
         Poll::Ready(Ok(())) => {
-            note_header(
-                entry,
-                sent,
-                now,
-                session.reply_keeps(),
-                session.written_bytes(),
-            );
+            note_header(entry, sent, now, keep, written);
             *stage = Stage::TakeBody;
             Outcome::Done
         }
         Poll::Ready(Err(error)) => {
             if header.is_none() {
-                note_header(
-                    entry,
-                    sent,
-                    now,
-                    session.reply_keeps(),
-                    session.written_bytes(),
-                );
+                note_header(entry, sent, now, keep, written);
             }
             Outcome::Ends(End::Failed(error))
         }
@@ -123,6 +110,7 @@ where
     ensures extends { (shutdown : Bool) → ExtendsLast now shutdown (L.state session.old.link) (L.state session.new.link) last.old last.new }
     ensures job { JobFrom SV.begins SV.pends stage.old stage.new }
     ensures few { (L.state session.new.link).read_waits ≡ (L.state session.old.link).read_waits }
+    ensures others { OthersFew (L.state session.old.link) (L.state session.new.link) stage.old stage.new result }
     ensures outcome { OutcomeCause L.state SV.pends (SV.runs server.now.app) session.old session.new last.new stage.old stage.new result }
 {
     let Some(entry) = last else { unreachable!() };
@@ -168,6 +156,7 @@ where
     ensures extends { (shutdown : Bool) → ExtendsLast now shutdown (L.state session.old.link) (L.state session.new.link) last.old last.new }
     ensures job { JobFrom SV.begins SV.pends stage.old stage.new }
     ensures few { (L.state session.new.link).read_waits ≡ (L.state session.old.link).read_waits }
+    ensures others { OthersFew (L.state session.old.link) (L.state session.new.link) stage.old stage.new result }
     ensures outcome { OutcomeCause L.state SV.pends (SV.runs server.now.app) session.old session.new last.new stage.old stage.new result }
 {
     let Some(entry) = last else { unreachable!() };
@@ -223,6 +212,7 @@ where
     ensures extends { (shutdown : Bool) → ExtendsLast now shutdown (L.state session.old.link) (L.state session.new.link) last.old last.new }
     ensures job { JobFrom SV.begins SV.pends stage.old stage.new }
     ensures few { (L.state session.new.link).read_waits ≡ (L.state session.old.link).read_waits }
+    ensures others { OthersFew (L.state session.old.link) (L.state session.new.link) stage.old stage.new result }
     ensures outcome { OutcomeCause L.state SV.pends (SV.runs server.now.app) session.old session.new last.new stage.old stage.new result }
 {
     let Some(entry) = last else { unreachable!() };
@@ -239,7 +229,7 @@ where
     }
 }
 
-/// Ends the body, and with it the exchange. An error of the request's body comes before all else.
+/// Ends the reply. An error of the request's body is the connection's end behind it.
 pub(super) fn finish<L, SV, B, C>(
     server: &HttpServer<SV, B>,
     session: &mut HttpSession<L, C>,
@@ -267,6 +257,7 @@ where
     ensures extends { (shutdown : Bool) → ExtendsLast now shutdown (L.state session.old.link) (L.state session.new.link) last.old last.new }
     ensures job { JobFrom SV.begins SV.pends stage.old stage.new }
     ensures few { (L.state session.new.link).read_waits ≡ (L.state session.old.link).read_waits }
+    ensures others { OthersFew (L.state session.old.link) (L.state session.new.link) stage.old stage.new result }
     ensures outcome { OutcomeCause L.state SV.pends (SV.runs server.now.app) session.old session.new last.new stage.old stage.new result }
 {
     let Some(entry) = last else { unreachable!() };
@@ -279,8 +270,8 @@ where
             match entry.body_error {
                 Some(error) => Outcome::Ends(End::Failed(error)),
                 None => {
-                    session.shutdown();
-                    Outcome::Ends(End::NotKept)
+                    *stage = Stage::Drain;
+                    Outcome::Done
                 }
             }
         }

@@ -4,19 +4,19 @@ use Rattle.h1_app.proofs.echo.EchoAppServeHttp.poll_response.Goals as goal
 
 pub returns-in-Waits-clause-reads : goal.returns-in-Waits-clause-reads
 returns-in-Waits-clause-reads g c =
-    reads_with_settings g.L.Link.state _ _ _ c.set_pipelining.ensures.rest c.read_body.ensures.reads
+    reads_with_settings g.L.Link.state _ _ _ c.set_pipelining.ensures.rest c.requires.request c.set_pipelining.ensures.settings c.read_body.ensures.reads
 
 pub returns-in-Failed-clause-reads : goal.returns-in-Failed-clause-reads
 returns-in-Failed-clause-reads g c =
-    reads_with_settings g.L.Link.state _ _ _ c.set_pipelining.ensures.rest c.read_body.ensures.reads
+    reads_with_settings g.L.Link.state _ _ _ c.set_pipelining.ensures.rest c.requires.request c.set_pipelining.ensures.settings c.read_body.ensures.reads
 
 pub returns-in-Refused-clause-reads : goal.returns-in-Refused-clause-reads
 returns-in-Refused-clause-reads g c =
-    reads_with_settings g.L.Link.state _ _ _ c.set_pipelining.ensures.rest c.read_body.ensures.reads
+    reads_with_settings g.L.Link.state _ _ _ c.set_pipelining.ensures.rest c.requires.request c.set_pipelining.ensures.settings c.read_body.ensures.reads
 
 pub returns-in-Whole-clause-reads : goal.returns-in-Whole-clause-reads
 returns-in-Whole-clause-reads g c =
-    reads_with_settings g.L.Link.state _ _ _ c.set_pipelining.ensures.rest c.read_body.ensures.reads
+    reads_with_settings g.L.Link.state _ _ _ c.set_pipelining.ensures.rest c.requires.request c.set_pipelining.ensures.settings c.read_body.ensures.reads
 
 pub returns-in-Refused-clause-gives : goal.returns-in-Refused-clause-gives
 returns-in-Refused-clause-gives g c head began asked runs =

@@ -3,7 +3,7 @@ use Rattle.h1_app.specs.Asking.{noted, GivesAsked}
 use Rattle.h1_app.specs.Exchange.{given_to}
 use Rattle.h1_app.specs.declared.transcript.Entry.{Entry}
 use Rattle.h1_app.specs.Sound.{lent}
-use Rattle.h1_app.proofs.AskLemmas.{asked_as, gives_asked}
+use Rattle.h1_app.proofs.AskLemmas.{asked_as, gives_asked, given_noted}
 use Rattle.h1_app.proofs.steps.answering.ask.Goals as goal
 
 pub returns-clause-asks : goal.returns-clause-asks
@@ -18,4 +18,5 @@ returns-clause-gives g c =
     let gave = c.poll_response-answer.ensures.gives head began (rw lent_is asked) (rw lent_is runs) in
     let entry_is = c.take_back.ensures.entry ∙ ap (noted (record c.args.entry.now { body = c.replace.new.dest })) c.take_waits-waits.ensures.rest in
     subst (λ (x : Entry). GivesAsked (g.SV.ServeHttp.gives c.args.app.now) (record (given_to x head) { began = began }) c.seen_as.result) (sym entry_is)
-    (gives_asked (g.SV.ServeHttp.gives c.args.app.now) _ c.poll_response-answer.result c.take_waits-waits.result c.seen_as.result gave c.seen_as.ensures)
+    (subst (λ given. GivesAsked (g.SV.ServeHttp.gives c.args.app.now) given c.seen_as.result) (given_noted c.args.entry.now c.poll_response-answer.new.http head began)
+    (gives_asked (g.SV.ServeHttp.gives c.args.app.now) _ c.poll_response-answer.result c.take_waits-waits.result c.seen_as.result gave c.seen_as.ensures))

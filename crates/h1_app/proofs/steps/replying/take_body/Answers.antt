@@ -1,7 +1,8 @@
 -- The body is taken up.
 use Rattle.std.proofs.Common.{◌≡◌, Ok, arith, refl}
 use Rattle.h1_app.specs.Sound.{IsPieceOf}
-use Rattle.h1_app.proofs.ReplyLemmas.{at_some, ready_is, went_wrote, grows_itself}
+use Rattle.h1_app.specs.declared.exchange.Stage.TheVariants as at
+use Rattle.h1_app.proofs.ReplyLemmas.{at_some, ready_is, ahead_down, went_wrote, grows_itself}
 use Rattle.h1_app.proofs.BodyReplies.{at_take_body, untouched, empty_body, some_body, no_body_since, no_body_done, body_grows, taking_call, taken_since, taken_grows, taken_waits, taken_done}
 use Rattle.h1_app.proofs.steps.replying.take_body.Goals as goal
 
@@ -57,7 +58,9 @@ returns-then-is_none-clause-outcome g c =
       no_body_done (g.SV.ServeHttp.runs c.args.server.now.app) g.L.Link.state c.args.session.now
           c.in-Some.entry c.in-Ok.bodies.0 h b.0 empty,
       rw c.requires.at (omega arith),
-      tt,
+      ahead_down g.L.Link.state c.args.session.now c.args.session.now c.args.stage.now at.Finish
+          (went_wrote g.L.Link.state c.args.session.now c.args.session.now _ _ c.requires.budget
+          (untouched g.L.Link.state c.args.session.now c.in-Some.entry h)) (rw c.requires.at (omega arith)),
     )
 
 pub returns-in-Pending-clause-went : goal.returns-in-Pending-clause-went
@@ -192,7 +195,9 @@ returns-in-Ready-Ok-clause-outcome g c =
           (ready_is _ c.in-Ready-Ok.field-0 (Ok c.in-Ready-Ok.field-0-0) c.in-Ready-Ok.is
           (rw c.in-Ready-Ok.is at c.in-Ready-Ok.field-0-is)) b.0,
       rw c.requires.at (omega arith),
-      tt,
+      ahead_down g.L.Link.state c.args.session.now c.poll_write_body-answer.new.self c.args.stage.now at.Finish
+          (went_wrote g.L.Link.state c.args.session.now c.poll_write_body-answer.new.self w.taking w.left
+          c.requires.budget w.writes) (rw c.requires.at (omega arith)),
     )
 
 pub returns-clause-went : goal.returns-clause-went

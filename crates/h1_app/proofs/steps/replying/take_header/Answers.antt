@@ -3,7 +3,7 @@ use Rattle.std.proofs.Common.{◌≡◌, ◌/◌, Some, Ok, Err, arith, refl, ap
 use Rattle.h1_app.specs.Exchange.{IsAllowed}
 use Rattle.h1_app.proofs.ReplyLemmas.{at_some, ready_is, went_wrote, went_itself, went_same, grows_itself}
 use Rattle.h1_server.proofs.MovedLemmas.{moved_itself}
-use Rattle.h1_app.proofs.HeaderTaken.{at_take_header, taking_header, out_where_pending, out_where_done, out_where_none, same_where_kept, writes_header, headed_since, headed_grows, headed_allowed, headed_waits, headed_done, headed_fails}
+use Rattle.h1_app.proofs.HeaderTaken.{at_take_header, taking_header, out_where_pending, out_where_done, out_where_none, same_where_kept, writes_header, headed_since, headed_grows, headed_allowed, headed_waits, headed_done, headed_ahead, headed_fails}
 use Rattle.h1_app.proofs.steps.replying.take_header.Goals as goal
 
 pub returns-in-Err-clause-went : goal.returns-in-Err-clause-went
@@ -19,17 +19,17 @@ returns-in-Pending-clause-went g c =
     let b = at_some (λ reply. (c.in-Ok.headers.0 ≡ reply.header) ×
     (c.in-Ok.headers.1 ≡ Some reply.header)) c.in-Some.entry.reply h.reply h.replied.is
     c.in-Ok.ensures.ok in
-    let t = taking_header g.L.Link.state c.args.session.now c.poll_write_response_header.new.self
-    c.in-Some.entry c.in-Ok.headers.1 c.poll_write_response_header.new.header c.args.now
-    c.poll_write_response_header.result h b.1 c.poll_write_response_header.ensures.writes in
+    let t = taking_header g.L.Link.state c.args.session.now c.poll_write_response_header-answer.new.self
+    c.in-Some.entry c.in-Ok.headers.1 c.poll_write_response_header-answer.new.header c.args.now
+    c.poll_write_response_header-answer.result h b.1 c.poll_write_response_header-answer.ensures.writes in
     let none = out_where_pending g.L.Link.state c.args.session.now
-    c.poll_write_response_header.new.self h.request (Some h.reply.header)
-    c.poll_write_response_header.new.header c.args.now c.poll_write_response_header.result t
+    c.poll_write_response_header-answer.new.self h.request (Some h.reply.header)
+    c.poll_write_response_header-answer.new.header c.args.now c.poll_write_response_header-answer.result t
     c.in-Pending.is in
-    let w = writes_header g.L.Link.state c.args.session.now c.poll_write_response_header.new.self
-    h.request (Some h.reply.header) c.poll_write_response_header.new.header c.args.now
-    c.poll_write_response_header.result t none in
-    went_wrote g.L.Link.state c.args.session.now c.poll_write_response_header.new.self w.taking
+    let w = writes_header g.L.Link.state c.args.session.now c.poll_write_response_header-answer.new.self
+    h.request (Some h.reply.header) c.poll_write_response_header-answer.new.header c.args.now
+    c.poll_write_response_header-answer.result t none in
+    went_wrote g.L.Link.state c.args.session.now c.poll_write_response_header-answer.new.self w.taking
     w.left c.requires.budget w.writes
 
 pub returns-in-Pending-clause-since : goal.returns-in-Pending-clause-since
@@ -40,21 +40,21 @@ returns-in-Pending-clause-since g c =
     let b = at_some (λ reply. (c.in-Ok.headers.0 ≡ reply.header) ×
     (c.in-Ok.headers.1 ≡ Some reply.header)) c.in-Some.entry.reply h.reply h.replied.is
     c.in-Ok.ensures.ok in
-    let t = taking_header g.L.Link.state c.args.session.now c.poll_write_response_header.new.self
-    c.in-Some.entry c.in-Ok.headers.1 c.poll_write_response_header.new.header c.args.now
-    c.poll_write_response_header.result h b.1 c.poll_write_response_header.ensures.writes in
+    let t = taking_header g.L.Link.state c.args.session.now c.poll_write_response_header-answer.new.self
+    c.in-Some.entry c.in-Ok.headers.1 c.poll_write_response_header-answer.new.header c.args.now
+    c.poll_write_response_header-answer.result h b.1 c.poll_write_response_header-answer.ensures.writes in
     let none = out_where_pending g.L.Link.state c.args.session.now
-    c.poll_write_response_header.new.self h.request (Some h.reply.header)
-    c.poll_write_response_header.new.header c.args.now c.poll_write_response_header.result t
+    c.poll_write_response_header-answer.new.self h.request (Some h.reply.header)
+    c.poll_write_response_header-answer.new.header c.args.now c.poll_write_response_header-answer.result t
     c.in-Pending.is in
-    let w = writes_header g.L.Link.state c.args.session.now c.poll_write_response_header.new.self
-    h.request (Some h.reply.header) c.poll_write_response_header.new.header c.args.now
-    c.poll_write_response_header.result t none in
+    let w = writes_header g.L.Link.state c.args.session.now c.poll_write_response_header-answer.new.self
+    h.request (Some h.reply.header) c.poll_write_response_header-answer.new.header c.args.now
+    c.poll_write_response_header-answer.result t none in
     λ before done s. rw c.note_header.ensures.rest
-    (headed_since g.L.Link.state before done c.args.session.now c.poll_write_response_header.new.self
-    c.in-Some.entry c.args.now c.poll_write_response_header.result c.in-Ok.headers.0
-    c.note_header.new.entry.date_text c.reply_keeps.result c.written_bytes.result h w b.0
-    c.note_header.ensures.date c.reply_keeps.ensures (rw c.in-Some.is at s))
+    (headed_since g.L.Link.state before done c.args.session.now c.poll_write_response_header-answer.new.self
+    c.in-Some.entry c.args.now c.poll_write_response_header-answer.result c.in-Ok.headers.0
+    c.note_header.new.entry.date_text c.reply_keeps-keep.result c.written_bytes-written.result h w b.0
+    c.note_header.ensures.date c.reply_keeps-keep.ensures (rw c.in-Some.is at s))
 
 pub returns-in-Pending-clause-allowed : goal.returns-in-Pending-clause-allowed
 returns-in-Pending-clause-allowed g c =
@@ -64,23 +64,23 @@ returns-in-Pending-clause-allowed g c =
     let b = at_some (λ reply. (c.in-Ok.headers.0 ≡ reply.header) ×
     (c.in-Ok.headers.1 ≡ Some reply.header)) c.in-Some.entry.reply h.reply h.replied.is
     c.in-Ok.ensures.ok in
-    let t = taking_header g.L.Link.state c.args.session.now c.poll_write_response_header.new.self
-    c.in-Some.entry c.in-Ok.headers.1 c.poll_write_response_header.new.header c.args.now
-    c.poll_write_response_header.result h b.1 c.poll_write_response_header.ensures.writes in
+    let t = taking_header g.L.Link.state c.args.session.now c.poll_write_response_header-answer.new.self
+    c.in-Some.entry c.in-Ok.headers.1 c.poll_write_response_header-answer.new.header c.args.now
+    c.poll_write_response_header-answer.result h b.1 c.poll_write_response_header-answer.ensures.writes in
     let none = out_where_pending g.L.Link.state c.args.session.now
-    c.poll_write_response_header.new.self h.request (Some h.reply.header)
-    c.poll_write_response_header.new.header c.args.now c.poll_write_response_header.result t
+    c.poll_write_response_header-answer.new.self h.request (Some h.reply.header)
+    c.poll_write_response_header-answer.new.header c.args.now c.poll_write_response_header-answer.result t
     c.in-Pending.is in
-    let w = writes_header g.L.Link.state c.args.session.now c.poll_write_response_header.new.self
-    h.request (Some h.reply.header) c.poll_write_response_header.new.header c.args.now
-    c.poll_write_response_header.result t none in
+    let w = writes_header g.L.Link.state c.args.session.now c.poll_write_response_header-answer.new.self
+    h.request (Some h.reply.header) c.poll_write_response_header-answer.new.header c.args.now
+    c.poll_write_response_header-answer.result t none in
     let a = at_some (IsAllowed (g.SV.ServeHttp.gives c.args.server.now.app)) c.args.last.now
     c.in-Some.entry c.in-Some.is c.requires.allowed in
     rw c.note_header.ensures.rest (headed_allowed (g.SV.ServeHttp.gives c.args.server.now.app)
-    g.L.Link.state c.args.session.now c.poll_write_response_header.new.self c.in-Some.entry
-    c.args.now c.poll_write_response_header.result c.in-Ok.headers.0
-    c.note_header.new.entry.date_text c.reply_keeps.result c.written_bytes.result h w b.0
-    c.note_header.ensures.date c.requires.moment c.reply_keeps.ensures c.requires.lawful a)
+    g.L.Link.state c.args.session.now c.poll_write_response_header-answer.new.self c.in-Some.entry
+    c.args.now c.poll_write_response_header-answer.result c.in-Ok.headers.0
+    c.note_header.new.entry.date_text c.reply_keeps-keep.result c.written_bytes-written.result h w b.0
+    c.note_header.ensures.date c.requires.moment c.reply_keeps-keep.ensures c.requires.lawful a)
 
 pub returns-in-Pending-clause-extends : goal.returns-in-Pending-clause-extends
 returns-in-Pending-clause-extends g c = λ shutdown.
@@ -90,21 +90,21 @@ returns-in-Pending-clause-extends g c = λ shutdown.
     let b = at_some (λ reply. (c.in-Ok.headers.0 ≡ reply.header) ×
     (c.in-Ok.headers.1 ≡ Some reply.header)) c.in-Some.entry.reply h.reply h.replied.is
     c.in-Ok.ensures.ok in
-    let t = taking_header g.L.Link.state c.args.session.now c.poll_write_response_header.new.self
-    c.in-Some.entry c.in-Ok.headers.1 c.poll_write_response_header.new.header c.args.now
-    c.poll_write_response_header.result h b.1 c.poll_write_response_header.ensures.writes in
+    let t = taking_header g.L.Link.state c.args.session.now c.poll_write_response_header-answer.new.self
+    c.in-Some.entry c.in-Ok.headers.1 c.poll_write_response_header-answer.new.header c.args.now
+    c.poll_write_response_header-answer.result h b.1 c.poll_write_response_header-answer.ensures.writes in
     let none = out_where_pending g.L.Link.state c.args.session.now
-    c.poll_write_response_header.new.self h.request (Some h.reply.header)
-    c.poll_write_response_header.new.header c.args.now c.poll_write_response_header.result t
+    c.poll_write_response_header-answer.new.self h.request (Some h.reply.header)
+    c.poll_write_response_header-answer.new.header c.args.now c.poll_write_response_header-answer.result t
     c.in-Pending.is in
-    let w = writes_header g.L.Link.state c.args.session.now c.poll_write_response_header.new.self
-    h.request (Some h.reply.header) c.poll_write_response_header.new.header c.args.now
-    c.poll_write_response_header.result t none in
+    let w = writes_header g.L.Link.state c.args.session.now c.poll_write_response_header-answer.new.self
+    h.request (Some h.reply.header) c.poll_write_response_header-answer.new.header c.args.now
+    c.poll_write_response_header-answer.result t none in
     rw (c.in-Some.is, c.note_header.ensures.rest)
-    (headed_grows g.L.Link.state c.args.session.now c.poll_write_response_header.new.self
-    c.in-Some.entry c.args.now c.poll_write_response_header.result c.in-Ok.headers.0
-    (c.args.now / 1000) c.note_header.new.entry.date_text c.reply_keeps.result
-    c.written_bytes.result h w c.written_bytes.ensures refl)
+    (headed_grows g.L.Link.state c.args.session.now c.poll_write_response_header-answer.new.self
+    c.in-Some.entry c.args.now c.poll_write_response_header-answer.result c.in-Ok.headers.0
+    (c.args.now / 1000) c.note_header.new.entry.date_text c.reply_keeps-keep.result
+    c.written_bytes-written.result h w c.written_bytes-written.ensures refl)
 
 pub returns-in-Pending-clause-outcome : goal.returns-in-Pending-clause-outcome
 returns-in-Pending-clause-outcome g c =
@@ -114,21 +114,21 @@ returns-in-Pending-clause-outcome g c =
     let b = at_some (λ reply. (c.in-Ok.headers.0 ≡ reply.header) ×
     (c.in-Ok.headers.1 ≡ Some reply.header)) c.in-Some.entry.reply h.reply h.replied.is
     c.in-Ok.ensures.ok in
-    let t = taking_header g.L.Link.state c.args.session.now c.poll_write_response_header.new.self
-    c.in-Some.entry c.in-Ok.headers.1 c.poll_write_response_header.new.header c.args.now
-    c.poll_write_response_header.result h b.1 c.poll_write_response_header.ensures.writes in
+    let t = taking_header g.L.Link.state c.args.session.now c.poll_write_response_header-answer.new.self
+    c.in-Some.entry c.in-Ok.headers.1 c.poll_write_response_header-answer.new.header c.args.now
+    c.poll_write_response_header-answer.result h b.1 c.poll_write_response_header-answer.ensures.writes in
     let none = out_where_pending g.L.Link.state c.args.session.now
-    c.poll_write_response_header.new.self h.request (Some h.reply.header)
-    c.poll_write_response_header.new.header c.args.now c.poll_write_response_header.result t
+    c.poll_write_response_header-answer.new.self h.request (Some h.reply.header)
+    c.poll_write_response_header-answer.new.header c.args.now c.poll_write_response_header-answer.result t
     c.in-Pending.is in
-    let w = writes_header g.L.Link.state c.args.session.now c.poll_write_response_header.new.self
-    h.request (Some h.reply.header) c.poll_write_response_header.new.header c.args.now
-    c.poll_write_response_header.result t none in
+    let w = writes_header g.L.Link.state c.args.session.now c.poll_write_response_header-answer.new.self
+    h.request (Some h.reply.header) c.poll_write_response_header-answer.new.header c.args.now
+    c.poll_write_response_header-answer.result t none in
     rw c.note_header.ensures.rest (headed_waits (g.SV.ServeHttp.runs c.args.server.now.app)
-    g.L.Link.state c.args.session.now c.poll_write_response_header.new.self c.in-Some.entry
-    c.args.now c.poll_write_response_header.result c.in-Ok.headers.0 (c.args.now / 1000)
-    c.note_header.new.entry.date_text c.reply_keeps.result c.written_bytes.result h w b.0
-    c.reply_keeps.ensures c.written_bytes.ensures c.in-Pending.is c.requires.budget)
+    g.L.Link.state c.args.session.now c.poll_write_response_header-answer.new.self c.in-Some.entry
+    c.args.now c.poll_write_response_header-answer.result c.in-Ok.headers.0 (c.args.now / 1000)
+    c.note_header.new.entry.date_text c.reply_keeps-keep.result c.written_bytes-written.result h w b.0
+    c.reply_keeps-keep.ensures c.written_bytes-written.ensures c.in-Pending.is c.requires.budget)
 
 pub returns-in-Ready-Ok-clause-went : goal.returns-in-Ready-Ok-clause-went
 returns-in-Ready-Ok-clause-went g c =
@@ -138,19 +138,19 @@ returns-in-Ready-Ok-clause-went g c =
     let b = at_some (λ reply. (c.in-Ok.headers.0 ≡ reply.header) ×
     (c.in-Ok.headers.1 ≡ Some reply.header)) c.in-Some.entry.reply h.reply h.replied.is
     c.in-Ok.ensures.ok in
-    let t = taking_header g.L.Link.state c.args.session.now c.poll_write_response_header.new.self
-    c.in-Some.entry c.in-Ok.headers.1 c.poll_write_response_header.new.header c.args.now
-    c.poll_write_response_header.result h b.1 c.poll_write_response_header.ensures.writes in
+    let t = taking_header g.L.Link.state c.args.session.now c.poll_write_response_header-answer.new.self
+    c.in-Some.entry c.in-Ok.headers.1 c.poll_write_response_header-answer.new.header c.args.now
+    c.poll_write_response_header-answer.result h b.1 c.poll_write_response_header-answer.ensures.writes in
     let ready = ready_is _ c.in-Ready-Ok.field-0 (Ok c.in-Ready-Ok.field-0-0) c.in-Ready-Ok.is
-    c.in-Ready-Ok.field-0-is in
+    (rw c.in-Ready-Ok.is at c.in-Ready-Ok.field-0-is) in
     let none = out_where_done g.L.Link.state c.args.session.now
-    c.poll_write_response_header.new.self h.request (Some h.reply.header)
-    c.poll_write_response_header.new.header c.args.now c.poll_write_response_header.result
+    c.poll_write_response_header-answer.new.self h.request (Some h.reply.header)
+    c.poll_write_response_header-answer.new.header c.args.now c.poll_write_response_header-answer.result
     c.in-Ready-Ok.field-0-0 t ready in
-    let w = writes_header g.L.Link.state c.args.session.now c.poll_write_response_header.new.self
-    h.request (Some h.reply.header) c.poll_write_response_header.new.header c.args.now
-    c.poll_write_response_header.result t none in
-    went_wrote g.L.Link.state c.args.session.now c.poll_write_response_header.new.self w.taking
+    let w = writes_header g.L.Link.state c.args.session.now c.poll_write_response_header-answer.new.self
+    h.request (Some h.reply.header) c.poll_write_response_header-answer.new.header c.args.now
+    c.poll_write_response_header-answer.result t none in
+    went_wrote g.L.Link.state c.args.session.now c.poll_write_response_header-answer.new.self w.taking
     w.left c.requires.budget w.writes
 
 pub returns-in-Ready-Ok-clause-since : goal.returns-in-Ready-Ok-clause-since
@@ -161,24 +161,24 @@ returns-in-Ready-Ok-clause-since g c =
     let b = at_some (λ reply. (c.in-Ok.headers.0 ≡ reply.header) ×
     (c.in-Ok.headers.1 ≡ Some reply.header)) c.in-Some.entry.reply h.reply h.replied.is
     c.in-Ok.ensures.ok in
-    let t = taking_header g.L.Link.state c.args.session.now c.poll_write_response_header.new.self
-    c.in-Some.entry c.in-Ok.headers.1 c.poll_write_response_header.new.header c.args.now
-    c.poll_write_response_header.result h b.1 c.poll_write_response_header.ensures.writes in
+    let t = taking_header g.L.Link.state c.args.session.now c.poll_write_response_header-answer.new.self
+    c.in-Some.entry c.in-Ok.headers.1 c.poll_write_response_header-answer.new.header c.args.now
+    c.poll_write_response_header-answer.result h b.1 c.poll_write_response_header-answer.ensures.writes in
     let ready = ready_is _ c.in-Ready-Ok.field-0 (Ok c.in-Ready-Ok.field-0-0) c.in-Ready-Ok.is
-    c.in-Ready-Ok.field-0-is in
+    (rw c.in-Ready-Ok.is at c.in-Ready-Ok.field-0-is) in
     let none = out_where_done g.L.Link.state c.args.session.now
-    c.poll_write_response_header.new.self h.request (Some h.reply.header)
-    c.poll_write_response_header.new.header c.args.now c.poll_write_response_header.result
+    c.poll_write_response_header-answer.new.self h.request (Some h.reply.header)
+    c.poll_write_response_header-answer.new.header c.args.now c.poll_write_response_header-answer.result
     c.in-Ready-Ok.field-0-0 t ready in
-    let w = writes_header g.L.Link.state c.args.session.now c.poll_write_response_header.new.self
-    h.request (Some h.reply.header) c.poll_write_response_header.new.header c.args.now
-    c.poll_write_response_header.result t none in
+    let w = writes_header g.L.Link.state c.args.session.now c.poll_write_response_header-answer.new.self
+    h.request (Some h.reply.header) c.poll_write_response_header-answer.new.header c.args.now
+    c.poll_write_response_header-answer.result t none in
     λ before done s. rw c.note_header-in-Ready-Ok.ensures.rest
-    (headed_since g.L.Link.state before done c.args.session.now c.poll_write_response_header.new.self
-    c.in-Some.entry c.args.now c.poll_write_response_header.result c.in-Ok.headers.0
-    c.note_header-in-Ready-Ok.new.entry.date_text c.reply_keeps-in-Ready-Ok.result
-    c.written_bytes-in-Ready-Ok.result h w b.0 c.note_header-in-Ready-Ok.ensures.date
-    c.reply_keeps-in-Ready-Ok.ensures (rw c.in-Some.is at s))
+    (headed_since g.L.Link.state before done c.args.session.now c.poll_write_response_header-answer.new.self
+    c.in-Some.entry c.args.now c.poll_write_response_header-answer.result c.in-Ok.headers.0
+    c.note_header-in-Ready-Ok.new.entry.date_text c.reply_keeps-keep.result
+    c.written_bytes-written.result h w b.0 c.note_header-in-Ready-Ok.ensures.date
+    c.reply_keeps-keep.ensures (rw c.in-Some.is at s))
 
 pub returns-in-Ready-Ok-clause-allowed : goal.returns-in-Ready-Ok-clause-allowed
 returns-in-Ready-Ok-clause-allowed g c =
@@ -188,27 +188,27 @@ returns-in-Ready-Ok-clause-allowed g c =
     let b = at_some (λ reply. (c.in-Ok.headers.0 ≡ reply.header) ×
     (c.in-Ok.headers.1 ≡ Some reply.header)) c.in-Some.entry.reply h.reply h.replied.is
     c.in-Ok.ensures.ok in
-    let t = taking_header g.L.Link.state c.args.session.now c.poll_write_response_header.new.self
-    c.in-Some.entry c.in-Ok.headers.1 c.poll_write_response_header.new.header c.args.now
-    c.poll_write_response_header.result h b.1 c.poll_write_response_header.ensures.writes in
+    let t = taking_header g.L.Link.state c.args.session.now c.poll_write_response_header-answer.new.self
+    c.in-Some.entry c.in-Ok.headers.1 c.poll_write_response_header-answer.new.header c.args.now
+    c.poll_write_response_header-answer.result h b.1 c.poll_write_response_header-answer.ensures.writes in
     let ready = ready_is _ c.in-Ready-Ok.field-0 (Ok c.in-Ready-Ok.field-0-0) c.in-Ready-Ok.is
-    c.in-Ready-Ok.field-0-is in
+    (rw c.in-Ready-Ok.is at c.in-Ready-Ok.field-0-is) in
     let none = out_where_done g.L.Link.state c.args.session.now
-    c.poll_write_response_header.new.self h.request (Some h.reply.header)
-    c.poll_write_response_header.new.header c.args.now c.poll_write_response_header.result
+    c.poll_write_response_header-answer.new.self h.request (Some h.reply.header)
+    c.poll_write_response_header-answer.new.header c.args.now c.poll_write_response_header-answer.result
     c.in-Ready-Ok.field-0-0 t ready in
-    let w = writes_header g.L.Link.state c.args.session.now c.poll_write_response_header.new.self
-    h.request (Some h.reply.header) c.poll_write_response_header.new.header c.args.now
-    c.poll_write_response_header.result t none in
+    let w = writes_header g.L.Link.state c.args.session.now c.poll_write_response_header-answer.new.self
+    h.request (Some h.reply.header) c.poll_write_response_header-answer.new.header c.args.now
+    c.poll_write_response_header-answer.result t none in
     let a = at_some (IsAllowed (g.SV.ServeHttp.gives c.args.server.now.app)) c.args.last.now
     c.in-Some.entry c.in-Some.is c.requires.allowed in
     rw c.note_header-in-Ready-Ok.ensures.rest
     (headed_allowed (g.SV.ServeHttp.gives c.args.server.now.app) g.L.Link.state
-    c.args.session.now c.poll_write_response_header.new.self c.in-Some.entry c.args.now
-    c.poll_write_response_header.result c.in-Ok.headers.0
-    c.note_header-in-Ready-Ok.new.entry.date_text c.reply_keeps-in-Ready-Ok.result
-    c.written_bytes-in-Ready-Ok.result h w b.0 c.note_header-in-Ready-Ok.ensures.date
-    c.requires.moment c.reply_keeps-in-Ready-Ok.ensures c.requires.lawful a)
+    c.args.session.now c.poll_write_response_header-answer.new.self c.in-Some.entry c.args.now
+    c.poll_write_response_header-answer.result c.in-Ok.headers.0
+    c.note_header-in-Ready-Ok.new.entry.date_text c.reply_keeps-keep.result
+    c.written_bytes-written.result h w b.0 c.note_header-in-Ready-Ok.ensures.date
+    c.requires.moment c.reply_keeps-keep.ensures c.requires.lawful a)
 
 pub returns-in-Ready-Ok-clause-extends : goal.returns-in-Ready-Ok-clause-extends
 returns-in-Ready-Ok-clause-extends g c = λ shutdown.
@@ -218,24 +218,24 @@ returns-in-Ready-Ok-clause-extends g c = λ shutdown.
     let b = at_some (λ reply. (c.in-Ok.headers.0 ≡ reply.header) ×
     (c.in-Ok.headers.1 ≡ Some reply.header)) c.in-Some.entry.reply h.reply h.replied.is
     c.in-Ok.ensures.ok in
-    let t = taking_header g.L.Link.state c.args.session.now c.poll_write_response_header.new.self
-    c.in-Some.entry c.in-Ok.headers.1 c.poll_write_response_header.new.header c.args.now
-    c.poll_write_response_header.result h b.1 c.poll_write_response_header.ensures.writes in
+    let t = taking_header g.L.Link.state c.args.session.now c.poll_write_response_header-answer.new.self
+    c.in-Some.entry c.in-Ok.headers.1 c.poll_write_response_header-answer.new.header c.args.now
+    c.poll_write_response_header-answer.result h b.1 c.poll_write_response_header-answer.ensures.writes in
     let ready = ready_is _ c.in-Ready-Ok.field-0 (Ok c.in-Ready-Ok.field-0-0) c.in-Ready-Ok.is
-    c.in-Ready-Ok.field-0-is in
+    (rw c.in-Ready-Ok.is at c.in-Ready-Ok.field-0-is) in
     let none = out_where_done g.L.Link.state c.args.session.now
-    c.poll_write_response_header.new.self h.request (Some h.reply.header)
-    c.poll_write_response_header.new.header c.args.now c.poll_write_response_header.result
+    c.poll_write_response_header-answer.new.self h.request (Some h.reply.header)
+    c.poll_write_response_header-answer.new.header c.args.now c.poll_write_response_header-answer.result
     c.in-Ready-Ok.field-0-0 t ready in
-    let w = writes_header g.L.Link.state c.args.session.now c.poll_write_response_header.new.self
-    h.request (Some h.reply.header) c.poll_write_response_header.new.header c.args.now
-    c.poll_write_response_header.result t none in
+    let w = writes_header g.L.Link.state c.args.session.now c.poll_write_response_header-answer.new.self
+    h.request (Some h.reply.header) c.poll_write_response_header-answer.new.header c.args.now
+    c.poll_write_response_header-answer.result t none in
     rw (c.in-Some.is, c.note_header-in-Ready-Ok.ensures.rest)
-    (headed_grows g.L.Link.state c.args.session.now c.poll_write_response_header.new.self
-    c.in-Some.entry c.args.now c.poll_write_response_header.result c.in-Ok.headers.0
+    (headed_grows g.L.Link.state c.args.session.now c.poll_write_response_header-answer.new.self
+    c.in-Some.entry c.args.now c.poll_write_response_header-answer.result c.in-Ok.headers.0
     (c.args.now / 1000) c.note_header-in-Ready-Ok.new.entry.date_text
-    c.reply_keeps-in-Ready-Ok.result c.written_bytes-in-Ready-Ok.result h w
-    c.written_bytes-in-Ready-Ok.ensures refl)
+    c.reply_keeps-keep.result c.written_bytes-written.result h w
+    c.written_bytes-written.ensures refl)
 
 pub returns-in-Ready-Ok-clause-outcome : goal.returns-in-Ready-Ok-clause-outcome
 returns-in-Ready-Ok-clause-outcome g c =
@@ -245,28 +245,29 @@ returns-in-Ready-Ok-clause-outcome g c =
     let b = at_some (λ reply. (c.in-Ok.headers.0 ≡ reply.header) ×
     (c.in-Ok.headers.1 ≡ Some reply.header)) c.in-Some.entry.reply h.reply h.replied.is
     c.in-Ok.ensures.ok in
-    let t = taking_header g.L.Link.state c.args.session.now c.poll_write_response_header.new.self
-    c.in-Some.entry c.in-Ok.headers.1 c.poll_write_response_header.new.header c.args.now
-    c.poll_write_response_header.result h b.1 c.poll_write_response_header.ensures.writes in
+    let t = taking_header g.L.Link.state c.args.session.now c.poll_write_response_header-answer.new.self
+    c.in-Some.entry c.in-Ok.headers.1 c.poll_write_response_header-answer.new.header c.args.now
+    c.poll_write_response_header-answer.result h b.1 c.poll_write_response_header-answer.ensures.writes in
     let ready = ready_is _ c.in-Ready-Ok.field-0 (Ok c.in-Ready-Ok.field-0-0) c.in-Ready-Ok.is
-    c.in-Ready-Ok.field-0-is in
+    (rw c.in-Ready-Ok.is at c.in-Ready-Ok.field-0-is) in
     let none = out_where_done g.L.Link.state c.args.session.now
-    c.poll_write_response_header.new.self h.request (Some h.reply.header)
-    c.poll_write_response_header.new.header c.args.now c.poll_write_response_header.result
+    c.poll_write_response_header-answer.new.self h.request (Some h.reply.header)
+    c.poll_write_response_header-answer.new.header c.args.now c.poll_write_response_header-answer.result
     c.in-Ready-Ok.field-0-0 t ready in
-    let w = writes_header g.L.Link.state c.args.session.now c.poll_write_response_header.new.self
-    h.request (Some h.reply.header) c.poll_write_response_header.new.header c.args.now
-    c.poll_write_response_header.result t none in
+    let w = writes_header g.L.Link.state c.args.session.now c.poll_write_response_header-answer.new.self
+    h.request (Some h.reply.header) c.poll_write_response_header-answer.new.header c.args.now
+    c.poll_write_response_header-answer.result t none in
     rw c.note_header-in-Ready-Ok.ensures.rest (
       headed_done (g.SV.ServeHttp.runs c.args.server.now.app) g.L.Link.state c.args.session.now
-          c.poll_write_response_header.new.self c.in-Some.entry c.args.now
-          c.poll_write_response_header.result c.in-Ready-Ok.field-0-0 c.in-Ok.headers.0
+          c.poll_write_response_header-answer.new.self c.in-Some.entry c.args.now
+          c.poll_write_response_header-answer.result c.in-Ready-Ok.field-0-0 c.in-Ok.headers.0
           (c.args.now / 1000) c.note_header-in-Ready-Ok.new.entry.date_text
-          c.reply_keeps-in-Ready-Ok.result c.written_bytes-in-Ready-Ok.result h w b.0
-          c.reply_keeps-in-Ready-Ok.ensures c.written_bytes-in-Ready-Ok.ensures ready,
-      rw
-          c.requires.at (omega arith),
-      tt,
+          c.reply_keeps-keep.result c.written_bytes-written.result h w b.0
+          c.reply_keeps-keep.ensures c.written_bytes-written.ensures ready,
+      rw c.requires.at (omega arith),
+      headed_ahead g.L.Link.state c.args.session.now c.poll_write_response_header-answer.new.self c.in-Some.entry
+          c.args.now c.poll_write_response_header-answer.result c.in-Ready-Ok.field-0-0 c.args.stage.now h w ready
+          c.requires.budget c.requires.at,
     )
 
 pub returns-then-is_none-clause-went : goal.returns-then-is_none-clause-went
@@ -277,15 +278,15 @@ returns-then-is_none-clause-went g c =
     let b = at_some (λ reply. (c.in-Ok.headers.0 ≡ reply.header) ×
     (c.in-Ok.headers.1 ≡ Some reply.header)) c.in-Some.entry.reply h.reply h.replied.is
     c.in-Ok.ensures.ok in
-    let t = taking_header g.L.Link.state c.args.session.now c.poll_write_response_header.new.self
-    c.in-Some.entry c.in-Ok.headers.1 c.poll_write_response_header.new.header c.args.now
-    c.poll_write_response_header.result h b.1 c.poll_write_response_header.ensures.writes in
-    let none = out_where_none c.poll_write_response_header.new.header c.is_none.result
+    let t = taking_header g.L.Link.state c.args.session.now c.poll_write_response_header-answer.new.self
+    c.in-Some.entry c.in-Ok.headers.1 c.poll_write_response_header-answer.new.header c.args.now
+    c.poll_write_response_header-answer.result h b.1 c.poll_write_response_header-answer.ensures.writes in
+    let none = out_where_none c.poll_write_response_header-answer.new.header c.is_none.result
     c.is_none.ensures c.if-is_none.true in
-    let w = writes_header g.L.Link.state c.args.session.now c.poll_write_response_header.new.self
-    h.request (Some h.reply.header) c.poll_write_response_header.new.header c.args.now
-    c.poll_write_response_header.result t none in
-    went_wrote g.L.Link.state c.args.session.now c.poll_write_response_header.new.self w.taking
+    let w = writes_header g.L.Link.state c.args.session.now c.poll_write_response_header-answer.new.self
+    h.request (Some h.reply.header) c.poll_write_response_header-answer.new.header c.args.now
+    c.poll_write_response_header-answer.result t none in
+    went_wrote g.L.Link.state c.args.session.now c.poll_write_response_header-answer.new.self w.taking
     w.left c.requires.budget w.writes
 
 pub returns-then-is_none-clause-since : goal.returns-then-is_none-clause-since
@@ -296,20 +297,20 @@ returns-then-is_none-clause-since g c =
     let b = at_some (λ reply. (c.in-Ok.headers.0 ≡ reply.header) ×
     (c.in-Ok.headers.1 ≡ Some reply.header)) c.in-Some.entry.reply h.reply h.replied.is
     c.in-Ok.ensures.ok in
-    let t = taking_header g.L.Link.state c.args.session.now c.poll_write_response_header.new.self
-    c.in-Some.entry c.in-Ok.headers.1 c.poll_write_response_header.new.header c.args.now
-    c.poll_write_response_header.result h b.1 c.poll_write_response_header.ensures.writes in
-    let none = out_where_none c.poll_write_response_header.new.header c.is_none.result
+    let t = taking_header g.L.Link.state c.args.session.now c.poll_write_response_header-answer.new.self
+    c.in-Some.entry c.in-Ok.headers.1 c.poll_write_response_header-answer.new.header c.args.now
+    c.poll_write_response_header-answer.result h b.1 c.poll_write_response_header-answer.ensures.writes in
+    let none = out_where_none c.poll_write_response_header-answer.new.header c.is_none.result
     c.is_none.ensures c.if-is_none.true in
-    let w = writes_header g.L.Link.state c.args.session.now c.poll_write_response_header.new.self
-    h.request (Some h.reply.header) c.poll_write_response_header.new.header c.args.now
-    c.poll_write_response_header.result t none in
+    let w = writes_header g.L.Link.state c.args.session.now c.poll_write_response_header-answer.new.self
+    h.request (Some h.reply.header) c.poll_write_response_header-answer.new.header c.args.now
+    c.poll_write_response_header-answer.result t none in
     λ before done s. rw c.note_header-then-is_none.ensures.rest
-    (headed_since g.L.Link.state before done c.args.session.now c.poll_write_response_header.new.self
-    c.in-Some.entry c.args.now c.poll_write_response_header.result c.in-Ok.headers.0
-    c.note_header-then-is_none.new.entry.date_text c.reply_keeps-then-is_none.result
-    c.written_bytes-then-is_none.result h w b.0 c.note_header-then-is_none.ensures.date
-    c.reply_keeps-then-is_none.ensures (rw c.in-Some.is at s))
+    (headed_since g.L.Link.state before done c.args.session.now c.poll_write_response_header-answer.new.self
+    c.in-Some.entry c.args.now c.poll_write_response_header-answer.result c.in-Ok.headers.0
+    c.note_header-then-is_none.new.entry.date_text c.reply_keeps-keep.result
+    c.written_bytes-written.result h w b.0 c.note_header-then-is_none.ensures.date
+    c.reply_keeps-keep.ensures (rw c.in-Some.is at s))
 
 pub returns-then-is_none-clause-allowed : goal.returns-then-is_none-clause-allowed
 returns-then-is_none-clause-allowed g c =
@@ -319,23 +320,23 @@ returns-then-is_none-clause-allowed g c =
     let b = at_some (λ reply. (c.in-Ok.headers.0 ≡ reply.header) ×
     (c.in-Ok.headers.1 ≡ Some reply.header)) c.in-Some.entry.reply h.reply h.replied.is
     c.in-Ok.ensures.ok in
-    let t = taking_header g.L.Link.state c.args.session.now c.poll_write_response_header.new.self
-    c.in-Some.entry c.in-Ok.headers.1 c.poll_write_response_header.new.header c.args.now
-    c.poll_write_response_header.result h b.1 c.poll_write_response_header.ensures.writes in
-    let none = out_where_none c.poll_write_response_header.new.header c.is_none.result
+    let t = taking_header g.L.Link.state c.args.session.now c.poll_write_response_header-answer.new.self
+    c.in-Some.entry c.in-Ok.headers.1 c.poll_write_response_header-answer.new.header c.args.now
+    c.poll_write_response_header-answer.result h b.1 c.poll_write_response_header-answer.ensures.writes in
+    let none = out_where_none c.poll_write_response_header-answer.new.header c.is_none.result
     c.is_none.ensures c.if-is_none.true in
-    let w = writes_header g.L.Link.state c.args.session.now c.poll_write_response_header.new.self
-    h.request (Some h.reply.header) c.poll_write_response_header.new.header c.args.now
-    c.poll_write_response_header.result t none in
+    let w = writes_header g.L.Link.state c.args.session.now c.poll_write_response_header-answer.new.self
+    h.request (Some h.reply.header) c.poll_write_response_header-answer.new.header c.args.now
+    c.poll_write_response_header-answer.result t none in
     let a = at_some (IsAllowed (g.SV.ServeHttp.gives c.args.server.now.app)) c.args.last.now
     c.in-Some.entry c.in-Some.is c.requires.allowed in
     rw c.note_header-then-is_none.ensures.rest
     (headed_allowed (g.SV.ServeHttp.gives c.args.server.now.app) g.L.Link.state
-    c.args.session.now c.poll_write_response_header.new.self c.in-Some.entry c.args.now
-    c.poll_write_response_header.result c.in-Ok.headers.0
-    c.note_header-then-is_none.new.entry.date_text c.reply_keeps-then-is_none.result
-    c.written_bytes-then-is_none.result h w b.0 c.note_header-then-is_none.ensures.date
-    c.requires.moment c.reply_keeps-then-is_none.ensures c.requires.lawful a)
+    c.args.session.now c.poll_write_response_header-answer.new.self c.in-Some.entry c.args.now
+    c.poll_write_response_header-answer.result c.in-Ok.headers.0
+    c.note_header-then-is_none.new.entry.date_text c.reply_keeps-keep.result
+    c.written_bytes-written.result h w b.0 c.note_header-then-is_none.ensures.date
+    c.requires.moment c.reply_keeps-keep.ensures c.requires.lawful a)
 
 pub returns-then-is_none-clause-extends : goal.returns-then-is_none-clause-extends
 returns-then-is_none-clause-extends g c = λ shutdown.
@@ -345,20 +346,20 @@ returns-then-is_none-clause-extends g c = λ shutdown.
     let b = at_some (λ reply. (c.in-Ok.headers.0 ≡ reply.header) ×
     (c.in-Ok.headers.1 ≡ Some reply.header)) c.in-Some.entry.reply h.reply h.replied.is
     c.in-Ok.ensures.ok in
-    let t = taking_header g.L.Link.state c.args.session.now c.poll_write_response_header.new.self
-    c.in-Some.entry c.in-Ok.headers.1 c.poll_write_response_header.new.header c.args.now
-    c.poll_write_response_header.result h b.1 c.poll_write_response_header.ensures.writes in
-    let none = out_where_none c.poll_write_response_header.new.header c.is_none.result
+    let t = taking_header g.L.Link.state c.args.session.now c.poll_write_response_header-answer.new.self
+    c.in-Some.entry c.in-Ok.headers.1 c.poll_write_response_header-answer.new.header c.args.now
+    c.poll_write_response_header-answer.result h b.1 c.poll_write_response_header-answer.ensures.writes in
+    let none = out_where_none c.poll_write_response_header-answer.new.header c.is_none.result
     c.is_none.ensures c.if-is_none.true in
-    let w = writes_header g.L.Link.state c.args.session.now c.poll_write_response_header.new.self
-    h.request (Some h.reply.header) c.poll_write_response_header.new.header c.args.now
-    c.poll_write_response_header.result t none in
+    let w = writes_header g.L.Link.state c.args.session.now c.poll_write_response_header-answer.new.self
+    h.request (Some h.reply.header) c.poll_write_response_header-answer.new.header c.args.now
+    c.poll_write_response_header-answer.result t none in
     rw (c.in-Some.is, c.note_header-then-is_none.ensures.rest)
-    (headed_grows g.L.Link.state c.args.session.now c.poll_write_response_header.new.self
-    c.in-Some.entry c.args.now c.poll_write_response_header.result c.in-Ok.headers.0
+    (headed_grows g.L.Link.state c.args.session.now c.poll_write_response_header-answer.new.self
+    c.in-Some.entry c.args.now c.poll_write_response_header-answer.result c.in-Ok.headers.0
     (c.args.now / 1000) c.note_header-then-is_none.new.entry.date_text
-    c.reply_keeps-then-is_none.result c.written_bytes-then-is_none.result h w
-    c.written_bytes-then-is_none.ensures refl)
+    c.reply_keeps-keep.result c.written_bytes-written.result h w
+    c.written_bytes-written.ensures refl)
 
 pub returns-then-is_none-clause-outcome : goal.returns-then-is_none-clause-outcome
 returns-then-is_none-clause-outcome g c =
@@ -368,19 +369,19 @@ returns-then-is_none-clause-outcome g c =
     let b = at_some (λ reply. (c.in-Ok.headers.0 ≡ reply.header) ×
     (c.in-Ok.headers.1 ≡ Some reply.header)) c.in-Some.entry.reply h.reply h.replied.is
     c.in-Ok.ensures.ok in
-    let t = taking_header g.L.Link.state c.args.session.now c.poll_write_response_header.new.self
-    c.in-Some.entry c.in-Ok.headers.1 c.poll_write_response_header.new.header c.args.now
-    c.poll_write_response_header.result h b.1 c.poll_write_response_header.ensures.writes in
-    let none = out_where_none c.poll_write_response_header.new.header c.is_none.result
+    let t = taking_header g.L.Link.state c.args.session.now c.poll_write_response_header-answer.new.self
+    c.in-Some.entry c.in-Ok.headers.1 c.poll_write_response_header-answer.new.header c.args.now
+    c.poll_write_response_header-answer.result h b.1 c.poll_write_response_header-answer.ensures.writes in
+    let none = out_where_none c.poll_write_response_header-answer.new.header c.is_none.result
     c.is_none.ensures c.if-is_none.true in
-    let w = writes_header g.L.Link.state c.args.session.now c.poll_write_response_header.new.self
-    h.request (Some h.reply.header) c.poll_write_response_header.new.header c.args.now
-    c.poll_write_response_header.result t none in
+    let w = writes_header g.L.Link.state c.args.session.now c.poll_write_response_header-answer.new.self
+    h.request (Some h.reply.header) c.poll_write_response_header-answer.new.header c.args.now
+    c.poll_write_response_header-answer.result t none in
     λ before done s. headed_fails g.L.Link.state before done c.args.session.now
-    c.poll_write_response_header.new.self _ h.request (Some h.reply.header) c.args.now
-    c.poll_write_response_header.result c.in-Ready-Err.error w
+    c.poll_write_response_header-answer.new.self _ h.request (Some h.reply.header) c.args.now
+    c.poll_write_response_header-answer.result c.in-Ready-Err.error w
     (ready_is _ c.in-Ready-Err.field-0 (Err c.in-Ready-Err.error) c.in-Ready-Err.is
-    c.in-Ready-Err.field-0-is)
+    (rw c.in-Ready-Err.is at c.in-Ready-Err.field-0-is))
 
 pub returns-else-is_none-clause-went : goal.returns-else-is_none-clause-went
 returns-else-is_none-clause-went g c =
@@ -390,14 +391,14 @@ returns-else-is_none-clause-went g c =
     let b = at_some (λ reply. (c.in-Ok.headers.0 ≡ reply.header) ×
     (c.in-Ok.headers.1 ≡ Some reply.header)) c.in-Some.entry.reply h.reply h.replied.is
     c.in-Ok.ensures.ok in
-    let t = taking_header g.L.Link.state c.args.session.now c.poll_write_response_header.new.self
-    c.in-Some.entry c.in-Ok.headers.1 c.poll_write_response_header.new.header c.args.now
-    c.poll_write_response_header.result h b.1 c.poll_write_response_header.ensures.writes in
+    let t = taking_header g.L.Link.state c.args.session.now c.poll_write_response_header-answer.new.self
+    c.in-Some.entry c.in-Ok.headers.1 c.poll_write_response_header-answer.new.header c.args.now
+    c.poll_write_response_header-answer.result h b.1 c.poll_write_response_header-answer.ensures.writes in
     let same = same_where_kept g.L.Link.state c.args.session.now
-    c.poll_write_response_header.new.self h.request (Some h.reply.header)
-    c.poll_write_response_header.new.header c.args.now c.poll_write_response_header.result
+    c.poll_write_response_header-answer.new.self h.request (Some h.reply.header)
+    c.poll_write_response_header-answer.new.header c.args.now c.poll_write_response_header-answer.result
     c.is_none.result t c.is_none.ensures c.if-is_none.false in
-    went_same g.L.Link.state c.args.session.now c.poll_write_response_header.new.self same
+    went_same g.L.Link.state c.args.session.now c.poll_write_response_header-answer.new.self same
     (moved_itself (g.L.Link.state c.args.session.now.link)) c.requires.budget
 
 pub returns-else-is_none-clause-extends : goal.returns-else-is_none-clause-extends
@@ -416,16 +417,16 @@ returns-in-Pending-clause-few g c =
     let b = at_some (λ reply. (c.in-Ok.headers.0 ≡ reply.header) ×
     (c.in-Ok.headers.1 ≡ Some reply.header)) c.in-Some.entry.reply h.reply h.replied.is
     c.in-Ok.ensures.ok in
-    let t = taking_header g.L.Link.state c.args.session.now c.poll_write_response_header.new.self
-    c.in-Some.entry c.in-Ok.headers.1 c.poll_write_response_header.new.header c.args.now
-    c.poll_write_response_header.result h b.1 c.poll_write_response_header.ensures.writes in
+    let t = taking_header g.L.Link.state c.args.session.now c.poll_write_response_header-answer.new.self
+    c.in-Some.entry c.in-Ok.headers.1 c.poll_write_response_header-answer.new.header c.args.now
+    c.poll_write_response_header-answer.result h b.1 c.poll_write_response_header-answer.ensures.writes in
     let none = out_where_pending g.L.Link.state c.args.session.now
-    c.poll_write_response_header.new.self h.request (Some h.reply.header)
-    c.poll_write_response_header.new.header c.args.now c.poll_write_response_header.result t
+    c.poll_write_response_header-answer.new.self h.request (Some h.reply.header)
+    c.poll_write_response_header-answer.new.header c.args.now c.poll_write_response_header-answer.result t
     c.in-Pending.is in
-    let w = writes_header g.L.Link.state c.args.session.now c.poll_write_response_header.new.self
-    h.request (Some h.reply.header) c.poll_write_response_header.new.header c.args.now
-    c.poll_write_response_header.result t none in
+    let w = writes_header g.L.Link.state c.args.session.now c.poll_write_response_header-answer.new.self
+    h.request (Some h.reply.header) c.poll_write_response_header-answer.new.header c.args.now
+    c.poll_write_response_header-answer.result t none in
     w.writes.sent.unread
 
 pub returns-in-Ready-Ok-clause-few : goal.returns-in-Ready-Ok-clause-few
@@ -436,18 +437,18 @@ returns-in-Ready-Ok-clause-few g c =
     let b = at_some (λ reply. (c.in-Ok.headers.0 ≡ reply.header) ×
     (c.in-Ok.headers.1 ≡ Some reply.header)) c.in-Some.entry.reply h.reply h.replied.is
     c.in-Ok.ensures.ok in
-    let t = taking_header g.L.Link.state c.args.session.now c.poll_write_response_header.new.self
-    c.in-Some.entry c.in-Ok.headers.1 c.poll_write_response_header.new.header c.args.now
-    c.poll_write_response_header.result h b.1 c.poll_write_response_header.ensures.writes in
+    let t = taking_header g.L.Link.state c.args.session.now c.poll_write_response_header-answer.new.self
+    c.in-Some.entry c.in-Ok.headers.1 c.poll_write_response_header-answer.new.header c.args.now
+    c.poll_write_response_header-answer.result h b.1 c.poll_write_response_header-answer.ensures.writes in
     let ready = ready_is _ c.in-Ready-Ok.field-0 (Ok c.in-Ready-Ok.field-0-0) c.in-Ready-Ok.is
-    c.in-Ready-Ok.field-0-is in
+    (rw c.in-Ready-Ok.is at c.in-Ready-Ok.field-0-is) in
     let none = out_where_done g.L.Link.state c.args.session.now
-    c.poll_write_response_header.new.self h.request (Some h.reply.header)
-    c.poll_write_response_header.new.header c.args.now c.poll_write_response_header.result
+    c.poll_write_response_header-answer.new.self h.request (Some h.reply.header)
+    c.poll_write_response_header-answer.new.header c.args.now c.poll_write_response_header-answer.result
     c.in-Ready-Ok.field-0-0 t ready in
-    let w = writes_header g.L.Link.state c.args.session.now c.poll_write_response_header.new.self
-    h.request (Some h.reply.header) c.poll_write_response_header.new.header c.args.now
-    c.poll_write_response_header.result t none in
+    let w = writes_header g.L.Link.state c.args.session.now c.poll_write_response_header-answer.new.self
+    h.request (Some h.reply.header) c.poll_write_response_header-answer.new.header c.args.now
+    c.poll_write_response_header-answer.result t none in
     w.writes.sent.unread
 
 pub returns-then-is_none-clause-few : goal.returns-then-is_none-clause-few
@@ -458,14 +459,14 @@ returns-then-is_none-clause-few g c =
     let b = at_some (λ reply. (c.in-Ok.headers.0 ≡ reply.header) ×
     (c.in-Ok.headers.1 ≡ Some reply.header)) c.in-Some.entry.reply h.reply h.replied.is
     c.in-Ok.ensures.ok in
-    let t = taking_header g.L.Link.state c.args.session.now c.poll_write_response_header.new.self
-    c.in-Some.entry c.in-Ok.headers.1 c.poll_write_response_header.new.header c.args.now
-    c.poll_write_response_header.result h b.1 c.poll_write_response_header.ensures.writes in
-    let none = out_where_none c.poll_write_response_header.new.header c.is_none.result
+    let t = taking_header g.L.Link.state c.args.session.now c.poll_write_response_header-answer.new.self
+    c.in-Some.entry c.in-Ok.headers.1 c.poll_write_response_header-answer.new.header c.args.now
+    c.poll_write_response_header-answer.result h b.1 c.poll_write_response_header-answer.ensures.writes in
+    let none = out_where_none c.poll_write_response_header-answer.new.header c.is_none.result
     c.is_none.ensures c.if-is_none.true in
-    let w = writes_header g.L.Link.state c.args.session.now c.poll_write_response_header.new.self
-    h.request (Some h.reply.header) c.poll_write_response_header.new.header c.args.now
-    c.poll_write_response_header.result t none in
+    let w = writes_header g.L.Link.state c.args.session.now c.poll_write_response_header-answer.new.self
+    h.request (Some h.reply.header) c.poll_write_response_header-answer.new.header c.args.now
+    c.poll_write_response_header-answer.result t none in
     w.writes.sent.unread
 
 pub returns-else-is_none-clause-few : goal.returns-else-is_none-clause-few
@@ -476,11 +477,11 @@ returns-else-is_none-clause-few g c =
     let b = at_some (λ reply. (c.in-Ok.headers.0 ≡ reply.header) ×
     (c.in-Ok.headers.1 ≡ Some reply.header)) c.in-Some.entry.reply h.reply h.replied.is
     c.in-Ok.ensures.ok in
-    let t = taking_header g.L.Link.state c.args.session.now c.poll_write_response_header.new.self
-    c.in-Some.entry c.in-Ok.headers.1 c.poll_write_response_header.new.header c.args.now
-    c.poll_write_response_header.result h b.1 c.poll_write_response_header.ensures.writes in
+    let t = taking_header g.L.Link.state c.args.session.now c.poll_write_response_header-answer.new.self
+    c.in-Some.entry c.in-Ok.headers.1 c.poll_write_response_header-answer.new.header c.args.now
+    c.poll_write_response_header-answer.result h b.1 c.poll_write_response_header-answer.ensures.writes in
     let same = same_where_kept g.L.Link.state c.args.session.now
-    c.poll_write_response_header.new.self h.request (Some h.reply.header)
-    c.poll_write_response_header.new.header c.args.now c.poll_write_response_header.result
+    c.poll_write_response_header-answer.new.self h.request (Some h.reply.header)
+    c.poll_write_response_header-answer.new.header c.args.now c.poll_write_response_header-answer.result
     c.is_none.result t c.is_none.ensures c.if-is_none.false in
     ap (λ x. (g.L.Link.state x.link).read_waits) same

@@ -1,6 +1,7 @@
 -- The body goes on.
 use Rattle.std.proofs.Common.{Ok, arith}
-use Rattle.h1_app.proofs.ReplyLemmas.{ready_is}
+use Rattle.h1_app.specs.declared.exchange.Stage.TheVariants as at
+use Rattle.h1_app.proofs.ReplyLemmas.{ready_is, ahead_down, went_wrote}
 use Rattle.h1_app.proofs.BodyReplies.{at_body, body_call, piece_since, piece_grows, piece_waits, piece_done}
 use Rattle.h1_app.proofs.steps.replying.write_body.Goals as goal
 
@@ -13,7 +14,7 @@ returns-in-Pending-clause-since g c =
     c.poll_write_body-answer.ensures.writes in
     λ before done s. piece_since g.L.Link.state before done c.args.session.now
     c.poll_write_body-answer.new.self c.in-Some.entry c.poll_write_body-answer.new.buf
-    c.poll_write_body-answer.result c.written_bytes-entry.result w (rw c.in-Some.is at s)
+    c.poll_write_body-answer.result c.written_bytes-entry.result h w (rw c.in-Some.is at s)
 
 pub returns-in-Pending-clause-extends : goal.returns-in-Pending-clause-extends
 returns-in-Pending-clause-extends g c = λ shutdown.
@@ -48,7 +49,7 @@ returns-in-Ready-Ok-clause-since g c =
     c.poll_write_body-answer.ensures.writes in
     λ before done s. piece_since g.L.Link.state before done c.args.session.now
     c.poll_write_body-answer.new.self c.in-Some.entry c.poll_write_body-answer.new.buf
-    c.poll_write_body-answer.result c.written_bytes-entry.result w (rw c.in-Some.is at s)
+    c.poll_write_body-answer.result c.written_bytes-entry.result h w (rw c.in-Some.is at s)
 
 pub returns-in-Ready-Ok-clause-extends : goal.returns-in-Ready-Ok-clause-extends
 returns-in-Ready-Ok-clause-extends g c = λ shutdown.
@@ -73,9 +74,10 @@ returns-in-Ready-Ok-clause-outcome g c =
           c.poll_write_body-answer.result c.in-Ready-Ok.field-0-0 c.written_bytes-entry.result h w
           c.written_bytes-entry.ensures (ready_is _ c.in-Ready-Ok.field-0 (Ok c.in-Ready-Ok.field-0-0)
           c.in-Ready-Ok.is (rw c.in-Ready-Ok.is at c.in-Ready-Ok.field-0-is)),
-      rw c.requires.at
-          (omega arith),
-      tt,
+      rw c.requires.at (omega arith),
+      ahead_down g.L.Link.state c.args.session.now c.poll_write_body-answer.new.self c.args.stage.now at.Finish
+          (went_wrote g.L.Link.state c.args.session.now c.poll_write_body-answer.new.self w.taking w.left
+          c.requires.budget w.writes) (rw c.requires.at (omega arith)),
     )
 
 pub returns-clause-since : goal.returns-clause-since
@@ -87,7 +89,7 @@ returns-clause-since g c =
     c.poll_write_body-answer.ensures.writes in
     λ before done s. piece_since g.L.Link.state before done c.args.session.now
     c.poll_write_body-answer.new.self c.in-Some.entry c.poll_write_body-answer.new.buf
-    c.poll_write_body-answer.result c.written_bytes-entry.result w (rw c.in-Some.is at s)
+    c.poll_write_body-answer.result c.written_bytes-entry.result h w (rw c.in-Some.is at s)
 
 pub returns-clause-extends : goal.returns-clause-extends
 returns-clause-extends g c = λ shutdown.

@@ -1,6 +1,7 @@
 -- The header goes on.
 use Rattle.std.proofs.Common.{Ok, arith}
-use Rattle.h1_app.proofs.ReplyLemmas.{ready_is}
+use Rattle.h1_app.specs.declared.exchange.Stage.TheVariants as at
+use Rattle.h1_app.proofs.ReplyLemmas.{ready_is, ahead_down, went_wrote}
 use Rattle.h1_app.proofs.HeaderReplies.{at_header, header_call, header_since, header_grows, header_waits, header_done}
 use Rattle.h1_app.proofs.steps.replying.write_header.Goals as goal
 
@@ -90,7 +91,9 @@ returns-in-Ready-Ok-clause-outcome g c =
           (ready_is _ c.in-Ready-Ok.field-0 (Ok c.in-Ready-Ok.field-0-0) c.in-Ready-Ok.is
           (rw c.in-Ready-Ok.is at c.in-Ready-Ok.field-0-is)),
       rw c.requires.at (omega arith),
-      tt,
+      ahead_down g.L.Link.state c.args.session.now c.poll_write_response_header-answer.new.self c.args.stage.now at.TakeBody
+          (went_wrote g.L.Link.state c.args.session.now c.poll_write_response_header-answer.new.self w.taking w.left
+          c.requires.budget w.writes) (rw c.requires.at (omega arith)),
     )
 
 pub returns-clause-since : goal.returns-clause-since

@@ -1,0 +1,14 @@
+use Rattle.std.proofs.Common.{ap}
+use Rattle.h1_app.specs.Application.{given_by}
+use Rattle.h1_app.proofs.RefusalLemmas.{refusal_gives, refusal_reads}
+use Rattle.h1_app.proofs.tests.RefusesServeHttp.poll_response.Goals as goal
+
+pub returns-clause-reads : goal.returns-clause-reads
+returns-clause-reads g c =
+    refusal_reads g.L.Link.state c.args.http.now c.set_close_on_response_before_downstream_finish.new.self c.set_pipelining_enabled.new.self _ _
+    c.set_close_on_response_before_downstream_finish.ensures c.set_pipelining_enabled.ensures
+    (ap (λ s. s.settings.reuses) c.set_close_on_response_before_downstream_finish.ensures)
+
+pub returns-clause-gives : goal.returns-clause-gives
+returns-clause-gives g c = λ head began asked runs.
+    refusal_gives (given_by head began c.set_pipelining_enabled.new.self) c.refusal.result c.refusal.ensures.ok c.refusal.ensures.err

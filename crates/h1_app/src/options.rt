@@ -1,0 +1,10 @@
+//! What is set on a server.
+
+/// What a server sets on each of its connections.
+#[derive(Clone, Debug, Default, Drop)]
+pub struct HttpServerOptions {
+    /// How many requests more than the first a connection may serve; None is no limit.
+    pub keepalive_request_limit: Option<u32>,
+    /// Stored only.
+    pub allow_connect_method_proxying: bool,
+}
