@@ -5,3 +5,5 @@ pub mod LineLemmas
 pub mod ExchangeLemmas
 pub mod StatusLemmas
 pub mod CauseLemmas
+pub mod AlikeLemmas
+pub mod FinishedLemmas

@@ -5,10 +5,10 @@ use Rattle.std.specs.Str.{bytes_eq}
 use Rattle.std.proofs.lemmas.Bool.Decides.{nat_tests}
 use Rattle.h1_words.specs.Number.{number_up_to, number_from, with_digit}
 use Rattle.h1_words.specs.ByteText.{bytes_of_text}
-use Rattle.h1_words.specs.Command.{behind_words, give_line, poll_line, command_of}
+use Rattle.h1_words.specs.Command.{behind_words, give_line, poll_line, limit_line, command_of}
 use Rattle.h1_words.specs.Script.{at_line, stopped_at, ScriptOutcome, commands, faulty_at, may_follow, place_after, with_command, reading_behind, outcome_of, line_at, faulty_by, script_of, lines_of, first_line}
 use Rattle.h1_words.specs.declared.number.TheConstants.{MAX_DIGITS}
-use Rattle.h1_words.specs.declared.command.TheConstants.{LAST_MOMENT}
+use Rattle.h1_words.specs.declared.command.TheConstants.{LAST_MOMENT, MAX_LIMIT}
 use Rattle.h1_words.specs.declared.script.TheConstants.{MAX_SCRIPT}
 use Rattle.h1_words.specs.declared.command.Command.{Command}
 use Rattle.h1_words.specs.declared.command.Command.TheVariants as command
@@ -55,36 +55,54 @@ poll_of_number : (o : Option ℕ) → IfSome o (λ n. n ≤ LAST_MOMENT) → IfS
 poll_of_number None h = tt
 poll_of_number (Some n) h = h
 
-poll_in_time : (o : Option (List ℕ)) → IfSome (poll_line o) IsInTime
-poll_in_time None = tt
-poll_in_time (Some digits) = poll_of_number (number_up_to LAST_MOMENT digits) (number_within LAST_MOMENT digits)
+limit_of_number : (o : Option ℕ) → IfSome (option_map command.Limit o) IsInTime
+limit_of_number None = tt
+limit_of_number (Some n) = tt
+
+limit_in_time : (o : Option (List ℕ)) → IfSome (limit_line o) IsInTime
+limit_in_time None = tt
+limit_in_time (Some digits) = limit_of_number (number_up_to MAX_LIMIT digits)
+
+poll_in_time : (line : List ℕ) (o : Option (List ℕ)) → IfSome (poll_line line o) IsInTime
+poll_in_time line None = limit_in_time (behind_words (codes "limit ") line)
+poll_in_time line (Some digits) = poll_of_number (number_up_to LAST_MOMENT digits) (number_within LAST_MOMENT digits)
 
 give_of_bytes : (o : Option (List ℕ)) → IfSome (option_map command.Give o) IsInTime
 give_of_bytes None = tt
 give_of_bytes (Some bytes) = tt
 
 give_in_time : (line : List ℕ) (o : Option (List ℕ)) → IfSome (give_line line o) IsInTime
-give_in_time line None = poll_in_time (behind_words (codes "poll ") line)
+give_in_time line None = poll_in_time line (behind_words (codes "poll ") line)
 give_in_time line (Some text) = give_of_bytes (bytes_of_text text)
 
-end_in_time : (b : Bool) (o : Option Command) → IfSome o IsInTime → IfSome (cond b (Some command.End) o) IsInTime
-end_in_time true o h = tt
-end_in_time false o h = h
+chosen_in_time : (b : Bool) (c : Command) (o : Option Command) → IsInTime c → IfSome o IsInTime
+    → IfSome (cond b (Some c) o) IsInTime
+chosen_in_time true c o time h = time
+chosen_in_time false c o time h = h
 
 -- the command of a line is in time
 command_in_time : (line : List ℕ) → IfSome (command_of line) IsInTime
 command_in_time line =
-    end_in_time (bytes_eq line (codes "end")) (give_line line (behind_words (codes "give ") line))
-    (give_in_time line (behind_words (codes "give ") line))
+    let given = give_line line (behind_words (codes "give ") line) in
+    let shuts = chosen_in_time (bytes_eq line (codes "shutdown")) command.Shutdown given tt
+    (give_in_time line (behind_words (codes "give ") line)) in
+    chosen_in_time (bytes_eq line (codes "end")) command.End
+    (cond (bytes_eq line (codes "shutdown")) (Some command.Shutdown) given) tt shuts
 
 not_true : (b : Bool) → not b ≡ true → b ≡ false
 not_true true e = cc
 not_true false e = refl
 
+neither : (a b : Bool) → (not a && not b) ≡ true → (a ≡ false) × (b ≡ false)
+neither true b e = cc
+neither false b e = (refl, not_true b e)
+
 -- what may follow may stand
 may_stand : (place : Place) (c : Command) → may_follow place c ≡ true → MayStand place c
 may_stand place (command.Give bytes) e = not_true place.ended e
 may_stand place command.End e = not_true place.ended e
+may_stand place command.Shutdown e = tt
+may_stand place (command.Limit count) e = neither place.polled place.limited e
 may_stand place (command.Poll moment) e = grind (arith, nat_tests)
 
 -- a reading that stopped stays so

@@ -1,12 +1,13 @@
 -- Lemmas on one poll of a script's connection.
-use Rattle.std.proofs.Common.{◌≡◌, ℕ, zero, suc, ◌+◌, ◌≤◌, ◌<◌, Bool, true, false, List, ◌++◌, length, Option, Some, None, is_some, IsTrue, IfSome, IfNone, refl, ap, ◌∙◌, arith}
+use Rattle.std.proofs.Common.{◌≡◌, ℕ, zero, suc, ◌+◌, ◌≤◌, ◌<◌, ◌⊎◌, inl, inr, Bool, true, false, nat_lt, List, ◌++◌, length, Option, Some, None, is_some, IsTrue, IfSome, IfNone, refl, ap, ◌∙◌, arith}
+use Rattle.std.proofs.lemmas.Bool.Decides.{nat_tests}
 use Rattle.std.proofs.lemmas.List.{take_all}
 use Rattle.h1_error.specs.declared.progress.Waiting.{Waiting}
 use Rattle.h1_error.specs.declared.progress.Waiting.TheVariants as waiting
 use Rattle.h1_error.specs.declared.progress.Progress.{Progress}
 use Rattle.h1_error.specs.declared.progress.Progress.TheVariants as progress
 use Rattle.h1_link.specs.Later.{Later}
-use Rattle.h1_link.specs.MemState.{MemState, new_mem_state}
+use Rattle.h1_link.specs.MemState.{MemState}
 use Rattle.h1_link.specs.MemPlan.{SamePlan, faults_due}
 use Rattle.h1_link.specs.MemRule.{Rule, EndReached}
 use Rattle.h1_link.specs.Gate.{IsClosed, gate_from}
@@ -14,40 +15,61 @@ use Rattle.h1_link.specs.declared.memory.gate.Gate.{Gate}
 use Rattle.h1_link.specs.declared.memory.gate.Gate.TheVariants.{Open, Room, Blocked}
 use Rattle.h1_app.specs.declared.exchange.Stage.{Stage}
 use Rattle.h1_app.specs.declared.exchange.Stage.TheVariants as stage
-use Rattle.h1_app.specs.View.{View, entries}
+use Rattle.h1_app.specs.View.{entries}
+use Rattle.h1_app.specs.Waits.{replies}
+use Rattle.h1_app.specs.declared.echo.EchoJob.{EchoJob}
 use Rattle.h1_app.specs.Since.{Since}
 use Rattle.h1_app.specs.Agrees.{Agrees}
 use Rattle.h1_app.specs.Growth.{Extends}
-use Rattle.h1_app.specs.Causes.{Cause, WaitCause, PendedBy}
+use Rattle.h1_app.specs.Causes.{Cause, WaitCause, PendedNew, PendedOn, PendedBy}
 use Rattle.h1_app.specs.Echo.{EchoGives}
 use Rattle.h1_words.specs.declared.command.Command.TheVariants as command
 use Rattle.h1_words.specs.declared.place.Place.{Place}
-use Rattle.h1_serve.specs.State.{link_state, state_of}
+use Rattle.h1_serve.specs.declared.scripted.Scripted.{Scripted}
+use Rattle.h1_serve.specs.State.{State, Served, new_link, link_state, state_of}
 use Rattle.h1_serve.specs.PollLine.{NothingFailed, PendsFor, IsAnswered, AnswerCause, Polls, poll_line}
 use Rattle.h1_serve.specs.Running.{EndsAt, IsScripted, IsRunning}
 use Rattle.h1_serve.specs.Done.{ObeysOnce}
 
 -- the job of an application that is never slow
-no_pending : {J : Type 0} (begins : J → Type 0) (from to : Stage J) → PendedBy begins (λ _. 0) from to → ⊥
-no_pending begins (stage.Answer before) (stage.Answer job) p = omega (arith, p)
-no_pending begins stage.Head (stage.Answer job) p = omega (arith, p.2)
-no_pending begins (stage.Answer before) _ p = p
-no_pending begins stage.Head _ p = p
-no_pending begins _ to p = p
+never_new : (begins : EchoJob → Type 0) (to : Stage EchoJob) → PendedNew begins (λ _. 0) to → ⊥
+never_new begins (stage.Answer job) p = omega (arith, p.2)
+never_new begins _ p = p
 
-pends_for : {A J : Type 0} (begins : J → Type 0) (from to : View MemState A J) (what : Waiting)
-    → NothingFailed to.session.link.state
-    → WaitCause begins (λ _. 0) new_mem_state.state from.session.link.state to.session.link.state from to what
+never_on : (begins : EchoJob → Type 0) (from to : Stage EchoJob) → PendedOn begins (λ _. 0) from to → ⊥
+never_on begins (stage.Answer before) (stage.Answer job) p = omega (arith, p)
+never_on begins stage.Head to p = never_new begins to p
+never_on begins (stage.Answer before) _ p = p
+never_on begins _ to p = p
+
+same_or_more : (a b : ℕ) → a ≤ b → (b ≡ a) ⊎ (a < b)
+same_or_more a b le = same_if (nat_lt a b) a b le refl where
+  same_if : (t : Bool) (a b : ℕ) → a ≤ b → nat_lt a b ≡ t → (b ≡ a) ⊎ (a < b)
+  same_if true a b le test = inr (grind (arith, nat_tests))
+  same_if false a b le test = inl (grind (arith, nat_tests))
+
+never_pends : (begins : EchoJob → Type 0) (from to : Served)
+    → PendedBy begins (λ _. 0) from.done to.done from.stage to.stage → ⊥
+never_pends begins from to p =
+    elim (same_or_more (length from.done) (length to.done) p.longer) [
+      | inl same ↦ never_on begins from.stage to.stage (p.same same)
+      | inr more ↦ never_new begins to.stage (p.later more)
+    ]
+
+pends_for : (begins : EchoJob → Type 0) (from to : Scripted) (what : Waiting)
+    → NothingFailed to.connection.session.link.state
+    → WaitCause begins (λ _. 0) new_link from.connection.session.link.state to.connection.session.link.state from.connection to.connection what
     → PendsFor (state_of from) (state_of to) what
 pends_for begins from to waiting.Read faultless cause = cause
 pends_for begins from to waiting.Write faultless cause =
     let rose = cause.0 in absurd (omega (arith, rose, faultless.stalls))
-pends_for begins from to waiting.App faultless cause = no_pending begins from.stage to.stage cause.1
+pends_for begins from to waiting.App faultless cause =
+    never_pends begins from.connection to.connection cause.1
 pends_for begins from to waiting.Budget faultless cause = cause
 
-answer_cause : {A J : Type 0} (begins : J → Type 0) (from to : View MemState A J) (answer : Progress)
-    → NothingFailed to.session.link.state → IsAnswered answer
-    → Cause link_state begins (λ _. 0) new_mem_state.state from to answer
+answer_cause : (begins : EchoJob → Type 0) (from to : Scripted) (answer : Progress)
+    → NothingFailed to.connection.session.link.state → IsAnswered answer
+    → Cause link_state begins (λ _. 0) new_link from.connection to.connection answer
     → AnswerCause (state_of from) (state_of to) answer
 answer_cause begins from to (progress.Pending what) faultless answered cause =
     (cause.0, pends_for begins from to what faultless cause.1)
@@ -123,42 +145,58 @@ waited old new plan before behind more =
     (all_given new behind (omega (arith, all.0)), ap is_some all.1)
 
 -- what a poll of the connection ensures
-pub record Polled {A J : Type 0} (begins : J → Type 0) (moment : ℕ) (old : View MemState A J) (answer : Progress) (new : View MemState A J) : Type 0 where
-  pub later : Later old.session.link.state new.session.link.state
-  pub plan : SamePlan old.session.link new.session.link
-  pub since : Since link_state new_mem_state.state new.session new.done new.last
-  pub agrees : Agrees EchoGives new_mem_state.state new.session.link.state (entries new)
-  pub extends : Extends moment false old.session.link.state new.session.link.state (entries old) (entries new)
-  pub most : new.session.link.state.moves ≤ old.session.link.state.moves + 64
-  pub few : new.session.link.state.read_waits ≤ old.session.link.state.read_waits + 1
-  pub ended : IfSome old.end (λ reason. (answer ≡ progress.Ready reason) × (new ≡ old))
-  pub cause : IfNone old.end (Cause link_state begins (λ _. 0) new_mem_state.state old new answer)
+pub record Polled (begins : EchoJob → Type 0) (moment : ℕ) (old : Scripted) (answer : Progress) (new : Scripted) : Type 0 where
+  pub later : Later old.connection.session.link.state new.connection.session.link.state
+  pub plan : SamePlan old.connection.session.link new.connection.session.link
+  pub limit : new.connection.limit ≡ old.connection.limit
+  pub shut : new.shutdown ≡ old.shutdown
+  pub since : Since link_state new_link new.connection.session new.connection.done new.connection.last
+  pub agrees : Agrees EchoGives new.connection.limit new_link new.connection.session.link.state (entries new.connection)
+  pub extends : Extends moment old.shutdown old.connection.session.link.state new.connection.session.link.state (entries old.connection) (entries new.connection)
+  pub most : new.connection.session.link.state.moves ≤ old.connection.session.link.state.moves + 64
+  pub few : new.connection.session.link.state.read_waits + replies (entries old.connection)
+      ≤ old.connection.session.link.state.read_waits + replies (entries new.connection) + 1
+  pub ended : IfSome old.connection.end (λ reason. (answer ≡ progress.Ready reason) × (new.connection ≡ old.connection))
+  pub cause : IfNone old.connection.end (Cause link_state begins (λ _. 0) new_link old.connection new.connection answer)
 
-polls : {A J : Type 0} (begins : J → Type 0) (place : Place) (moment : ℕ) (old new : View MemState A J) (answer : Progress)
-    → IsRunning place old → Polled begins moment old answer new → Rule old.session.link → Rule new.session.link → IsAnswered answer
+-- a connection that stays leaves the state as it was
+same_state : (old new : Scripted) → new.shutdown ≡ old.shutdown → new.connection ≡ old.connection
+    → state_of new ≡ state_of old
+same_state old new shut same =
+    let seen : Bool → Served → State = λ shut served. state_of (record { connection = served; shutdown = shut }) in
+    ap (λ (b : Bool). seen b new.connection) shut ∙ ap (λ (c : Served). seen old.shutdown c) same
+
+polls : (begins : EchoJob → Type 0) (place : Place) (moment : ℕ) (old new : Scripted) (answer : Progress)
+    → IsRunning place old.connection → Polled begins moment old answer new
+    → Rule old.connection.session.link → Rule new.connection.session.link → IsAnswered answer
     → Polls moment (state_of old) answer (state_of new)
 polls begins place moment old new answer running polled before behind answered =
-    let link = stays_scripted place.ended old.session.link new.session.link running.link polled.plan in
-    let faultless = nothing_failed place.ended new.session.link link behind in
+    let from = old.connection.session.link in
+    let to = new.connection.session.link in
+    let link = stays_scripted place.ended from to running.link polled.plan in
+    let faultless = nothing_failed place.ended to link behind in
     record {
       put = polled.plan.put;
       said = ap is_some polled.plan.end_at;
+      limit = polled.limit;
+      shut = polled.shut;
       later = polled.later;
       agrees = polled.agrees;
       extends = polled.extends;
       given = behind.given;
-      ended = met_end place.ended new.session.link link behind;
-      waits = waited old.session.link new.session.link polled.plan before behind;
+      ended = met_end place.ended to link behind;
+      waits = waited from to polled.plan before behind;
       faultless = faultless;
       most = polled.most;
       few = polled.few;
-      again = if_some old.end _ _ (λ reason same. (same.0, ap state_of same.1)) polled.ended;
-      cause = if_none old.end _ _ (answer_cause begins old new answer faultless answered) polled.cause;
+      again = if_some old.connection.end _ _ (λ reason same. (same.0, same_state old new polled.shut same.1)) polled.ended;
+      cause = if_none old.connection.end _ _ (answer_cause begins old new answer faultless answered) polled.cause;
     }
 
 -- one poll obeys its line
-pub polls_once : {A J : Type 0} (begins : J → Type 0) (place : Place) (old new : View MemState A J) (moment : ℕ) (answer : Progress) (text behind_text : List ℕ)
-    → IsRunning place old → Polled begins moment old answer new → Rule old.session.link → Rule new.session.link → IsAnswered answer
+pub polls_once : (begins : EchoJob → Type 0) (place : Place) (old new : Scripted) (moment : ℕ) (answer : Progress) (text behind_text : List ℕ)
+    → IsRunning place old.connection → Polled begins moment old answer new
+    → Rule old.connection.session.link → Rule new.connection.session.link → IsAnswered answer
     → behind_text ≡ text ++ poll_line moment answer
     → ObeysOnce place old (command.Poll moment) text new behind_text
 polls_once begins place old new moment answer text behind_text running polled before behind answered is = record {
@@ -167,6 +205,6 @@ polls_once begins place old new moment answer text behind_text running polled be
   obeys = (answer, refl, polls begins place moment old new answer running polled before behind answered);
   running = record {
     since = polled.since;
-    link = stays_scripted place.ended old.session.link new.session.link running.link polled.plan;
+    link = stays_scripted place.ended old.connection.session.link new.connection.session.link running.link polled.plan;
   };
 }

@@ -4,6 +4,7 @@ pub mod ExchangeText
 pub mod State
 pub mod PollLine
 pub mod Report
+pub mod Finished
 pub mod Status
 pub mod Running
 pub mod Done

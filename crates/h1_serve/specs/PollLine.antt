@@ -16,8 +16,8 @@ use Rattle.h1_app.specs.Agrees.{Agrees}
 use Rattle.h1_app.specs.Growth.{Extends}
 use Rattle.h1_app.specs.Causes.{EndCause, LacksSo, ToldGrowth}
 use Rattle.h1_app.specs.Echo.{EchoGives}
-use Rattle.h1_app.specs.Since.{IfTold}
-use Rattle.h1_serve.specs.State.{State, start, transcript}
+use Rattle.h1_app.specs.Waits.{replies}
+use Rattle.h1_serve.specs.State.{State, new_link, transcript}
 
 -- no call of the link failed, and no write or flush was not ready
 pub record NothingFailed (link : LinkState) : Type 0 where
@@ -28,7 +28,7 @@ pub record NothingFailed (link : LinkState) : Type 0 where
 -- when a poll answers that it waits: never for a write or for the application
 abbrev pub PendsFor : State → State → Waiting → Type 0
 PendsFor s t waiting.Read = Rose s.link.read_waits t.link.read_waits
-    × IfTold start.link.given t.link.given (λ since. LacksSo since t.done t.last)
+    × LacksSo new_link t.link t.done t.last
 PendsFor s t waiting.Write = ⊥
 PendsFor s t waiting.App = ⊥
 PendsFor s t waiting.Budget = RoseBy 64 s.link.moves t.link.moves
@@ -50,16 +50,19 @@ IsAnswered (progress.Ready reason) = HasMemory reason
 abbrev pub AnswerCause : State → State → Progress → Type 0
 AnswerCause s t (progress.Pending what) = (t.end ≡ None) × PendsFor s t what
 AnswerCause s t (progress.Ready reason) = (t.end ≡ Some reason) × HasMemory reason
-    × EndCause start.link s.link t.link t.done t.last reason
+    × EndCause new_link s.link t.link t.done t.last reason
 
--- One poll at a moment, between two states: what was read and written agrees with the transcript, and goes on
--- from the state before; the link gave only what was put ahead, and the answer has its cause.
+-- One poll at a moment, between two states: what was read and written agrees with the transcript
+-- and the limit, and goes on from the state before; the link gave only what was put ahead, and the
+-- answer has its cause.
 pub record Polls (moment : ℕ) (s : State) (answer : Progress) (t : State) : Type 0 where
   pub put : t.put ≡ s.put
   pub said : t.said ≡ s.said
+  pub limit : t.limit ≡ s.limit
+  pub shut : t.shut ≡ s.shut
   pub later : Later s.link t.link
-  pub agrees : Agrees EchoGives start.link t.link (transcript t)
-  pub extends : Extends moment false s.link t.link (transcript s) (transcript t)
+  pub agrees : Agrees EchoGives t.limit new_link t.link (transcript t)
+  pub extends : Extends moment s.shut s.link t.link (transcript s) (transcript t)
   pub given : t.link.given ≡ Some (take t.link.bytes_in t.put)
   -- the end was met only where it was said, behind all that was put ahead
   pub ended : IsTrue t.link.ended → (t.said ≡ true) × (t.link.given ≡ Some t.put)
@@ -67,7 +70,8 @@ pub record Polls (moment : ℕ) (s : State) (answer : Progress) (t : State) : Ty
   pub waits : s.link.read_waits < t.link.read_waits → (t.link.given ≡ Some t.put) × (t.said ≡ false)
   pub faultless : NothingFailed t.link
   pub most : t.link.moves ≤ s.link.moves + 64
-  pub few : t.link.read_waits ≤ s.link.read_waits + 1
+  -- at most one read was not ready for each reply that was made, and one more
+  pub few : t.link.read_waits + replies (transcript s) ≤ s.link.read_waits + replies (transcript t) + 1
   -- behind an end nothing more comes
   pub again : IfSome s.end (λ reason. (answer ≡ progress.Ready reason) × (t ≡ s))
   pub cause : IfNone s.end (AnswerCause s t answer)

@@ -1,10 +1,10 @@
 -- What a script is reported as: a line for each poll, then what was read and written in the end.
-use Rattle.std.specs.Prelude.{◌≡◌, ℕ, List, [], ◌∷◌, ◌++◌, true, Some}
+use Rattle.std.specs.Prelude.{◌≡◌, ℕ, List, [], ◌∷◌, ◌++◌, true, Option, Some, None}
 use Rattle.h1_error.specs.declared.progress.Progress.{Progress}
 use Rattle.h1_words.specs.declared.command.Command.{Command}
 use Rattle.h1_words.specs.declared.command.Command.TheVariants as command
 use Rattle.h1_words.specs.Script.{script_of, commands}
-use Rattle.h1_serve.specs.State.{State, start, transcript}
+use Rattle.h1_serve.specs.State.{State, start_with, transcript}
 use Rattle.h1_serve.specs.PollLine.{Polls, poll_line}
 use Rattle.h1_serve.specs.ExchangeText.{exchanges_lines, wrote_line}
 
@@ -12,6 +12,8 @@ use Rattle.h1_serve.specs.ExchangeText.{exchanges_lines, wrote_line}
 abbrev pub Obeys : State → Command → List ℕ → State → Type 0
 Obeys s (command.Give bytes) text t = (text ≡ []) × (t ≡ record s { put = s.put ++ bytes })
 Obeys s command.End text t = (text ≡ []) × (t ≡ record s { said = true })
+Obeys s command.Shutdown text t = (text ≡ []) × (t ≡ record s { shut = true })
+Obeys s (command.Limit count) text t = (text ≡ []) × (t ≡ s)
 Obeys s (command.Poll moment) text t =
     (answer : Progress) × (text ≡ poll_line moment answer) × Polls moment s answer t
 
@@ -21,13 +23,19 @@ Lines s [] text t = (text ≡ []) × (t ≡ s)
 Lines s (c ∷ more) text t =
     (line : List ℕ) × (next : State) × (rest : List ℕ) × (text ≡ line ++ rest) × Obeys s c line next × Lines next more rest t
 
+-- the limit that the commands set, before the first poll
+abbrev pub limit_in : List Command → Option ℕ
+limit_in [] = None
+limit_in (command.Limit count ∷ more) = Some count
+limit_in (c ∷ more) = limit_in more
+
 -- the text of these commands: their polls, and then the exchanges and the bytes written of the last
 -- state
 pub record IsTextOf (asked : List Command) (text : List ℕ) : Type 0 where
   pub last : State
   pub polls : List ℕ
   pub written : List ℕ
-  pub lines : Lines start asked polls last
+  pub lines : Lines (start_with (limit_in asked)) asked polls last
   pub told : last.link.written ≡ Some written
   pub is : text ≡ polls ++ exchanges_lines (transcript last) ++ wrote_line written
 

@@ -16,12 +16,16 @@ use Rattle.h1_serve.specs.State.{link_state}
 abbrev pub IsInTime : Command → Type 0
 IsInTime (command.Give bytes) = Unit {0}
 IsInTime command.End = Unit {0}
+IsInTime command.Shutdown = Unit {0}
+IsInTime (command.Limit count) = Unit {0}
 IsInTime (command.Poll moment) = moment ≤ LAST_MOMENT
 
 -- a command that may stand behind what stands before it
 abbrev pub MayStand : Place → Command → Type 0
 MayStand place (command.Give bytes) = place.ended ≡ false
 MayStand place command.End = place.ended ≡ false
+MayStand place command.Shutdown = Unit {0}
+MayStand place (command.Limit count) = (place.polled ≡ false) × (place.limited ≡ false)
 MayStand place (command.Poll moment) = place.last_poll ≤ moment
 
 abbrev pub AreInOrder : Place → List Command → Type 0
@@ -29,7 +33,7 @@ AreInOrder place [] = Unit {0}
 AreInOrder place (c ∷ more) = IsInTime c × MayStand place c × AreInOrder (place_after place c) more
 
 abbrev pub first_place : Place
-first_place = record { ended = false; last_poll = 0 }
+first_place = record { ended = false; limited = false; polled = false; last_poll = 0 }
 
 -- the end was said behind all that was put ahead, or it was not said
 abbrev pub EndsAt : Bool → Option ℕ → ℕ → Type 0
@@ -44,6 +48,6 @@ pub record IsScripted (ended : Bool) (link : MemState) : Type 0 where
   pub writes : faults_due link.write_fault link.state.write_faults ≡ 0
   pub end_at : EndsAt ended link.end_at (length link.put)
 
-pub record IsRunning {A J : Type 0} (place : Place) (view : View MemState A J) : Type 0 where
+pub record IsRunning {C A J : Type 0} (place : Place) (view : View MemState C A J) : Type 0 where
   pub since : Since link_state new_mem_state.state view.session view.done view.last
   pub link : IsScripted place.ended view.session.link

@@ -1,4 +1,4 @@
-//! What the causes of the exit statuses come to.
+//! What the causes of the exit statuses come to, and what reports of one script have in common.
 ghost use Rattle.std.specs.Prelude.{◌≡◌, ◌⊎◌, ℕ, List, ◌++◌, Option, Some, None};
 ghost use Rattle.h1_link.specs.Counts.{Rose};
 ghost use Rattle.h1_link.specs.SourceState.{SourceState};
@@ -7,6 +7,7 @@ ghost use Rattle.h1_words.specs.declared.command.Command.{Command};
 ghost use Rattle.h1_words.specs.declared.words.Task.{Task};
 ghost use Rattle.h1_words.specs.declared.words.Task.TheVariants as task;
 ghost use Rattle.h1_words.specs.Script.{script_of, commands, faulty_at};
+ghost use Rattle.h1_serve.specs.Finished.{IsFinished, IsBehindPolls};
 ghost use Rattle.h1_serve.specs.Output.{Took, usage_line};
 ghost use Rattle.h1_serve.specs.Status.{Ends, Reported, Refused, GaveScript};
 
@@ -36,4 +37,12 @@ pub fn statuses_have_causes()
         → Ends (Some task.Script) source source' sink sink' number
         → (number ≡ 0) ⊎ ((number ≡ 4) × Rose source.faults source'.faults)
         ⊎ ((number ≡ 5) × Rose sink.faults sink'.faults) ⊎ (number ≡ 6) }
+{}
+
+/// Two reports of one script, whose polls are all at one moment and whose connection finished, have
+/// the same lines, but for those of the polls.
+pub fn finished_reports_are_alike()
+    ensures { (moment : ℕ) (script text other : List ℕ)
+        → IsFinished moment script text → IsFinished moment script other
+        → (told : List ℕ) × IsBehindPolls moment text told × IsBehindPolls moment other told }
 {}

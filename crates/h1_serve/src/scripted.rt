@@ -5,14 +5,15 @@ ghost use Rattle.h1_words.specs.declared.place.Place.{Place};
 ghost use Rattle.h1_words.specs.Script.{place_after};
 ghost use Rattle.h1_link.specs.LinkState.{LinkState};
 ghost use Rattle.h1_app.specs.Since.{Since};
-ghost use Rattle.h1_serve.specs.State.{state_of, link_state, start};
+ghost use Rattle.h1_app.specs.View.{limit_of};
+ghost use Rattle.h1_serve.specs.State.{state_of, link_state, start_with};
 ghost use Rattle.h1_serve.specs.PollLine.{IsAnswered, poll_line};
-ghost use Rattle.h1_serve.specs.Report.{IsTextOf};
+ghost use Rattle.h1_serve.specs.Report.{IsTextOf, limit_in};
 ghost use Rattle.h1_serve.specs.Running.{MayStand, IsInTime, AreInOrder, first_place, IsRunning};
 ghost use Rattle.h1_serve.specs.Done.{ObeysOnce};
 
 use crate::exchange::{push_exchanges, push_written};
-use h1_app::{Connection, EchoApp, HttpServer, NoModules};
+use h1_app::{Connection, EchoApp, HttpServer, HttpServerOptions, NoModules};
 use h1_error::{End, Error, ErrorType, Progress};
 use h1_link::MemLink;
 use h1_words::{Command, LAST_MOMENT, Text};
@@ -20,62 +21,105 @@ use std::alloc::Global;
 use std::sync::Arc;
 
 /// The connection that a script runs over.
-type Scripted = Connection<MemLink, EchoApp, NoModules, ()>;
+type Served = Connection<MemLink, EchoApp, NoModules, ()>;
+
+/// A script as it runs: its connection, and whether the server shuts down.
+#[derive(Drop)]
+struct Scripted {
+    connection: Served,
+    shutdown: bool,
+}
 
 /// Runs the commands of a script over a connection of its own, and reports.
 pub(crate) fn report_of(alloc: Global, commands: &[Command]) -> Result<Text, Error>
     requires { AreInOrder first_place commands.now }
     ensures { IfOk result (IsTextOf commands.now) }
 {
-    let mut connection = connect(alloc)?;
-    play(alloc, &mut connection, commands)
+    let mut scripted = connect(alloc, limit_in(commands))?;
+    play(alloc, &mut scripted, commands)
 }
 
-fn play(alloc: Global, connection: &mut Scripted, commands: &[Command]) -> Result<Text, Error>
-    requires state { state_of connection.old ≡ start }
-    requires running { IsRunning first_place connection.old }
+fn play(alloc: Global, scripted: &mut Scripted, commands: &[Command]) -> Result<Text, Error>
+    requires state { state_of scripted.old ≡ start_with (limit_in commands.now) }
+    requires running { IsRunning first_place scripted.old.connection }
     requires order { AreInOrder first_place commands.now }
     ensures { IfOk result (IsTextOf commands.now) }
 {
     let mut text = Text::new(alloc);
     for command in commands {
-        obey(alloc, connection, command, &mut text)?;
+        obey(alloc, scripted, command, &mut text)?;
     }
-    push_exchanges(alloc, connection.transcript(), &mut text)?;
-    push_written(alloc, connection.link().written(), &mut text)?;
+    push_exchanges(alloc, scripted.connection.transcript(), &mut text)?;
+    push_written(alloc, scripted.connection.link().written(), &mut text)?;
     Ok(text)
 }
 
-fn connect(alloc: Global) -> Result<Scripted, Error>
-    ensures state { IfOk result (λ made. state_of made ≡ start) }
-    ensures running { IfOk result (λ made. IsRunning first_place made) }
+/// The limit that a script sets for its connection.
+fn limit_in(commands: &[Command]) -> Option<u32>
+    ensures { result ≡ limit_in commands.now }
 {
-    let server = Arc::new(alloc, HttpServer::new_app(EchoApp))?;
-    Connection::new(alloc, server, MemLink::new(alloc))
+    for command in commands {
+        if let Command::Limit(limit) = command {
+            return Some(*limit);
+        }
+    }
+    None
+}
+
+fn connect(alloc: Global, limit: Option<u32>) -> Result<Scripted, Error>
+    ensures state { IfOk result (λ made. state_of made ≡ start_with limit) }
+    ensures running { IfOk result (λ made. IsRunning first_place made.connection) }
+{
+    let server = Arc::new(alloc, echo_server(limit))?;
+    let connection = Connection::new(alloc, server, MemLink::new(alloc))?;
+    Ok(Scripted {
+        connection,
+        shutdown: false,
+    })
+}
+
+/// A server of the echo application, with this request limit.
+fn echo_server(limit: Option<u32>) -> HttpServer<EchoApp, NoModules>
+    ensures { limit_of result.server_options ≡ limit }
+{
+    let mut server = HttpServer::new_app(EchoApp);
+    if limit.is_some() {
+        server.server_options = Some(HttpServerOptions {
+            keepalive_request_limit: limit,
+            allow_connect_method_proxying: false,
+        });
+    }
+    server
 }
 
 /// Does what one line of the script asks for, and adds what it writes.
 fn obey(
     alloc: Global,
-    connection: &mut Scripted,
+    scripted: &mut Scripted,
     command: &Command,
     text: &mut Text,
 ) -> Result<(), Error>
     requires { IsInTime command.now }
-    ensures { OnOk result ((place : Place) → MayStand place command.now → IsRunning place connection.old
-        → ObeysOnce place connection.old command.now text.old connection.new text.new) }
+    ensures { OnOk result ((place : Place) → MayStand place command.now → IsRunning place scripted.old.connection
+        → ObeysOnce place scripted.old command.now text.old scripted.new text.new) }
 {
     match command {
-        Command::Give(bytes) => give(connection, bytes.as_slice()),
+        Command::Give(bytes) => give(&mut scripted.connection, bytes.as_slice()),
         Command::End => {
-            say_end(connection);
+            say_end(&mut scripted.connection);
             Ok(())
         }
-        Command::Poll(moment) => poll(alloc, connection, *moment, text),
+        Command::Shutdown => {
+            scripted.shutdown = true;
+            Ok(())
+        }
+        // The connection was made with the limit.
+        Command::Limit(_) => Ok(()),
+        Command::Poll(moment) => poll(alloc, scripted, *moment, text),
     }
 }
 
-fn give(connection: &mut Scripted, bytes: &[u8]) -> Result<(), Error>
+fn give(connection: &mut Served, bytes: &[u8]) -> Result<(), Error>
     ensures link { OnOk result (connection.new.session.link ≡ record connection.old.session.link { put = connection.old.session.link.put ++ bytes.now; reads_noted = connection.old.session.link.state.read_waits }) }
     ensures rest { connection.new ≡ record connection.old { session = record connection.old.session { link = connection.new.session.link } } }
     ensures since { (before : LinkState) → Since link_state before connection.old.session connection.old.done connection.old.last → Since link_state before connection.new.session connection.new.done connection.new.last }
@@ -83,7 +127,7 @@ fn give(connection: &mut Scripted, bytes: &[u8]) -> Result<(), Error>
     connection.with_link(|link| link.give(bytes))
 }
 
-fn say_end(connection: &mut Scripted)
+fn say_end(connection: &mut Served)
     ensures link { connection.new.session.link ≡ record connection.old.session.link { end_at = Some (unwrap_or connection.old.session.link.end_at (length connection.old.session.link.put)); reads_noted = connection.old.session.link.state.read_waits } }
     ensures rest { connection.new ≡ record connection.old { session = record connection.old.session { link = connection.new.session.link } } }
     ensures since { (before : LinkState) → Since link_state before connection.old.session connection.old.done connection.old.last → Since link_state before connection.new.session connection.new.done connection.new.last }
@@ -92,14 +136,14 @@ fn say_end(connection: &mut Scripted)
 }
 
 /// Polls once. Want of memory is no answer.
-fn poll(alloc: Global, connection: &mut Scripted, moment: u64, text: &mut Text) -> Result<(), Error>
+fn poll(alloc: Global, scripted: &mut Scripted, moment: u64, text: &mut Text) -> Result<(), Error>
     requires { moment ≤ LAST_MOMENT }
-    ensures { OnOk result ((place : Place) → IsRunning place connection.old
-        → ObeysOnce place connection.old (command.Poll moment) text.old connection.new text.new) }
+    ensures { OnOk result ((place : Place) → IsRunning place scripted.old.connection
+        → ObeysOnce place scripted.old (command.Poll moment) text.old scripted.new text.new) }
 {
-    connection.link().rule();
-    let answer = connection.poll(moment, false);
-    connection.link().rule();
+    scripted.connection.link().rule();
+    let answer = scripted.connection.poll(moment, scripted.shutdown);
+    scripted.connection.link().rule();
     check_memory(answer)?;
     let line = poll_line(alloc, moment, answer)?;
     text.push(line.as_slice())

@@ -1,9 +1,12 @@
-//! The exit statuses, as a caller of the program meets them.
+//! The exit statuses as a caller of the program meets them, and long pipelines.
+ghost use Rattle.std.specs.Prelude.{◌<◌};
+
 use crate::run;
-use h1_error::Error;
-use h1_link::{MemAcceptor, MemSink, MemSource, SetClock};
+use h1_app::{Connection, EchoApp, HttpServer, NoModules};
+use h1_error::{End, Error};
+use h1_link::{MemAcceptor, MemLink, MemSink, MemSource, SetClock};
 use std::alloc::Global;
-use std::sync::Wait;
+use std::sync::{Arc, Wait};
 use std::test::Fail;
 use std::thread::Threads;
 
@@ -75,5 +78,107 @@ fn a_source_that_fails_has_status_4_and_a_sink_5(rt: HostRuntime) -> Result<(), 
     sink.fail_next();
     let status = status_of(&rt, rt.alloc(), &["script"], &mut source, &mut sink)?;
     assert_eq!(rt; status, 5);
+    Ok(())
+}
+
+const REQUEST: &[u8] = b"GET /a HTTP/1.1\r\n\r\n";
+
+const REPLY: &[u8] =
+    b"HTTP/1.1 200 OK\r\ncontent-length: 7\r\nDate: Thu, 01 Jan 1970 00:00:00 GMT\r\nConnection: keep-alive\r\n\r\nGET /a\n";
+
+/// These bytes so many times.
+fn repeated(alloc: Global, bytes: &[u8], count: usize) -> Result<Vec<u8>, Error> {
+    let mut all = Vec::new(alloc);
+    for _ in 0..count {
+        all.extend_from_slice(bytes)?;
+    }
+    Ok(all)
+}
+
+/// A connection that was given these bytes in pieces of this size, with a poll behind each, and then
+/// the end.
+fn served_in_pieces(
+    alloc: Global,
+    bytes: &[u8],
+    size: usize,
+) -> Result<Connection<MemLink, EchoApp, NoModules, ()>, Error>
+    requires { 0 < size }
+{
+    let server = Arc::new(alloc, HttpServer::new_app(EchoApp))?;
+    let mut served = Connection::new(alloc, server, MemLink::new(alloc))?;
+    for piece in bytes.chunks(size) {
+        served.with_link(|link| link.give(piece))?;
+        served.poll(0, false);
+    }
+    served.with_link(|link| link.end());
+    served.poll(0, false);
+    Ok(served)
+}
+
+/// Whether so many requests in pieces of this size are all replied to, in so many bytes.
+fn is_served(alloc: Global, count: usize, size: usize, written: usize) -> Result<bool, Error>
+    requires { 0 < size }
+{
+    let requests = repeated(alloc, REQUEST, count)?;
+    let replies = repeated(alloc, REPLY, count)?;
+    let served = served_in_pieces(alloc, &requests, size)?;
+    Ok(
+        served.end() == Some(End::Finished)
+            && served.transcript().len() == count
+            && served.link().written() == replies.as_slice()
+            && replies.len() == written,
+    )
+}
+
+#[test]
+fn a_pipeline_is_served_whole_in_pieces_of_any_size(rt: HostRuntime) -> Result<(), Fail> {
+    for size in 1..98 {
+        let served = is_served(rt.alloc(), 1_000, size, 106_000)?;
+        assert!(rt; served, "{size}");
+    }
+    Ok(())
+}
+
+/// A script that gives one request whose field `x` has so many bytes, with this text behind them, and
+/// then polls so often.
+fn long_head(alloc: Global, count: usize, behind: &[u8], polls: usize) -> Result<Vec<u8>, Error> {
+    let mut script = repeated(alloc, b"give GET /a HTTP/1.1\\r\\nx: ", 1)?;
+    script.extend_from_slice(&repeated(alloc, b"a", count)?)?;
+    script.extend_from_slice(behind)?;
+    script.extend_from_slice(b"\nend\n")?;
+    script.extend_from_slice(&repeated(alloc, b"poll 0\n", polls)?)?;
+    Ok(script)
+}
+
+#[test]
+fn a_head_of_the_greatest_size_is_served(rt: HostRuntime) -> Result<(), Fail> {
+    let script = long_head(rt.alloc(), 1_048_551, b"\\r\\n\\r\\n", 5)?;
+    let mut source = MemSource::new(rt.alloc(), &script)?;
+    let mut sink = MemSink::new(rt.alloc());
+    let status = status_of(&rt, rt.alloc(), &["script"], &mut source, &mut sink)?;
+    assert_eq!(rt; status, 0);
+    let mut begin = repeated(rt.alloc(), b"poll 0: pending budget\n", 4)?;
+    begin.extend_from_slice(b"poll 0: finished\nrequest GET /a HTTP/1.1\nfield x: aaa")?;
+    assert!(rt; sink.written().starts_with(&begin));
+    assert!(rt;
+        sink.written().ends_with(
+            b"a\nbody 0\nwrote 106 HTTP/1.1 200 OK\\r\\ncontent-length: 7\\r\\nDate: Thu, 01 Jan 1970 00:00:00 GMT\\r\\nConnection: keep-alive\\r\\n\\r\\nGET /a\\n\n"
+        )
+    );
+    Ok(())
+}
+
+#[test]
+fn a_head_of_one_byte_more_is_too_long(rt: HostRuntime) -> Result<(), Fail> {
+    let mut report = repeated(rt.alloc(), b"poll 0: pending budget\n", 3)?;
+    report.extend_from_slice(b"poll 0: failed 1 InvalidHTTPHeader TooLong\nwrote 0\n")?;
+    for (count, behind) in [(1_048_552, b"\\r\\n\\r\\n".as_slice()), (1_048_556, b"")] {
+        let script = long_head(rt.alloc(), count, behind, 4)?;
+        let mut source = MemSource::new(rt.alloc(), &script)?;
+        let mut sink = MemSink::new(rt.alloc());
+        let status = status_of(&rt, rt.alloc(), &["script"], &mut source, &mut sink)?;
+        assert_eq!(rt; status, 0);
+        assert_eq!(rt; sink.written(), report.as_slice());
+    }
     Ok(())
 }

@@ -1,6 +1,6 @@
-use Rattle.std.proofs.Common.{◌≡◌, ◌++◌, [], ap, ◌∙◌, subst}
-use Rattle.h1_link.specs.MemState.{new_mem_state}
+use Rattle.std.proofs.Common.{◌≡◌, ◌++◌, [], refl, ap, ◌∙◌, subst}
 use Rattle.h1_link.specs.MemRule.{Rule}
+use Rattle.h1_serve.specs.State.{new_link}
 use Rattle.h1_serve.specs.PollLine.{poll_line}
 use Rattle.h1_serve.proofs.LineLemmas.{on_ok}
 use Rattle.h1_serve.proofs.PollLemmas.{if_none, polls_once}
@@ -18,11 +18,13 @@ returns c =
     (record {
       later = polled.later;
       plan = polled.plan;
-      since = polled.since new_mem_state.state running.since;
-      agrees = polled.agrees new_mem_state.state running.since;
+      limit = polled.app.1;
+      shut = refl;
+      since = polled.since new_link running.since;
+      agrees = polled.agrees new_link running.since;
       extends = polled.extends;
       most = polled.most;
       few = polled.few;
       ended = polled.ended;
-      cause = if_none c.args.connection.now.end _ _ (λ cause. cause new_mem_state.state running.since) polled.cause;
+      cause = if_none c.args.scripted.now.connection.end _ _ (λ cause. cause new_link running.since) polled.cause;
     }) before behind c.in_ok-check_memory.ensures is) c.push.ensures.ok

@@ -1,0 +1,180 @@
+-- Lemmas on exchanges that ended, each done: what was read settles what was written.
+use Rattle.std.proofs.Common.{◌≡◌, ◌≢◌, ℕ, ◌+◌, ◌≤◌, List, [], ◌∷◌, ◌++◌, length, take, drop, Bool, true, false, Option, Some, None, IfSome, IsSome, refl, sym, ap, subst, ◌∙◌, arith}
+use Rattle.std.specs.List.{AllByRecursion}
+use Rattle.std.proofs.lemmas.List.{take_all}
+use Rattle.std.proofs.lemmas.List.Concat.{flat_map-cons}
+use Rattle.h1_error.specs.declared.error.Error.{Error}
+use Rattle.h1_head.specs.Views.{RequestView}
+use Rattle.h1_head.specs.Date.{IsDateAt}
+use Rattle.h1_head.specs.RequestHead.{HeadAt}
+use Rattle.h1_head.proofs.DateLemmas.{date_unique}
+use Rattle.h1_head.proofs.RequestHeadLemmas.{HeadAt-unique}
+use Rattle.h1_body.specs.Body.{Body, whole, payload_of}
+use Rattle.h1_body.specs.Framing.{framing}
+use Rattle.h1_body.specs.Reader.{body}
+use Rattle.h1_app.specs.declared.application.Reply.{Reply}
+use Rattle.h1_app.specs.declared.transcript.Entry.{Entry}
+use Rattle.h1_app.specs.declared.transcript.How.{How}
+use Rattle.h1_app.specs.declared.transcript.How.TheVariants.{Open, Whole, Failed}
+use Rattle.h1_app.specs.Behind.{StoodAs, ReadBehind, WroteBehind, DoneBehind}
+use Rattle.h1_app.specs.Echo.{EchoGives, echo_reply}
+use Rattle.h1_app.specs.Exchange.{render, render_parts, given_to, IsAllowed}
+use Rattle.h1_serve.specs.ExchangeText.{request_line, field_lines, body_line, exchange_lines, exchanges_lines}
+
+-- a reply's header that was taken up has this second
+abbrev pub IsDatedBy : ℕ → Entry → Type 0
+IsDatedBy secs e = IfSome e.sent_head (λ header. e.date ≡ secs)
+
+-- the bytes are the requests of these exchanges, which ended, and nothing behind them
+pub record AreEnded (secs : ℕ) (since : List ℕ) (flushed : ℕ → Type 0) (total : ℕ) (done : List Entry) : Type 0 where
+  pub read : ReadBehind since done []
+  pub allowed : AllByRecursion (IsAllowed EchoGives) done
+  pub dated : AllByRecursion (IsDatedBy secs) done
+  pub ended : DoneBehind flushed total done
+
+-- the same requests with the same replies
+abbrev pub AreAlike : List Entry → List Entry → Type 0
+AreAlike [] [] = Unit {0}
+AreAlike [] (f ∷ later) = ⊥
+AreAlike (e ∷ more) [] = ⊥
+AreAlike (e ∷ more) (f ∷ later) =
+    (e.head ≡ f.head) × (e.body ≡ f.body) × (render e ≡ render f) × AreAlike more later
+
+some_none : (o : Option Error) → o ≡ None → IsSome o → ⊥
+some_none None none some = cc
+some_none (Some error) none some = cc
+
+some_of : {T : Type 0} (o : Option T) (P : T → Type 0) → IsSome o → IfSome o P → (x : T) × (o ≡ Some x) × P x
+some_of None P some h = absurd (let never : false ≡ true = some in cc)
+some_of (Some x) P some h = (x, refl, h)
+
+at_some : {T : Type 0} (o : Option T) (x : T) (P : T → Type 0) → o ≡ Some x → IfSome o P → P x
+at_some o x P is h = subst (λ o. IfSome o P) is h
+
+-- the application was handed all of a body that was not refused
+all_handed : (how : How) (e : Entry) (b : Body) → how ≢ Open → e.body_error ≡ None → StoodAs how e b → e.handed ≡ length e.body
+all_handed Whole e b read none stood = stood.1
+all_handed Open e b read none stood = absurd (read refl)
+all_handed Failed e b read none stood = absurd (some_none e.body_error none stood)
+
+-- so its reply is that to the whole body
+reply_is : (e : Entry) (reply : Reply) (k : ℕ) → e.body_error ≡ None → StoodAs e.how e (whole e.body k)
+    → EchoGives (given_to e e.head) reply → reply ≡ echo_reply e.head e.body None
+reply_is e reply k none stood gives =
+    let count = all_handed e.how e (whole e.body k) gives.read none stood in
+    let within : length e.body ≤ e.handed = omega (arith, count) in
+    let handed : take e.handed e.body ≡ e.body = take_all e.handed e.body within in
+    gives.is ∙ ap (λ xs. echo_reply e.head xs e.body_error) handed ∙ ap (echo_reply e.head e.body) none
+
+-- the bytes of that reply, which keeps the connection, with this date
+abbrev kept_bytes : RequestView → List ℕ → List ℕ → List ℕ
+kept_bytes head payload date =
+    render_parts head.method (Some (echo_reply head payload None)) (Some (echo_reply head payload None).body) date true (Some (echo_reply head payload None).header)
+
+record IsRendered (secs : ℕ) (e : Entry) : Type 0 where
+  is : render e ≡ kept_bytes e.head e.body e.date_text
+  date : IsDateAt secs e.date_text
+
+rendered : (secs : ℕ) (since : List ℕ) (flushed : ℕ → Type 0) (total : ℕ) (e : Entry) (more : List Entry)
+    → AreEnded secs since flushed total (e ∷ more) → IsRendered secs e
+rendered secs since flushed total e more h =
+    let allowed : IsAllowed EchoGives e = h.allowed.0 in
+    let head = some_of e.sent_head _ h.ended.0.sent_head allowed.sent_head in
+    let sent = some_of e.sent_body _ h.ended.0.sent_body allowed.sent_body in
+    let header = head.0 in
+    let reply = head.2.0 in
+    let replied : e.reply ≡ Some reply = head.2.1 in
+    let again : e.reply ≡ Some sent.2.0 = sent.2.1 in
+    let one : sent.2.0 ≡ reply = cc (replied, again) in
+    let gives = at_some e.reply reply _ replied allowed.reply in
+    let stood = at_some e.reply reply _ replied h.read.5 in
+    let is = reply_is e reply h.read.2 h.read.4 stood gives.1 in
+    let made = echo_reply e.head e.body None in
+    let reply_at : e.reply ≡ Some made = replied ∙ ap Some is in
+    let body_at : e.sent_body ≡ Some made.body = sent.1 ∙ ap Some (sent.2.2 ∙ ap (λ (r : Reply). r.body) (one ∙ is)) in
+    let head_at : e.sent_head ≡ Some made.header = head.1 ∙ ap Some (head.2.2 ∙ ap (λ (r : Reply). r.header) is) in
+    let dated : e.date ≡ secs = at_some e.sent_head header _ head.1 h.dated.0 in
+    record {
+      is = ap (λ o. render_parts e.head.method o e.sent_body e.date_text e.keep e.sent_head) reply_at
+          ∙ ap (λ o. render_parts e.head.method (Some made) o e.date_text e.keep e.sent_head) body_at
+          ∙ ap (λ keep. render_parts e.head.method (Some made) (Some made.body) e.date_text keep e.sent_head) h.ended.0.keep
+          ∙ ap (render_parts e.head.method (Some made) (Some made.body) e.date_text true) head_at;
+      date = subst (λ n. IsDateAt n e.date_text) dated head.2.4.date;
+    }
+
+-- no bytes are no request
+none_read : (bytes : List ℕ) (n : ℕ) (head : RequestView) (both : Bool) → bytes ≡ [] → HeadAt bytes n head both → ⊥
+none_read bytes n head both none h =
+    let len : length bytes ≡ 0 = ap length none in
+    omega (arith, len, h.cuts.some, h.cuts.within)
+
+same_payload : {front other : List ℕ} {i k : ℕ} → whole front i ≡ whole other k → front ≡ other
+same_payload e = ap payload_of e
+
+same_use : {front other : List ℕ} {i k : ℕ} → whole front i ≡ whole other k → i ≡ k
+same_use e = cc
+
+-- the first exchanges of the same bytes are alike, and the same bytes are left behind them
+record Firsts (since : List ℕ) (e f : Entry) (more later : List Entry) (x : ReadBehind since (e ∷ more) []) (y : ReadBehind since (f ∷ later) []) : Type 0 where
+  head : e.head ≡ f.head
+  payload : e.body ≡ f.body
+  behind : drop y.2 (drop y.0 since) ≡ drop x.2 (drop x.0 since)
+
+firsts : (since : List ℕ) (e f : Entry) (more later : List Entry) (x : ReadBehind since (e ∷ more) []) (y : ReadBehind since (f ∷ later) [])
+    → Firsts since e f more later x y
+firsts since e f more later x y =
+    let same = HeadAt-unique since x.0 y.0 e.head f.head e.both f.both x.1 y.1 in
+    let bodies : whole e.body x.2 ≡ whole f.body y.2 =
+    sym x.3 ∙ ap (λ i. body (framing e.head) (drop i since)) same.0 ∙ ap (λ (h : RequestView). body (framing h) (drop y.0 since)) same.1 ∙ y.3 in
+    record {
+      head = same.1;
+      payload = same_payload bodies;
+      behind = ap (λ i. drop y.2 (drop i since)) (sym same.0) ∙ ap (λ i. drop i (drop x.0 since)) (sym (same_use bodies));
+    }
+
+behind_first : (secs : ℕ) (since : List ℕ) (flushed : ℕ → Type 0) (total : ℕ) (e : Entry) (more : List Entry)
+    → (h : AreEnded secs since flushed total (e ∷ more)) → AreEnded secs (drop h.read.2 (drop h.read.0 since)) flushed (total + e.written) more
+behind_first secs since flushed total e more h =
+    record { read = h.read.6; allowed = h.allowed.1; dated = h.dated.1; ended = h.ended.1 }
+
+-- exchanges that ended with the same bytes are alike
+pub alike : (secs : ℕ) (since : List ℕ) (flushed other : ℕ → Type 0) (total count : ℕ) (a b : List Entry)
+    → AreEnded secs since flushed total a → AreEnded secs since other count b → AreAlike a b
+alike secs since flushed other total count [] [] x y = tt
+alike secs since flushed other total count [] (f ∷ later) x y =
+    absurd (none_read since y.read.0 f.head f.both x.read y.read.1)
+alike secs since flushed other total count (e ∷ more) [] x y =
+    absurd (none_read since x.read.0 e.head e.both y.read x.read.1)
+alike secs since flushed other total count (e ∷ more) (f ∷ later) x y =
+    let same = firsts since e f more later x.read y.read in
+    let one = rendered secs since flushed total e more x in
+    let two = rendered secs since other count f later y in
+    let date = date_unique secs e.date_text f.date_text one.date two.date in
+    let left = subst (λ xs. AreEnded secs xs other (count + f.written) later) same.behind (behind_first secs since other count f later y) in (
+      same.head,
+      same.payload,
+      one.is ∙ ap (λ (h : RequestView). kept_bytes h e.body e.date_text) same.head ∙ ap (λ xs. kept_bytes f.head xs e.date_text) same.payload
+          ∙ ap (kept_bytes f.head f.body) date ∙ sym two.is,
+      alike secs (drop x.read.2 (drop x.read.0 since)) flushed other (total + e.written) (count + f.written) more later
+          (behind_first secs since flushed total e more x) left,
+    )
+
+-- their lines are the same
+pub alike_lines : (a b : List Entry) → AreAlike a b → exchanges_lines a ≡ exchanges_lines b
+alike_lines [] [] h = refl
+alike_lines [] (f ∷ later) h = absurd h
+alike_lines (e ∷ more) [] h = absurd h
+alike_lines (e ∷ more) (f ∷ later) h =
+    let first : exchange_lines e ≡ exchange_lines f =
+    ap (λ (v : RequestView). request_line v ++ field_lines v.fields ++ body_line e.body) h.0
+    ∙ ap (λ xs. request_line f.head ++ field_lines f.head.fields ++ body_line xs) h.1 in
+    flat_map-cons exchange_lines e more ∙ ap (λ xs. xs ++ exchanges_lines more) first
+    ∙ ap (λ xs. exchange_lines f ++ xs) (alike_lines more later h.3) ∙ sym (flat_map-cons exchange_lines f later)
+
+-- and what was written is the same
+pub alike_written : (a b : List Entry) (one other : List ℕ) → AreAlike a b → WroteBehind one a [] → WroteBehind other b [] → one ≡ other
+alike_written [] [] one other h x y = x ∙ sym y
+alike_written [] (f ∷ later) one other h x y = absurd h
+alike_written (e ∷ more) [] one other h x y = absurd h
+alike_written (e ∷ more) (f ∷ later) one other h x y =
+    x.1 ∙ ap (λ xs. xs ++ x.0) h.2 ∙ ap (λ xs. render f ++ xs) (alike_written more later x.0 y.0 h.3 x.3 y.3) ∙ sym y.1

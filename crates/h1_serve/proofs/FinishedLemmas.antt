@@ -1,0 +1,255 @@
+-- Lemmas on scripts whose polls are all at one moment, and whose connection finished.
+use Rattle.std.proofs.Common.{◌≡◌, ℕ, ◌/◌, List, [], ◌∷◌, ◌++◌, Bool, true, option_to_list, Option, Some, None, IfSome, IfNone, refl, sym, ap, subst, ◌∙◌, append-nil, append_assoc}
+use Rattle.std.specs.List.{AllByRecursion, flat_map}
+use Rattle.std.proofs.lemmas.List.Concat.{flat_map-cons}
+use Rattle.h1_error.specs.declared.progress.End.{End}
+use Rattle.h1_error.specs.declared.progress.End.TheVariants as end
+use Rattle.h1_error.specs.declared.progress.Progress.{Progress}
+use Rattle.h1_error.specs.declared.progress.Progress.TheVariants as progress
+use Rattle.h1_link.specs.LinkState.{LinkState}
+use Rattle.h1_head.specs.Views.{ResponseView}
+use Rattle.h1_words.specs.Script.{ScriptOutcome, script_of, commands}
+use Rattle.h1_words.specs.declared.command.Command.{Command}
+use Rattle.h1_words.specs.declared.command.Command.TheVariants as command
+use Rattle.h1_app.specs.declared.transcript.Entry.{Entry}
+use Rattle.h1_app.specs.Behind.{ReadBehind, WroteBehind, FlushedBy}
+use Rattle.h1_app.specs.Causes.{EndCause, ReadAll}
+use Rattle.h1_app.specs.Echo.{EchoGives}
+use Rattle.h1_app.specs.Exchange.{IsAllowed}
+use Rattle.h1_app.specs.Growth.{DatedAt, IsBegun, Extends}
+use Rattle.h1_app.specs.Stream.{empty}
+use Rattle.h1_app.proofs.CompleteLemmas.{told_of}
+use Rattle.h1_serve.specs.State.{State, new_link, start_with, transcript}
+use Rattle.h1_serve.specs.PollLine.{AnswerCause, Polls, poll_line}
+use Rattle.h1_serve.specs.ExchangeText.{exchanges_lines, wrote_line}
+use Rattle.h1_serve.specs.Report.{Lines, IsTextOf, limit_in}
+use Rattle.h1_serve.specs.Finished.{ArePolledAt, IsFinished, IsBehindPolls}
+use Rattle.h1_serve.proofs.AlikeLemmas.{IsDatedBy, AreEnded, alike, alike_lines, alike_written}
+
+-- an exchange goes on or begins with the date of its moment
+dated_on : (moment : ℕ) (head : Option ResponseView) (old new : Entry) → old.sent_head ≡ head
+    → DatedAt moment head old new → IsDatedBy (moment / 1000) old → IsDatedBy (moment / 1000) new
+dated_on moment None old new is dated before = dated
+dated_on moment (Some header) old new is dated before = any new.sent_head (dated.0 ∙ subst (λ o. IfSome o (λ h. old.date ≡ moment / 1000)) is before) where
+  any : (o : Option ResponseView) → new.date ≡ moment / 1000 → IfSome o (λ h. new.date ≡ moment / 1000)
+  any None e = tt
+  any (Some h) e = e
+
+dated_begun : (moment : ℕ) (shut : Bool) (before behind : LinkState) (new : List Entry)
+    → AllByRecursion (IsBegun moment shut before behind) new → AllByRecursion (IsDatedBy (moment / 1000)) new
+dated_begun moment shut before behind [] h = tt
+dated_begun moment shut before behind (e ∷ more) h = (h.0.dated, dated_begun moment shut before behind more h.1)
+
+dated_all : (moment : ℕ) (shut : Bool) (before behind : LinkState) (old new : List Entry)
+    → Extends moment shut before behind old new → AllByRecursion (IsDatedBy (moment / 1000)) old
+    → AllByRecursion (IsDatedBy (moment / 1000)) new
+dated_all moment shut before behind [] new h dated = dated_begun moment shut before behind new h
+dated_all moment shut before behind (e ∷ []) [] h dated = absurd h
+dated_all moment shut before behind (e ∷ []) (n ∷ more) h dated =
+    (dated_on moment e.sent_head e n refl h.0.dated dated.0, dated_begun moment shut before behind more h.1)
+dated_all moment shut before behind (e ∷ f ∷ later) [] h dated = absurd h
+dated_all moment shut before behind (e ∷ f ∷ later) (n ∷ more) h dated =
+    (subst (IsDatedBy (moment / 1000)) (sym h.0) dated.0, dated_all moment shut before behind (f ∷ later) more h.1 dated.1)
+
+-- how a connection stands that finished: it read what was put ahead at the last poll
+record StandsFinished (polled : List ℕ) (s : State) : Type 0 where
+  given : s.link.given ≡ Some polled
+  cause : EndCause new_link s.link s.link s.done s.last end.Finished
+  allowed : AllByRecursion (IsAllowed EchoGives) (transcript s)
+
+-- what holds between two commands
+record Holds (moment : ℕ) (polled : List ℕ) (s : State) : Type 0 where
+  dated : AllByRecursion (IsDatedBy (moment / 1000)) (transcript s)
+  finished : s.end ≡ Some end.Finished → StandsFinished polled s
+
+-- a poll that answered that the connection finished has its cause
+finished_by : (s t : State) (answer : Progress) → AnswerCause s t answer → t.end ≡ Some end.Finished
+    → EndCause new_link t.link t.link t.done t.last end.Finished
+finished_by s t (progress.Pending what) cause is = absurd (never cause.0 is) where
+  never : t.end ≡ None → t.end ≡ Some end.Finished → ⊥
+  never e f = cc
+finished_by s t (progress.Ready reason) cause is =
+    let same : reason ≡ end.Finished = one cause.0 is in
+    let ends : EndCause new_link s.link t.link t.done t.last end.Finished = subst (EndCause new_link s.link t.link t.done t.last) same cause.2 in
+    ends
+  where
+    one : t.end ≡ Some reason → t.end ≡ Some end.Finished → reason ≡ end.Finished
+    one e f = cc
+
+-- by this poll, or by one before it
+finished_so : (moment : ℕ) (polled : List ℕ) (s t : State) (answer : Progress) (before : Option End) → s.end ≡ before
+    → Holds moment polled s → IfNone before (AnswerCause s t answer)
+    → IfSome before (λ reason. (answer ≡ progress.Ready reason) × (t ≡ s))
+    → t.end ≡ Some end.Finished → EndCause new_link t.link t.link t.done t.last end.Finished
+finished_so moment polled s t answer None at holds cause again is = finished_by s t answer cause is
+finished_so moment polled s t answer (Some reason) at holds cause again is =
+    let Ended : State → Type 0 = λ s. EndCause new_link s.link s.link s.done s.last end.Finished in
+    let was : s.end ≡ Some end.Finished = ap (λ (s : State). s.end) (sym again.1) ∙ is in
+    subst Ended (sym again.1) (holds.finished was).cause
+
+-- it holds behind a poll
+polled_holds : (moment : ℕ) (polled : List ℕ) (s t : State) (answer : Progress) → Holds moment polled s
+    → Polls moment s answer t → Holds moment t.put t
+polled_holds moment polled s t answer holds polls = record {
+  dated = dated_all moment s.shut s.link t.link (transcript s) (transcript t) polls.extends holds.dated;
+  finished = λ is.
+      let cause = finished_so moment polled s t answer s.end refl holds polls.cause polls.again is in
+      record {
+        given = (polls.ended cause.1).1;
+        cause = cause;
+        allowed = polls.agrees.allowed;
+      };
+}
+
+-- what was put ahead at the last poll
+abbrev polled_in : List ℕ → List ℕ → List Command → List ℕ
+polled_in put polled [] = polled
+polled_in put polled (command.Give bytes ∷ more) = polled_in (put ++ bytes) polled more
+polled_in put polled (command.Poll moment ∷ more) = polled_in put put more
+polled_in put polled (command.End ∷ more) = polled_in put polled more
+polled_in put polled (command.Shutdown ∷ more) = polled_in put polled more
+polled_in put polled (command.Limit count ∷ more) = polled_in put polled more
+
+-- and where the exchanges, the link and the end stay
+same_holds : (moment : ℕ) (polled : List ℕ) (s t : State) → t.done ≡ s.done → t.last ≡ s.last → t.link ≡ s.link → t.end ≡ s.end
+    → Holds moment polled s → Holds moment polled t
+same_holds moment polled s t done last link ends h =
+    let entries : transcript t ≡ transcript s = ap (λ es. es ++ option_to_list t.last) done ∙ ap (λ e. s.done ++ option_to_list e) last in
+    record {
+      dated = subst (AllByRecursion (IsDatedBy (moment / 1000))) (sym entries) h.dated;
+      finished = λ is.
+          let was = h.finished (sym ends ∙ is) in
+          record {
+            given = ap (λ (l : LinkState). l.given) link ∙ was.given;
+            cause = rw (link, done, last) was.cause;
+            allowed = subst (AllByRecursion (IsAllowed EchoGives)) (sym entries) was.allowed;
+          };
+    }
+
+lines_hold : (moment : ℕ) (asked : List Command) (s : State) (polled text : List ℕ) (t : State) → ArePolledAt moment asked
+    → Holds moment polled s → Lines s asked text t → Holds moment (polled_in s.put polled asked) t
+lines_hold moment [] s polled text t at holds h = subst (Holds moment polled) (sym h.1) holds
+lines_hold moment (command.Give bytes ∷ more) s polled text t at holds h =
+    let next : State = record s { put = s.put ++ bytes } in
+    let lines : Lines next more h.2 t = subst (λ s. Lines s more h.2 t) h.4.1 h.5 in
+    lines_hold moment more next polled h.2 t at (same_holds moment polled s next refl refl refl refl holds) lines
+lines_hold moment (command.End ∷ more) s polled text t at holds h =
+    let next : State = record s { said = true } in
+    let lines : Lines next more h.2 t = subst (λ s. Lines s more h.2 t) h.4.1 h.5 in
+    lines_hold moment more next polled h.2 t at (same_holds moment polled s next refl refl refl refl holds) lines
+lines_hold moment (command.Shutdown ∷ more) s polled text t at holds h =
+    let next : State = record s { shut = true } in
+    let lines : Lines next more h.2 t = subst (λ s. Lines s more h.2 t) h.4.1 h.5 in
+    lines_hold moment more next polled h.2 t at (same_holds moment polled s next refl refl refl refl holds) lines
+lines_hold moment (command.Limit count ∷ more) s polled text t at holds h =
+    lines_hold moment more s polled h.2 t at holds (subst (λ s. Lines s more h.2 t) h.4.1 h.5)
+lines_hold moment (command.Poll here ∷ more) s polled text t at holds h =
+    let polls : Polls moment s h.4.0 h.1 = subst (λ n. Polls n s h.4.0 h.1) at.0 h.4.2 in
+    let after = polled_holds moment polled s h.1 h.4.0 holds polls in
+    let goes = lines_hold moment more h.1 h.1.put h.2 t at.1 after h.5 in
+    subst (λ put. Holds moment (polled_in put put more) t) polls.put goes
+
+-- the lines are those of polls at the moment
+poll_texts : (moment : ℕ) (asked : List Command) (s : State) (text : List ℕ) (t : State) → ArePolledAt moment asked
+    → Lines s asked text t → (answers : List Progress) × (text ≡ flat_map (poll_line moment) answers)
+poll_texts moment [] s text t at h = ([], h.0)
+poll_texts moment (command.Give bytes ∷ more) s text t at h =
+    let rest = poll_texts moment more h.1 h.2 t at h.5 in
+    (rest.0, h.3 ∙ ap (λ xs. xs ++ h.2) h.4.0 ∙ rest.1)
+poll_texts moment (command.End ∷ more) s text t at h =
+    let rest = poll_texts moment more h.1 h.2 t at h.5 in
+    (rest.0, h.3 ∙ ap (λ xs. xs ++ h.2) h.4.0 ∙ rest.1)
+poll_texts moment (command.Shutdown ∷ more) s text t at h =
+    let rest = poll_texts moment more h.1 h.2 t at h.5 in
+    (rest.0, h.3 ∙ ap (λ xs. xs ++ h.2) h.4.0 ∙ rest.1)
+poll_texts moment (command.Limit count ∷ more) s text t at h =
+    let rest = poll_texts moment more h.1 h.2 t at h.5 in
+    (rest.0, h.3 ∙ ap (λ xs. xs ++ h.2) h.4.0 ∙ rest.1)
+poll_texts moment (command.Poll here ∷ more) s text t at h =
+    let rest = poll_texts moment more h.1 h.2 t at.1 h.5 in
+    let line : h.0 ≡ poll_line moment h.4.0 = h.4.1 ∙ ap (λ n. poll_line n h.4.0) at.0 in (
+      h.4.0 ∷ rest.0,
+      h.3 ∙ ap (λ xs. xs ++ h.2) line ∙ ap (λ xs. poll_line moment h.4.0 ++ xs) rest.1
+          ∙ sym (flat_map-cons (poll_line moment) h.4.0 rest.0),
+    )
+
+-- the exchanges of a connection that finished, and what it wrote
+record Finish (moment : ℕ) (polled : List ℕ) (s : State) (written : List ℕ) : Type 0 where
+  entries : transcript s ≡ s.done
+  ended : AreEnded (moment / 1000) polled (FlushedBy new_link s.link) 0 s.done
+  wrote : WroteBehind written s.done []
+
+finish : (moment : ℕ) (polled : List ℕ) (s : State) (written : List ℕ) → Holds moment polled s
+    → s.end ≡ Some end.Finished → s.link.written ≡ Some written → Finish moment polled s written
+finish moment polled s written holds is told =
+    let stands = holds.finished is in
+    let cause = stands.cause in
+    let entries : transcript s ≡ s.done = ap (λ e. s.done ++ option_to_list e) cause.0.none ∙ append-nil s.done in
+    let read = told_of new_link.given s.link.given [] polled (λ since. ReadAll since s.done empty) refl stands.given cause.2 in
+    record {
+      entries = entries;
+      ended = record {
+        read = subst (ReadBehind polled s.done) read.2 read.1;
+        allowed = subst (AllByRecursion (IsAllowed EchoGives)) entries stands.allowed;
+        dated = subst (AllByRecursion (IsDatedBy (moment / 1000))) entries holds.dated;
+        ended = cause.0.flushed;
+      };
+      wrote = told_of new_link.written s.link.written [] written (λ since. WroteBehind since s.done []) refl told cause.0.written;
+    }
+
+first_holds : (moment : ℕ) (limit : Option ℕ) → Holds moment [] (start_with limit)
+first_holds moment limit = record { dated = tt; finished = λ is. absurd (never (start_with limit).end refl is) } where
+  never : (o : Option End) → o ≡ None → o ≡ Some end.Finished → ⊥
+  never o e f = cc
+
+finish_of : (moment : ℕ) (asked : List Command) (text : List ℕ) (x : IsTextOf asked text) → ArePolledAt moment asked
+    → x.last.end ≡ Some end.Finished → Finish moment (polled_in [] [] asked) x.last x.written
+finish_of moment asked text x at is =
+    finish moment (polled_in [] [] asked) x.last x.written
+    (lines_hold moment asked (start_with (limit_in asked)) [] x.polls x.last at (first_holds moment (limit_in asked)) x.lines) is x.told
+
+same_lines : (s t : State) (one other : List ℕ) → exchanges_lines (transcript s) ≡ exchanges_lines (transcript t) → one ≡ other
+    → exchanges_lines (transcript s) ++ wrote_line one ≡ exchanges_lines (transcript t) ++ wrote_line other
+same_lines s t one other lines written =
+    ap (λ xs. xs ++ wrote_line one) lines ∙ ap (λ xs. exchanges_lines (transcript t) ++ wrote_line xs) written
+
+-- behind the polls two texts of the same commands are the same
+texts_alike : (moment : ℕ) (asked : List Command) (text other : List ℕ) (x : IsTextOf asked text) (y : IsTextOf asked other)
+    → ArePolledAt moment asked → x.last.end ≡ Some end.Finished → y.last.end ≡ Some end.Finished
+    → (told : List ℕ) × IsBehindPolls moment text told × IsBehindPolls moment other told
+texts_alike moment asked text other x y at is also =
+    let a = finish_of moment asked text x at is in
+    let b = finish_of moment asked other y at also in
+    let same = alike (moment / 1000) (polled_in [] [] asked) (FlushedBy new_link x.last.link) (FlushedBy new_link y.last.link) 0 0
+    x.last.done y.last.done a.ended b.ended in
+    let lines : exchanges_lines (transcript x.last) ≡ exchanges_lines (transcript y.last) =
+    ap exchanges_lines a.entries ∙ alike_lines x.last.done y.last.done same ∙ sym (ap exchanges_lines b.entries) in
+    let written = alike_written x.last.done y.last.done x.written y.written same a.wrote b.wrote in
+    let told = exchanges_lines (transcript x.last) ++ wrote_line x.written in
+    let first = poll_texts moment asked (start_with (limit_in asked)) x.polls x.last at x.lines in
+    let second = poll_texts moment asked (start_with (limit_in asked)) y.polls y.last at y.lines in (
+      told,
+      (first.0, x.is ∙ append_assoc x.polls (exchanges_lines (transcript x.last)) (wrote_line x.written) ∙ ap (λ xs. xs ++ told) first.1),
+      (
+        second.0,
+        y.is ∙ append_assoc y.polls (exchanges_lines (transcript y.last)) (wrote_line y.written)
+            ∙ ap (λ xs. xs ++ (exchanges_lines (transcript y.last) ++ wrote_line y.written)) second.1
+            ∙ ap (λ xs. flat_map (poll_line moment) second.0 ++ xs) (sym (same_lines x.last y.last x.written y.written lines written)),
+      ),
+    )
+
+same_asked : (asked other : List Command) (outcome : ScriptOutcome) → outcome ≡ commands asked → outcome ≡ commands other → other ≡ asked
+same_asked asked other outcome e f = cc
+
+-- a text of commands that polled at one moment, of a connection that finished
+record IsFinishedOf (moment : ℕ) (asked : List Command) (text : List ℕ) : Type 0 where
+  is_text : IsTextOf asked text
+  finished : is_text.last.end ≡ Some end.Finished
+
+pub finished_alike : (moment : ℕ) (script text other : List ℕ) → IsFinished moment script text → IsFinished moment script other
+    → (told : List ℕ) × IsBehindPolls moment text told × IsBehindPolls moment other told
+finished_alike moment script text other x y =
+    let same = same_asked x.report.asked y.report.asked (script_of script) x.report.read y.report.read in
+    let of_y : IsFinishedOf moment y.report.asked other = record { is_text = y.report.is_text; finished = y.finished } in
+    let also = subst (λ asked. IsFinishedOf moment asked other) same of_y in
+    texts_alike moment x.report.asked text other x.report.is_text also.is_text x.polled x.finished also.finished
