@@ -1,0 +1,54 @@
+-- The greeting can be made, and each reply of a transcript that agrees is the greeting.
+use Rattle.std.proofs.Common.{◌≡◌, List, [], ◌∷◌, codes, Option, Some, None, IfSome, Result, Ok, Err, IfOk, IfErr, refl, ap, subst, true}
+use Rattle.std.specs.List.{All, AllByRecursion}
+use Rattle.std.proofs.lemmas.List.Elements.{All-from_recursion}
+use Rattle.httparse.specs.Grammar.{is_token, is_token_byte}
+use Rattle.h1_error.specs.declared.error.Error.{Error}
+use Rattle.h1_error.specs.declared.error.ErrorType.TheVariants.{NoMemory}
+use Rattle.h1_head.specs.Faults.{line_fault, RefusedFor}
+use Rattle.h1_app.specs.declared.application.Reply.{Reply}
+use Rattle.h1_app.specs.declared.transcript.Entry.{Entry}
+use Rattle.futures.specs.declared.task.Poll.TheVariants.{Ready}
+use Rattle.h1_head.specs.Views.{RequestView}
+use Rattle.h1_server.specs.SessionView.{SessionView}
+use Rattle.h1_server.specs.declared.settings.Settings.{Settings}
+use Rattle.h1_app.specs.Application.{GivesReply, given_by, payload_of}
+use Rattle.h1_app.specs.Exchange.{IsAllowed}
+use Rattle.h1_greeting.specs.Greeting.{Greeting, greeting}
+
+-- the line that states the length is refused only for want of memory
+name_is : is_token (codes "content-length") ≡ true
+unfolding is_token_byte
+name_is = refl
+
+pub is_a_line : line_fault (codes "content-length") (codes "6") ≡ None
+is_a_line = rw name_is refl
+
+pub only_memory : (error : Error) → RefusedFor {T = Unit {0}} (line_fault (codes "content-length") (codes "6")) (Err error) → error.kind ≡ NoMemory
+only_memory error h =
+    ap (λ (e : Error). e.kind) (subst (λ fault. RefusedFor {T = Unit {0}} fault (Err error)) is_a_line h)
+
+-- each reply of these exchanges is the greeting
+pub all_greeted : (entries : List Entry) → AllByRecursion (IsAllowed Greeting) entries
+    → All (λ e. IfSome e.reply (λ reply. reply ≡ greeting)) entries
+all_greeted entries allowed = All-from_recursion _ entries (each entries allowed)
+  where
+    of_reply : (reply : Option Reply) (P : Reply → Type 0) → ((r : Reply) → P r → r ≡ greeting) → IfSome reply P → IfSome reply (λ r. r ≡ greeting)
+    of_reply None P is h = tt
+    of_reply (Some r) P is h = is r h
+
+    each : (entries : List Entry) → AllByRecursion (IsAllowed Greeting) entries → AllByRecursion (λ e. IfSome e.reply (λ reply. reply ≡ greeting)) entries
+    each [] h = tt
+    each (e ∷ more) h = (of_reply e.reply _ (λ r gives. gives.1.is) h.0.reply, each more h.1)
+
+-- a job greets, or there is no memory
+pub greets : {L C : Type 0} (old new : SessionView L C) (head : RequestView) (began : Settings) (result : Result Reply Error)
+    → new ≡ record old { settings = record old.settings { pipelining = true } } → (old.settings ≡ began) × (payload_of old ≡ [])
+    → IfOk result (λ reply. reply ≡ greeting) → IfErr result (λ error. error.kind ≡ NoMemory)
+    → GivesReply Greeting (given_by head began new) (λ error. error.kind ≡ NoMemory) (Ready result)
+greets old new head began (Ok reply) set runs is memory = record {
+  is = is;
+  handed = rw set runs.1;
+  left = rw (set, runs.0) refl;
+}
+greets old new head began (Err error) set runs is memory = memory
