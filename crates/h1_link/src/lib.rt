@@ -14,18 +14,20 @@ mod memory;
 mod sink;
 mod source;
 mod standard;
+mod stream_laws;
 mod system_clock;
 mod tcp;
 
 pub use acceptor::Acceptor;
 pub use clock::{Clock, YEAR_10000};
 pub use dialer::{DialStep, Dialer};
-pub use laws::{calls_add_up, calls_only_add, counts_add_up, later_states_go_on, streams_only_add};
+pub use laws::{calls_add_up, calls_only_add, later_states_go_on};
 pub use link::{FlushStep, Link, ReadStep, WriteStep};
 pub use memory::{DummyIO, Gate, MemAcceptor, MemDialer, MemLink, MemSink, MemSource, SetClock};
 pub use sink::{Sink, SinkStep};
 pub use source::{Source, SourceStep};
 pub use standard::{StdSink, StdSource};
+pub use stream_laws::{counts_add_up, streams_only_add};
 pub use system_clock::SystemClock;
 pub use tcp::{TcpAcceptor, TcpDialer, TcpLink};
 

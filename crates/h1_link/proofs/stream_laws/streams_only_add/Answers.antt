@@ -1,5 +1,5 @@
 use Rattle.h1_link.proofs.Streams.{later_source_read, later_source_on, later_sink_write, later_sink_on}
-use Rattle.h1_link.proofs.laws.streams_only_add.Goals as goal
+use Rattle.h1_link.proofs.stream_laws.streams_only_add.Goals as goal
 
 pub returns-clause-source : goal.returns-clause-source
 returns-clause-source c = later_source_read
