@@ -8,14 +8,15 @@
 
 mod cut;
 mod laws;
+mod limit_laws;
 mod line;
 mod search;
 #[cfg(test)]
 mod tests;
 
 pub use cut::{cut_of, cut_within};
-pub use laws::{
-    cut_is_by_lines, cut_is_stable, cut_of_its_front, heads_are_prefix_free,
+pub use laws::{cut_is_by_lines, cut_is_stable, cut_of_its_front, heads_are_prefix_free};
+pub use limit_laws::{
     heads_within_a_limit_are_stable, heads_within_a_limit_are_unique, searches_go_on,
 };
 pub use line::LineSoFar;

@@ -1,5 +1,5 @@
 use Rattle.h1_cut.proofs.SearchLemmas.{HasLooked-append}
-use Rattle.h1_cut.proofs.laws.searches_go_on.Goals as goal
+use Rattle.h1_cut.proofs.limit_laws.searches_go_on.Goals as goal
 
 pub returns : goal.returns
 returns c = HasLooked-append
