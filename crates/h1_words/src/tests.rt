@@ -37,6 +37,15 @@ fn a_script_is_faulty_at_its_first_line_outside_of_the_grammar(rt: HostRuntime) 
         ("poll 253402300799999", None),
         ("poll 253402300800000", Some(1)),
         ("poll 99999999999999999999", Some(1)),
+    ];
+    for (script, expected) in cases {
+        assert_eq!(rt; line_of_fault(rt.alloc(), script), expected, "{script}");
+    }
+}
+
+#[test]
+fn a_limit_and_a_shutdown_are_lines_of_the_grammar(rt: HostRuntime) {
+    let cases = [
         ("shutdown\nlimit 0\nend\nshutdown\npoll 0\nshutdown", None),
         ("shutdown ", Some(1)),
         ("shutdow", Some(1)),
