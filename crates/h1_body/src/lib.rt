@@ -3,6 +3,7 @@
 #![tactic(auto)]
 
 mod body_bytes;
+mod chunk_laws;
 mod chunking;
 mod fed;
 mod fixed_buffer;
@@ -14,16 +15,16 @@ mod size_line;
 mod tests;
 mod wire;
 mod writer;
+mod writing_laws;
 
 pub use body_bytes::BodyBytes;
+pub use chunk_laws::{chunked_is_the_grammar, no_chunked_body_begins_another};
 pub use chunking::{CHUNK_LIMIT, Chunking, SIZE_LINE_LIMIT, TRAILERS_LIMIT};
 pub use fed::{Fed, FeedState};
 pub use fixed_buffer::FixedBuffer;
 pub use framing::{Framing, framing_of, reply_framing};
-pub use laws::{
-    bodies_grow, chunked_is_the_grammar, no_chunked_body_begins_another, readings_join,
-    written_bodies_are_read_back,
-};
+pub use laws::{bodies_grow, readings_join};
 pub use reader::{BodyReader, Reading};
 pub use wire::Wire;
 pub use writer::BodyWriter;
+pub use writing_laws::written_bodies_are_read_back;

@@ -2,7 +2,7 @@ use Rattle.h1_body.specs.declared.chunking.Chunking.TheVariants.{Start}
 use Rattle.h1_body.proofs.TrailerRuns.{body_is_read}
 use Rattle.h1_body.proofs.MachineLemmas.{stable}
 use Rattle.h1_body.proofs.LawLemmas.{only_bodies, live, dead, first_break}
-use Rattle.h1_body.proofs.laws.chunked_is_the_grammar.Goals as goal
+use Rattle.h1_body.proofs.chunk_laws.chunked_is_the_grammar.Goals as goal
 
 pub returns-clause-only : goal.returns-clause-only
 returns-clause-only c = only_bodies
