@@ -10,7 +10,6 @@ use Rattle.h1_link.specs.Counts.{Rose}
 use Rattle.h1_body.specs.Body.{whole, broken}
 use Rattle.h1_body.specs.Reader.{reads}
 use Rattle.h1_server.specs.Decoding.{ReadsBody, Lacks}
-use Rattle.h1_server.specs.Requests.{refused_for_good}
 use Rattle.h1_server.specs.SessionView.{SessionView, allowance}
 
 -- when each refusal of the body comes
@@ -22,6 +21,14 @@ BodyRefusal state old new kind.ReadError =
     Rose (state old.link).read_faults (state new.link).read_faults × Lacks new.body.reader new.received
 BodyRefusal state old new kind.NoMemory = Unit {0}
 BodyRefusal state old new _ = ⊥
+
+-- What each later read of the body answers behind a refusal: this again. Behind want of memory that
+-- is so only where a caller keeps the payload, for whom the body has failed.
+abbrev pub refused_behind : Option (List ℕ) → Error → Option Error
+refused_behind kept error = by_kind error.kind where
+  by_kind : ErrorType → Option Error
+  by_kind kind.NoMemory = option_map (λ _. error) kept
+  by_kind _ = Some error
 
 -- no read of the link was pending
 pub record IsReadAtOnce {L C : Type 0} (state : L → LinkState) (old new : SessionView L C) : Type 0 where
@@ -35,7 +42,7 @@ PayloadAnswer state old new payload left (Ready (Ok (Some piece))) =
 PayloadAnswer state old new payload left (Ready (Ok None)) =
     (payload ≡ []) × (reads new.body.reader [] ≡ whole [] 0) × (new.body.refused ≡ None) × IsReadAtOnce state old new
 PayloadAnswer state old new payload left (Ready (Err error)) =
-    (payload ≡ []) × (new.body.refused ≡ refused_for_good error) × BodyRefusal state old new error.kind
+    (payload ≡ []) × (new.body.refused ≡ refused_behind new.body.kept error) × BodyRefusal state old new error.kind
     × IsReadAtOnce state old new × (error.retry ≡ false)
 PayloadAnswer state old new payload left Pending =
     (payload ≡ []) × Lacks new.body.reader new.received × (new.body.refused ≡ None) × (new.body.waits ≡ true)

@@ -82,6 +82,7 @@ pub(crate) fn drain_body<L: Link>(
 {
     'drains: loop {
         let read = read_body(alloc, link, received, reader, kept, budget);
+        // What is received is bounded by its buffer before the next read.
         let _left_over = received.len();
         if let Some(stop) = stop_of(read) {
             return stop;

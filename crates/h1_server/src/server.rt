@@ -154,7 +154,8 @@ impl<L: Link + Drop, C: Drop> HttpSession<L, C> {
         self.budget
     }
 
-    /// From here on all payload that is read is kept behind these bytes.
+    /// From here on all payload that is read is kept behind these bytes, and a body whose reading
+    /// wanted memory has failed.
     pub fn keep_payload(&mut self, kept: BodyBytes)
         ensures { self.new ≡ record self.old { body = record self.old.body { kept = Some kept } } }
     {

@@ -1,7 +1,8 @@
 //! Reading a request: its head and its body.
-ghost use Rattle.std.specs.Prelude.{◌≡◌, ◌<◌, ◌^◌, length, IsSome, IfSome, IfNone, None, Some, false, Err};
+ghost use Rattle.std.specs.Prelude.{◌≡◌, ◌<◌, ◌^◌, length, IsSome, IfSome, IfNone, None, Some, false, Err, option_map};
 ghost use Rattle.futures.specs.declared.task.Poll.TheVariants.{Ready};
 ghost use Rattle.h1_error.specs.declared.error.ErrorType.{ErrorType};
+ghost use Rattle.h1_error.specs.declared.error.ErrorType.TheVariants.{NoMemory};
 
 use super::HttpSession;
 use crate::budget::{allowance_of, budget_left};
@@ -9,7 +10,7 @@ use crate::reading_body::{BodyRead, read_body};
 use crate::reading_head::{HeadRead, read_head};
 use crate::request::request_of;
 use crate::settings::{wished, with_keepalive};
-use crate::{NoRequest, ReadRequest};
+use crate::{BodyState, NoRequest, ReadRequest};
 use bytes::Bytes;
 use futures::task::Poll;
 use h1_body::BodyReader;
@@ -23,6 +24,20 @@ pub(super) fn refuse<T>(refused: &mut Option<Error>, kind: ErrorType) -> Poll<Re
 {
     let error = Error::from(kind);
     *refused = Some(error);
+    Poll::Ready(Err(error))
+}
+
+/// Answers that memory is wanting. For a caller that keeps the payload the body has failed, and every
+/// later read answers so again.
+fn starve<T>(body: &mut BodyState) -> Poll<Result<T, Error>>
+    requires { body.old.refused ≡ None }
+    ensures kept { body.new ≡ record body.old { refused = option_map (λ _. record { kind = NoMemory; retry = false }) body.old.kept } }
+    ensures answer { result ≡ Ready (Err (record { kind = NoMemory; retry = false })) }
+{
+    let error = Error::from(ErrorType::NoMemory);
+    if body.kept.is_some() {
+        body.refused = Some(error);
+    }
     Poll::Ready(Err(error))
 }
 
@@ -76,7 +91,8 @@ impl<L: Link + Drop, C: Drop> HttpSession<L, C> {
         }
     }
 
-    /// Reads payload of the request's body; None is its end (RFC 9112, section 6).
+    /// Reads payload of the request's body; None is its end (RFC 9112, section 6). A refusal is
+    /// answered again; want of memory only while payload is kept.
     pub fn poll_read_body_bytes(&mut self, now: u64) -> Poll<Result<Option<Bytes>, Error>>
         requires { IsSome self.old.request }
         ensures again { IfSome self.old.body.refused (λ error. (result ≡ Ready (Err error)) × (self.new ≡ self.old)) }
@@ -85,6 +101,7 @@ impl<L: Link + Drop, C: Drop> HttpSession<L, C> {
         ensures plan { L.same_plan self.old.link self.new.link }
         ensures bound { length self.new.received < 2 ^ 63 }
     {
+        // What is received is bounded by its buffer, now and behind the read.
         let _received = self.received.len();
         if let Some(error) = self.body.refused {
             return Poll::Ready(Err(error));
@@ -114,7 +131,7 @@ impl<L: Link + Drop, C: Drop> HttpSession<L, C> {
                 Poll::Pending
             }
             BodyRead::Failed => refuse(&mut self.body.refused, ErrorType::ReadError),
-            BodyRead::NoMemory => Poll::Ready(Err(Error::from(ErrorType::NoMemory))),
+            BodyRead::NoMemory => starve(&mut self.body),
         }
     }
 }

@@ -148,7 +148,7 @@ returns-in-NoMemory-clause-reads g c =
     let reads = rw c.allowance_of-left.ensures at c.in-NoMemory.ensures.reads in
     let cause = c.in-NoMemory.ensures.cause in
     let unrefused = is_nothing c.self.inside.body.refused c.in_default.not-Some in
-    rw (← c.self.view_is) rw c.from.ensures (if_none c.self.inside.body.refused _ (record {
+    rw (← c.self.view_is) rw c.starve.ensures.answer (if_none c.self.inside.body.refused _ (rw c.starve.ensures.kept (record {
       payload = [];
       left = c.read_body-read.new.budget;
       reads = reads;
@@ -160,5 +160,5 @@ returns-in-NoMemory-clause-reads g c =
       context = refl;
       few = c.read_body-read.ensures.few;
       settings = refl;
-      answer = (refl, unrefused, tt, record { waits = refl; link_waits = cause }, refl);
-    }))
+      answer = (refl, refl, tt, record { waits = refl; link_waits = cause }, refl);
+    })))
