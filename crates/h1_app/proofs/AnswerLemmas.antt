@@ -1,10 +1,9 @@
 -- Steps in which the application goes on.
-use Rattle.std.proofs.Common.{◌≡◌, ◌≢◌, ℕ, ◌+◌, ◌-◌, ◌^◌, ◌⊎◌, inl, min, List, [], ◌++◌, length, drop, true, false, Option, Some, None, IfSome, unwrap_or, refl, sym, ◌∙◌, ap, subst, append_assoc, append-nil, length-append, arith}
+use Rattle.std.proofs.Common.{◌≡◌, ℕ, ◌+◌, ◌-◌, ◌^◌, ◌⊎◌, inl, min, List, [], ◌++◌, length, drop, true, false, Option, Some, None, IfSome, unwrap_or, refl, sym, ◌∙◌, ap, subst, append_assoc, append-nil, length-append, arith}
 use Rattle.std.proofs.lemmas.List.{drop-append-le}
 use Rattle.h1_error.specs.declared.error.Error.{Error}
 use Rattle.h1_error.specs.declared.error.ErrorType.{ErrorType}
 use Rattle.h1_error.specs.declared.error.ErrorType.TheVariants as kind
-use Rattle.h1_error.specs.declared.error.ErrorType.TheVariants.{NoMemory}
 use Rattle.h1_server.specs.Payload.{BodyRefusal}
 use Rattle.h1_link.specs.LinkState.{LinkState}
 use Rattle.h1_link.specs.Counts.{Rose}
@@ -63,12 +62,12 @@ pub payload_is : {L C : Type 0} (state : L → LinkState) (old behind : SessionV
 payload_is state old behind body r = ap (λ x. unwrap_or x []) r.kept
 
 -- a refusal in the call says why the body can't be read on
-refusal_stops : {L C : Type 0} (state : L → LinkState) (old behind : SessionView L C) (k : ErrorType) → BodyRefusal state old behind k → k ≢ NoMemory → StopsBody state behind k
-refusal_stops state old behind kind.InvalidBody h n = h
-refusal_stops state old behind kind.ConnectionClosed h n = h
-refusal_stops state old behind kind.ReadError h n = h.1
-refusal_stops state old behind kind.NoMemory h n = absurd (n refl)
-refusal_stops state old behind _ h n = absurd h
+refusal_stops : {L C : Type 0} (state : L → LinkState) (old behind : SessionView L C) (k : ErrorType) → BodyRefusal state old behind k → StopsBody state behind k
+refusal_stops state old behind kind.InvalidBody h = h
+refusal_stops state old behind kind.ConnectionClosed h = h
+refusal_stops state old behind kind.ReadError h = h.1
+refusal_stops state old behind kind.NoMemory h = tt
+refusal_stops state old behind _ h = absurd h
 
 -- and an earlier one still does
 stops_on : {L C : Type 0} (state : L → LinkState) (old behind : SessionView L C) (k : ErrorType) → behind.body.reader ≡ old.body.reader → behind.received ≡ old.received
@@ -76,6 +75,7 @@ stops_on : {L C : Type 0} (state : L → LinkState) (old behind : SessionView L 
 stops_on state old behind kind.InvalidBody reader received ended h = rw reader h
 stops_on state old behind kind.ConnectionClosed reader received ended h = rw (reader, received, ended) h
 stops_on state old behind kind.ReadError reader received ended h = rw (reader, received) h
+stops_on state old behind kind.NoMemory reader received ended h = tt
 stops_on state old behind _ reader received ended h = absurd h
 
 -- why the body can't be read on, where it can't
@@ -83,9 +83,9 @@ stopped_by : {L C : Type 0} (state : L → LinkState) (old behind : SessionView 
     → IfSome was (λ error. StopsBody state old error.kind) → IfSome behind.body.refused (λ error. StopsBody state behind error.kind)
 stopped_by state old behind None h s = each behind.body.refused h
   where
-    each : (now : Option Error) → IfSome now (λ error. BodyRefusal state old behind error.kind × (error.kind ≢ NoMemory)) → IfSome now (λ error. StopsBody state behind error.kind)
+    each : (now : Option Error) → IfSome now (λ error. BodyRefusal state old behind error.kind) → IfSome now (λ error. StopsBody state behind error.kind)
     each None h = tt
-    each (Some error) h = refusal_stops state old behind error.kind h.0 h.1
+    each (Some error) h = refusal_stops state old behind error.kind h
 stopped_by state old behind (Some error) h s =
     rw h.0 (stops_on state old behind error.kind h.1 h.2 h.3 s)
 
@@ -200,10 +200,9 @@ refused_in state old behind None h = each behind.body.refused h
     of : (k : ErrorType) → BodyRefusal state old behind k → k ≡ kind.ReadError → Rose (state old.link).read_faults (state behind.link).read_faults
     of k h is = let both = rw is at h in both.0
 
-    each : (now : Option Error) → IfSome now (λ error. BodyRefusal state old behind error.kind × (error.kind ≢ NoMemory))
-        → RefusedIn (state old.link) (state behind.link) None now
+    each : (now : Option Error) → IfSome now (λ error. BodyRefusal state old behind error.kind) → RefusedIn (state old.link) (state behind.link) None now
     each None h = tt
-    each (Some error) h = of error.kind h.0
+    each (Some error) h = of error.kind h
 
 refusal_stays : {L C : Type 0} (state : L → LinkState) (old behind : SessionView L C) (was : Option Error) → RefusedBy state old behind was
     → Stays was behind.body.refused

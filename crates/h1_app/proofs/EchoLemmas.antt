@@ -14,8 +14,7 @@ use Rattle.h1_error.specs.declared.head_fault.HeadFault.{HeadFault}
 use Rattle.futures.specs.declared.task.Poll.{Poll}
 use Rattle.futures.specs.declared.task.Poll.TheVariants.{Ready}
 use Rattle.h1_link.specs.LinkState.{LinkState}
-use Rattle.h1_server.specs.Requests.{refused_for_good}
-use Rattle.h1_server.specs.Payload.{BodyRefusal, ReadsPayload}
+use Rattle.h1_server.specs.Payload.{BodyRefusal, ReadsPayload, refused_behind}
 use Rattle.h1_server.specs.SessionView.{SessionView}
 use Rattle.h1_app.specs.declared.echo.Stopped.{Stopped}
 use Rattle.h1_app.specs.EchoRun.{EchoRuns, StopCause, IsStopOf, Reading, Gathers, ReadsAtOnce}
@@ -72,14 +71,14 @@ pub stop_cause : (P : Type 0) {L C : Type 0} (state : L → LinkState) (old new 
     → IfNone old.body.refused (ReadsPayload state old new (Ready (Err error))) → IsStopOf error error.kind stop → StopCause state old new (Some stop)
 stop_cause P {L} {C} state old new error stop again reads is = by_kind error.kind refl (by_refused old.body.refused refl again reads) is
   where
-    for_good : (error : Error) (k : ErrorType) → error.kind ≡ k → (k ≢ NoMemory) → refused_for_good error ≡ Some error
-    for_good error NoMemory is other = absurd (other refl)
-    for_good error _ is other = rw is refl
+    for_good : (body : Option (List ℕ)) (error : Error) (k : ErrorType) → error.kind ≡ k → (k ≢ NoMemory) → refused_behind body error ≡ Some error
+    for_good body error NoMemory is other = absurd (other refl)
+    for_good body error _ is other = rw is refl
 
     by_refused : (o : Option Error) → old.body.refused ≡ o
         → IfSome o (λ kept. (◌≡◌ {A = Poll (Result P Error)} (Ready (Err error)) (Ready (Err kept))) × (new ≡ old))
         → IfNone o (ReadsPayload state old new (Ready (Err error))) → error.kind ≢ NoMemory → new.body.refused ≡ Some error
-    by_refused None is again reads other = reads.answer.1 ∙ for_good error error.kind refl other
+    by_refused None is again reads other = reads.answer.1 ∙ for_good new.body.kept error error.kind refl other
     by_refused (Some kept) is again reads other =
         let says : ◌≡◌ {A = Poll (Result P Error)} (Ready (Err error)) (Ready (Err kept)) = again.0 in
         let same : error ≡ kept = cc in
@@ -162,10 +161,9 @@ cause_with_settings state old new settings NoMemory h = h
 cause_with_settings state old new settings _ h = absurd h
 
 causes_with_settings : {L C : Type 0} (state : L → LinkState) (old new : SessionView L C) (settings : Settings) (o : Option Error)
-    → IfSome o (λ error. BodyRefusal state (record old { settings = settings }) new error.kind × (error.kind ≢ NoMemory))
-    → IfSome o (λ error. BodyRefusal state old new error.kind × (error.kind ≢ NoMemory))
+    → IfSome o (λ error. BodyRefusal state (record old { settings = settings }) new error.kind) → IfSome o (λ error. BodyRefusal state old new error.kind)
 causes_with_settings state old new settings None h = tt
-causes_with_settings state old new settings (Some error) h = (cause_with_settings state old new settings error.kind h.0, h.1)
+causes_with_settings state old new settings (Some error) h = cause_with_settings state old new settings error.kind h
 
 refused_with_settings : {L C : Type 0} (state : L → LinkState) (old new : SessionView L C) (settings : Settings) (o : Option Error)
     → RefusedBy state (record old { settings = settings }) new o → RefusedBy state old new o

@@ -113,6 +113,7 @@ stop_cause state before old done session e error kind.ReadError s ends h = inr (
       (λ rest. ReadEntry rest e session) (λ rest. LastStands rest e (unfinished e.body))
       (λ rest r. stands_unfinished rest e session r h.0 h.1) s.read,
 )
+stop_cause state before old done session e error kind.NoMemory s ends h = tt
 stop_cause state before old done session e error _ s ends h = absurd h
 
 pub stopped_cause : {L C : Type 0} (state : L → LinkState) (before old : LinkState) (done : List Entry)

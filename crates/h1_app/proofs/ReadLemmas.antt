@@ -1,5 +1,5 @@
 -- How an application's reading goes on from call to call.
-use Rattle.std.proofs.Common.{◌≡◌, ◌≢◌, ℕ, ◌+◌, ◌-◌, ◌≤◌, ◌⊎◌, inl, inr, List, [], ◌++◌, length, Bool, true, false, Option, Some, None, IfSome, IfNone, IsSome, refl, sym, ap, ◌∙◌, subst, append-nil, append_assoc, length-append, arith}
+use Rattle.std.proofs.Common.{◌≡◌, ℕ, ◌+◌, ◌-◌, ◌≤◌, ◌⊎◌, inl, inr, List, [], ◌++◌, length, Bool, true, false, Option, Some, None, IfSome, IfNone, IsSome, refl, sym, ap, ◌∙◌, subst, append-nil, append_assoc, length-append, arith}
 use Rattle.std.proofs.lemmas.Bool.{false≢true}
 use Rattle.std.specs.Prelude.{option_map, Result, Ok, Err}
 use Rattle.futures.specs.declared.task.Poll.{Poll}
@@ -15,8 +15,7 @@ use Rattle.h1_body.specs.declared.reader.BodyReader.{BodyReader}
 use Rattle.h1_body.proofs.RunLemmas.{ahead-ahead, ahead_none}
 use Rattle.h1_server.specs.Calls.{OneOther, CallsFew, is_done}
 use Rattle.h1_server.specs.Decoding.{Decoded}
-use Rattle.h1_server.specs.Requests.{refused_for_good}
-use Rattle.h1_server.specs.Payload.{BodyRefusal, PayloadAnswer, ReadsPayload}
+use Rattle.h1_server.specs.Payload.{BodyRefusal, PayloadAnswer, ReadsPayload, refused_behind}
 use Rattle.h1_server.specs.SessionView.{SessionView, allowance}
 use Rattle.h1_server.specs.declared.settings.Settings.{Settings}
 use Rattle.h1_server.proofs.MovedLemmas.{moved_itself, moved_on}
@@ -103,10 +102,9 @@ refused_on state a b c (Some error) later is first second =
     (second.0, second.1 ∙ first.1, second.2 ∙ first.2, second.3 ∙ first.3)
 refused_on state a b c None later is first second = on c.body.refused second
   where
-    on : (o : Option Error) → IfSome o (λ error. BodyRefusal state b c error.kind × (error.kind ≢ kind.NoMemory))
-        → IfSome o (λ error. BodyRefusal state a c error.kind × (error.kind ≢ kind.NoMemory))
+    on : (o : Option Error) → IfSome o (λ error. BodyRefusal state b c error.kind) → IfSome o (λ error. BodyRefusal state a c error.kind)
     on None h = tt
-    on (Some error) h = (refusal_on state a b c error.kind later h.0, h.1)
+    on (Some error) h = refusal_on state a b c error.kind later h
 
 waits_on : {L C : Type 0} (state : L → LinkState) (a b c : SessionView L C) (waits : Bool) → (state b.link).read_waits ≡ (state a.link).read_waits
     → WaitsBy state b c waits → WaitsBy state a c waits
@@ -172,19 +170,20 @@ reads_on state a b c first free second = record {
 
 -- what a call that reads says of refusals and waits
 payload_refused : {L C : Type 0} (state : L → LinkState) (old new : SessionView L C) (payload : List ℕ) (left : ℕ) (outcome : Poll (Result (Option (List ℕ)) Error))
-    → PayloadAnswer state old new payload left outcome → IfSome new.body.refused (λ error. BodyRefusal state old new error.kind × (error.kind ≢ kind.NoMemory))
+    → PayloadAnswer state old new payload left outcome → IfSome new.body.refused (λ error. BodyRefusal state old new error.kind)
 payload_refused state old new payload left (Ready (Ok (Some piece))) h = rw h.2 tt
 payload_refused state old new payload left (Ready (Ok None)) h = rw h.2 tt
 payload_refused state old new payload left (Ready (Err error)) h =
-    subst (λ o. IfSome o (λ error. BodyRefusal state old new error.kind × (error.kind ≢ kind.NoMemory))) (sym h.1) (by_kind error error.kind refl h.2)
+    subst (λ o. IfSome o (λ error. BodyRefusal state old new error.kind)) (sym h.1) (by_kind new.body.kept error error.kind refl h.2)
   where
-    by_kind : (error : Error) (k : ErrorType) → error.kind ≡ k → BodyRefusal state old new k
-        → IfSome (refused_for_good error) (λ error. BodyRefusal state old new error.kind × (error.kind ≢ kind.NoMemory))
-    by_kind error kind.NoMemory is h = rw is tt
-    by_kind error kind.InvalidBody is h = rw is (h, λ never. cc)
-    by_kind error kind.ConnectionClosed is h = rw is (h, λ never. cc)
-    by_kind error kind.ReadError is h = rw is (h, λ never. cc)
-    by_kind error _ is h = absurd h
+    by_kind : (kept : Option (List ℕ)) (error : Error) (k : ErrorType) → error.kind ≡ k → BodyRefusal state old new k
+        → IfSome (refused_behind kept error) (λ error. BodyRefusal state old new error.kind)
+    by_kind None error kind.NoMemory is h = rw is tt
+    by_kind (Some bytes) error kind.NoMemory is h = rw is tt
+    by_kind kept error kind.InvalidBody is h = rw is h
+    by_kind kept error kind.ConnectionClosed is h = rw is h
+    by_kind kept error kind.ReadError is h = rw is h
+    by_kind kept error _ is h = absurd h
 payload_refused state old new payload left Pending h = rw h.2 tt
 
 payload_waits : {L C : Type 0} (state : L → LinkState) (old new : SessionView L C) (payload : List ℕ) (left : ℕ) (outcome : Poll (Result (Option (List ℕ)) Error))

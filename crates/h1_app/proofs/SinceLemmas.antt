@@ -50,6 +50,7 @@ stops_on state old new kind.InvalidBody body received later h = rw body h
 stops_on state old new kind.ConnectionClosed body received later h =
     (later.ended h.0, rw (received, body) h.1)
 stops_on state old new kind.ReadError body received later h = rw (received, body) h
+stops_on state old new kind.NoMemory body received later h = tt
 stops_on state old new _ body received later h = absurd h
 
 pub stopped_on : {L C : Type 0} (state : L → LinkState) (old new : SessionView L C) (error : Option Error)

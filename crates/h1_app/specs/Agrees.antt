@@ -14,11 +14,13 @@ use Rattle.h1_app.specs.Exchange.{render, IsAllowed}
 use Rattle.h1_app.specs.Since.{IfTold}
 use Rattle.h1_app.specs.Stream.{Message, Begins}
 
--- what the refusal of a request's body says of it: it is broken, or the link ended or failed inside it
+-- What the refusal of a request's body says of it: it is broken, or the link ended or failed inside
+-- it. Want of memory, which comes anywhere, says nothing.
 abbrev pub RefusalOf : LinkState → Entry → Body → ErrorType → Type 0
 RefusalOf now e body kind.InvalidBody = body ≡ broken e.body
 RefusalOf now e body kind.ConnectionClosed = (body ≡ unfinished e.body) × (now.ended ≡ true)
 RefusalOf now e body kind.ReadError = body ≡ unfinished e.body
+RefusalOf now e body kind.NoMemory = Unit {0}
 RefusalOf now e body _ = ⊥
 
 -- the body's error, and how the body stood when the application replied

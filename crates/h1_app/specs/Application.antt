@@ -1,9 +1,8 @@
 -- What an application may do with a session, and what its reply depends on.
-use Rattle.std.specs.Prelude.{◌≡◌, ◌≢◌, ℕ, ◌+◌, ◌-◌, ◌≤◌, ◌⊎◌, List, [], ◌∷◌, ◌++◌, Bool, true, false, Option, Some, None, option_map, unwrap_or, IfSome, Result, Ok, Err, ◌||◌, codes}
+use Rattle.std.specs.Prelude.{◌≡◌, ℕ, ◌+◌, ◌-◌, ◌≤◌, ◌⊎◌, List, [], ◌∷◌, ◌++◌, Bool, true, false, Option, Some, None, option_map, unwrap_or, IfSome, Result, Ok, Err, ◌||◌, codes}
 use Rattle.futures.specs.declared.task.Poll.{Poll}
 use Rattle.futures.specs.declared.task.Poll.TheVariants.{Ready, Pending}
 use Rattle.h1_error.specs.declared.error.Error.{Error}
-use Rattle.h1_error.specs.declared.error.ErrorType.TheVariants.{NoMemory}
 use Rattle.h1_link.specs.LinkState.{LinkState}
 use Rattle.h1_link.specs.Counts.{Rose}
 use Rattle.h1_head.specs.Views.{RequestView, ResponseView}
@@ -55,7 +54,7 @@ abbrev pub RefusedBy : {L C : Type 0} → (L → LinkState) → SessionView L C 
 RefusedBy state old new (Some error) =
     (new.body.refused ≡ Some error) × (new.body.reader ≡ old.body.reader) × (new.received ≡ old.received)
     × ((state new.link).ended ≡ (state old.link).ended)
-RefusedBy state old new None = IfSome new.body.refused (λ error. BodyRefusal state old new error.kind × (error.kind ≢ NoMemory))
+RefusedBy state old new None = IfSome new.body.refused (λ error. BodyRefusal state old new error.kind)
 
 -- where a read was pending, nothing is left to be used, and the link or the budget is why
 abbrev pub WaitsBy : {L C : Type 0} → (L → LinkState) → SessionView L C → SessionView L C → Bool → Type 0

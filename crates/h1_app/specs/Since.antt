@@ -77,6 +77,7 @@ StopsBody state session kind.InvalidBody = reads session.body.reader [] ≡ brok
 StopsBody state session kind.ConnectionClosed =
     ((state session.link).ended ≡ true) × Lacks session.body.reader session.received
 StopsBody state session kind.ReadError = Lacks session.body.reader session.received
+StopsBody state session kind.NoMemory = Unit {0}
 StopsBody state session _ = ⊥
 
 -- the error of the request's body has its cause

@@ -48,8 +48,9 @@ rank stage.Finish = 2
 rank stage.Drain = 1
 rank stage.Next = 0
 
--- Where a stage lies between one byte of a reply and the next: it goes down from step to step, but
--- where a header is taken up and written, which spends of the budget.
+-- The stages in the order of a round: from a header that is being written through the end of its
+-- exchange into the next one, up to its header. Every step lowers this, but the one that closes the
+-- round, and that one spends budget.
 abbrev pub place : {J : Type 0} → Stage J → ℕ
 place stage.Header = 9
 place stage.TakeBody = 8
