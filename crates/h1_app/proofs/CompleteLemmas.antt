@@ -39,7 +39,7 @@ broken_grown f bytes more payload is =
     grown
 
 -- no head begins no bytes
-no_head : (bytes : List ℕ) (n : ℕ) (head : RequestView) (both : Bool) → bytes ≡ [] → HeadAt bytes n head both → ⊥
+pub no_head : (bytes : List ℕ) (n : ℕ) (head : RequestView) (both : Bool) → bytes ≡ [] → HeadAt bytes n head both → ⊥
 no_head bytes n head both none h =
     let len : length bytes ≡ 0 = ap length none in
     omega (arith, len, h.cuts.some, h.cuts.within)

@@ -45,7 +45,8 @@ use Rattle.h1_app.specs.Turns.{Went, rank, ahead as ahead_of}
 use Rattle.h1_app.specs.Waits.{replies}
 use Rattle.h1_app.proofs.BehindLemmas.{told_map, read_map, read_on, wrote_same, flushed_on}
 use Rattle.h1_app.proofs.JoinLemmas.{read_join}
-use Rattle.h1_app.proofs.ReplyLemmas.{stays_itself, dated_same, replied_same, refused_same}
+use Rattle.h1_app.proofs.GrowthLemmas.{refused_same}
+use Rattle.h1_app.proofs.ReplyLemmas.{stays_itself, dated_same, replied_same}
 use Rattle.h1_app.proofs.EndReplies.{complete, stands_broken, stands_unfinished}
 use Rattle.h1_app.proofs.DrainLemmas.{Reused, HasMore, Answered, if_some_on, stood_on, reading_end}
 use Rattle.h1_app.proofs.AnswerLemmas.{read_decoded}

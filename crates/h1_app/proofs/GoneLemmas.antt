@@ -1,5 +1,5 @@
 -- What steps of a connection leave, one behind the other.
-use Rattle.std.proofs.Common.{◌≡◌, ℕ, ◌+◌, ◌-◌, ◌*◌, ◌<◌, ◌≤◌, ◌⊎◌, inl, inr, List, [], ◌++◌, length, Bool, true, false, Option, Some, None, IfSome, IfNone, IsSome, option_map, refl, sym, ◌∙◌, ap, length-append, arith}
+use Rattle.std.proofs.Common.{◌≡◌, ℕ, ◌+◌, ◌-◌, ◌*◌, ◌<◌, ◌≤◌, ◌⊎◌, inl, inr, List, ◌++◌, length, Bool, true, false, Option, Some, None, IfSome, IfNone, IsSome, option_map, refl, sym, ◌∙◌, ap, length-append, arith}
 use Rattle.std.specs.Prelude.{◌==◌, if◌then◌else◌}
 use Rattle.std.proofs.lemmas.Bool.{cases_lt, false≢true}
 use Rattle.std.proofs.lemmas.Bool.Decides.{nat_tests}
@@ -17,7 +17,7 @@ use Rattle.h1_link.specs.LinkState.{LinkState}
 use Rattle.h1_link.specs.Later.{Later}
 use Rattle.h1_link.proofs.Laters.{later_itself, rose_read_waits, rose_write_waits, rose_read_faults, rose_write_faults}
 use Rattle.h1_server.specs.SessionView.{SessionView}
-use Rattle.h1_server.proofs.MovedLemmas.{moved_itself, moved_on}
+use Rattle.h1_server.proofs.MovedLemmas.{moved_on}
 use Rattle.h1_app.specs.declared.transcript.Entry.{Entry}
 use Rattle.h1_app.specs.declared.exchange.Stage.{Stage}
 use Rattle.h1_app.specs.declared.exchange.Stage.TheVariants as stage
@@ -29,6 +29,7 @@ use Rattle.h1_app.specs.Turns.{Went, JobFrom, JobPends, WaitsOn, rank}
 use Rattle.h1_app.specs.View.{View, entries}
 use Rattle.h1_app.specs.Waits.{replies, still}
 use Rattle.h1_app.proofs.GrowthLemmas.{extends_itself, extends_on, replies_grow}
+use Rattle.h1_app.proofs.ReplyLemmas.{went_none}
 
 budget_on : (a b c : Option ℕ) (x y : ℕ) → b ≡ option_map (λ left. left - x) a → c ≡ option_map (λ left. left - y) b
     → c ≡ option_map (λ left. left - (x + y)) a
@@ -102,25 +103,6 @@ since_on {L} {C} {A} {J} begins pends a b c first second x y = record {
   by : length a.done < length c.done → (length b.done < length c.done) ⊎ (length c.done ≤ length b.done) → JobBegan begins pends c.stage
   by less (inl new) = y.later new
   by less (inr old) = job_began begins pends b.stage c.stage (x.later (omega (arith, less, old))) (y.same (omega (arith, old, second)))
-
--- nothing was moved
-pub went_none : {L C : Type 0} (state : L → LinkState) (old new : SessionView L C) → new.link ≡ old.link → new.budget ≡ old.budget → new.context ≡ old.context → Went state old new
-went_none state old new link budget context = record {
-  read = [];
-  wrote = [];
-  spent = 0;
-  moved = rw link (moved_itself (state old.link));
-  budget = budget ∙ same old.budget;
-  within = some old.budget;
-  context = context;
-} where
-  same : (budget : Option ℕ) → budget ≡ option_map (λ left. left - 0) budget
-  same None = refl
-  same (Some left) = let left_is : left ≡ left - 0 = omega arith in ap Some left_is
-
-  some : (budget : Option ℕ) → IfSome budget (λ left. 0 ≤ left)
-  some None = tt
-  some (Some left) = omega arith
 
 pub gone_itself : {L C A J : Type 0} (state : L → LinkState) (begins : J → Type 0) (pends : J → ℕ) (same_plan : L → L → Type 0)
     (now : ℕ) (shutdown : Bool) (at : View L C A J) → same_plan at.session.link at.session.link

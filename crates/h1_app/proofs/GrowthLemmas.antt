@@ -24,7 +24,7 @@ replied_same : (reply : Option Reply) (e : Entry) → RepliedOn reply e e
 replied_same None e = tt
 replied_same (Some reply) e = (refl, refl, refl)
 
-refused_same : (before behind : LinkState) (refused : Option Error) → RefusedIn before behind refused refused
+pub refused_same : (before behind : LinkState) (refused : Option Error) → RefusedIn before behind refused refused
 refused_same before behind None = tt
 refused_same before behind (Some error) = tt
 

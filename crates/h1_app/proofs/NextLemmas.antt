@@ -24,7 +24,8 @@ use Rattle.h1_app.specs.Joins.{IsEnded, IsRestarted}
 use Rattle.h1_app.specs.Sound.{Sound, SoundStage, IsDraining, IsOver}
 use Rattle.h1_app.specs.Turns.{ahead}
 use Rattle.h1_app.specs.Waits.{WaitsFew, replies}
-use Rattle.h1_app.proofs.GoneLemmas.{went_none, job_itself}
+use Rattle.h1_app.proofs.GoneLemmas.{job_itself}
+use Rattle.h1_app.proofs.ReplyLemmas.{went_none}
 use Rattle.h1_app.proofs.GrowthLemmas.{extends_itself}
 use Rattle.h1_app.proofs.JoinLemmas.{since_joined}
 use Rattle.h1_app.proofs.TurnLemmas.{at_view, all_join, pipelining_last, reuses_last}

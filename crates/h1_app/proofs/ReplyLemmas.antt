@@ -23,7 +23,7 @@ use Rattle.h1_app.specs.declared.exchange.Stage.{Stage}
 use Rattle.h1_app.specs.declared.transcript.Entry.{Entry}
 use Rattle.h1_app.specs.declared.transcript.How.{How}
 use Rattle.h1_app.specs.declared.transcript.How.TheVariants.{Open, Whole, Failed}
-use Rattle.h1_app.specs.Growth.{Grows, Stays, DatedAt, RepliedOn, RefusedIn}
+use Rattle.h1_app.specs.Growth.{Grows, Stays, DatedAt, RepliedOn}
 use Rattle.h1_app.specs.Behind.{FlushedBy, IsBelow, written_of}
 use Rattle.h1_app.specs.Causes.{FailureCause}
 use Rattle.h1_app.specs.Exchange.{render}
@@ -31,7 +31,9 @@ use Rattle.h1_app.specs.Since.{Since, ReadSo, WroteSo, coming, SettledSo, StoodS
 use Rattle.h1_app.specs.Sound.{IsAsked, IsReplied, IsHeaded}
 use Rattle.h1_app.specs.Turns.{Went, ahead, place}
 use Rattle.h1_app.proofs.BehindLemmas.{read_same, wrote_on, flushed_on}
+use Rattle.h1_app.proofs.GrowthLemmas.{refused_same}
 use Rattle.h1_app.proofs.SinceLemmas.{stopped_on}
+use Rattle.h1_server.proofs.MovedLemmas.{moved_itself}
 
 pub at_none : {A : Type 0} (P : Type 0) (o : Option A) → o ≡ None → IfNone o P → P
 at_none P o e h = rw e at h
@@ -67,31 +69,24 @@ budget_left (Some all) next left some e within =
     let same : all - (all - left) ≡ left = omega arith in
     (e ∙ ap Some (sym same), omega arith)
 
-pub went_itself : {L C : Type 0} (state : L → LinkState) (session : SessionView L C)
-    → Moved (state session.link) (state session.link) [] [] 0
-    → IsSome session.budget → Went state session session
-went_itself state session moved some = record {
+-- nothing was moved
+pub went_none : {L C : Type 0} (state : L → LinkState) (old new : SessionView L C) → new.link ≡ old.link → new.budget ≡ old.budget → new.context ≡ old.context → Went state old new
+went_none state old new link budget context = record {
   read = [];
   wrote = [];
   spent = 0;
-  moved = moved;
-  budget = none_spent session.budget;
-  within = within session.budget;
-  context = refl;
-}
-  where
-    none_spent : (budget : Option ℕ) → budget ≡ option_map (λ left. left - 0) budget
-    none_spent None = refl
-    none_spent (Some left) = let same : left ≡ left - 0 = omega arith in ap Some same
+  moved = rw link (moved_itself (state old.link));
+  budget = budget ∙ same old.budget;
+  within = some old.budget;
+  context = context;
+} where
+  same : (budget : Option ℕ) → budget ≡ option_map (λ left. left - 0) budget
+  same None = refl
+  same (Some left) = let left_is : left ≡ left - 0 = omega arith in ap Some left_is
 
-    within : (budget : Option ℕ) → IfSome budget (λ left. 0 ≤ left)
-    within None = tt
-    within (Some left) = omega arith
-
-pub went_same : {L C : Type 0} (state : L → LinkState) (old new : SessionView L C) → new ≡ old
-    → Moved (state old.link) (state old.link) [] [] 0 → IsSome old.budget → Went state old new
-went_same state old new same moved some = subst (λ x. Went state old x) (sym same)
-    (went_itself state old moved some)
+  some : (budget : Option ℕ) → IfSome budget (λ left. 0 ≤ left)
+  some None = tt
+  some (Some left) = omega arith
 
 pub went_wrote : {L C : Type 0} (state : L → LinkState) (old new : SessionView L C) (taking : List ℕ)
     (left : ℕ)
@@ -308,10 +303,6 @@ pub replied_same : (reply : Option Reply) (old new : Entry) → new.how ≡ old.
 replied_same None old new how left handed = tt
 replied_same (Some reply) old new how left handed = (how, left, handed)
 
-pub refused_same : (before behind : LinkState) (refused : Option Error) → RefusedIn before behind refused refused
-refused_same before behind None = tt
-refused_same before behind (Some error) = tt
-
 -- an exchange grows by its reply
 pub grows_replying : (now : ℕ) (before behind : LinkState) (e : Entry) (head : Option ResponseView) (body : Option (List ℕ)) (date : ℕ)
     (text : List ℕ) (keep owed : Bool) (written : ℕ)
@@ -334,11 +325,6 @@ grows_replying now before behind e head body date text keep owed written headed 
   written = more;
   began = refl;
 }
-
-pub grows_itself : (now : ℕ) (before behind : LinkState) (e : Entry) → Grows now before behind e e
-grows_itself now before behind e =
-    grows_replying now before behind e e.sent_head e.sent_body e.date e.date_text e.keep e.owed e.written
-    (stays_itself e.sent_head) (dated_same now e.sent_head e e refl refl refl refl refl) (stays_itself e.sent_body) (omega arith)
 
 pub grows_written : (now : ℕ) (before behind : LinkState) (e : Entry) (owed : Bool) (written : ℕ) → e.written ≤ written
     → Grows now before behind e (record e { owed = owed; written = written })

@@ -2,7 +2,8 @@
 use Rattle.std.proofs.Common.{◌≡◌, Ok, arith, refl}
 use Rattle.h1_app.specs.Sound.{IsPieceOf}
 use Rattle.h1_app.specs.declared.exchange.Stage.TheVariants as at
-use Rattle.h1_app.proofs.ReplyLemmas.{at_some, ready_is, ahead_down, went_wrote, grows_itself}
+use Rattle.h1_app.proofs.ReplyLemmas.{at_some, ready_is, ahead_down, went_wrote}
+use Rattle.h1_app.proofs.GrowthLemmas.{grows_same}
 use Rattle.h1_app.proofs.BodyReplies.{at_take_body, untouched, empty_body, some_body, no_body_since, no_body_done, body_grows, taking_call, taken_since, taken_grows, taken_waits, taken_done}
 use Rattle.h1_app.proofs.steps.replying.take_body.Goals as goal
 
@@ -16,7 +17,7 @@ returns-in-Err-clause-went g c =
 
 pub returns-in-Err-clause-extends : goal.returns-in-Err-clause-extends
 returns-in-Err-clause-extends g c = λ shutdown.
-    rw c.in-Some.is (grows_itself c.args.now _ _ c.in-Some.entry)
+    rw c.in-Some.is (grows_same c.args.now _ _ c.in-Some.entry)
 
 pub returns-then-is_none-clause-went : goal.returns-then-is_none-clause-went
 returns-then-is_none-clause-went g c =

@@ -1,15 +1,14 @@
 -- The header is taken up.
 use Rattle.std.proofs.Common.{◌≡◌, ◌/◌, Some, Ok, Err, arith, refl, ap}
 use Rattle.h1_app.specs.Exchange.{IsAllowed}
-use Rattle.h1_app.proofs.ReplyLemmas.{at_some, ready_is, went_wrote, went_itself, went_same, grows_itself}
-use Rattle.h1_server.proofs.MovedLemmas.{moved_itself}
+use Rattle.h1_app.proofs.ReplyLemmas.{at_some, ready_is, went_none, went_wrote}
+use Rattle.h1_app.proofs.GrowthLemmas.{grows_same}
 use Rattle.h1_app.proofs.HeaderTaken.{at_take_header, taking_header, out_where_pending, out_where_done, out_where_none, same_where_kept, writes_header, headed_since, headed_grows, headed_allowed, headed_waits, headed_done, headed_ahead, headed_fails}
 use Rattle.h1_app.proofs.steps.replying.take_header.Goals as goal
 
 pub returns-in-Err-clause-went : goal.returns-in-Err-clause-went
 returns-in-Err-clause-went g c =
-    went_itself g.L.Link.state c.args.session.now
-    (moved_itself (g.L.Link.state c.args.session.now.link)) c.requires.budget
+    went_none g.L.Link.state c.args.session.now c.args.session.now refl refl refl
 
 pub returns-in-Pending-clause-went : goal.returns-in-Pending-clause-went
 returns-in-Pending-clause-went g c =
@@ -398,12 +397,11 @@ returns-else-is_none-clause-went g c =
     c.poll_write_response_header-answer.new.self h.request (Some h.reply.header)
     c.poll_write_response_header-answer.new.header c.args.now c.poll_write_response_header-answer.result
     c.is_none.result t c.is_none.ensures c.if-is_none.false in
-    went_same g.L.Link.state c.args.session.now c.poll_write_response_header-answer.new.self same
-    (moved_itself (g.L.Link.state c.args.session.now.link)) c.requires.budget
+    rw same (went_none g.L.Link.state c.args.session.now c.args.session.now refl refl refl)
 
 pub returns-else-is_none-clause-extends : goal.returns-else-is_none-clause-extends
 returns-else-is_none-clause-extends g c = λ shutdown.
-    rw c.in-Some.is (grows_itself c.args.now _ _ c.in-Some.entry)
+    rw c.in-Some.is (grows_same c.args.now _ _ c.in-Some.entry)
 
 pub returns-in-Err-clause-few : goal.returns-in-Err-clause-few
 returns-in-Err-clause-few g c =
