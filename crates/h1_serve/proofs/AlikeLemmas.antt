@@ -1,12 +1,11 @@
 -- Lemmas on exchanges that ended, each done: what was read settles what was written.
-use Rattle.std.proofs.Common.{◌≡◌, ◌≢◌, ℕ, ◌+◌, ◌≤◌, List, [], ◌∷◌, ◌++◌, length, take, drop, Bool, true, false, Option, Some, None, IfSome, IsSome, refl, sym, ap, subst, ◌∙◌, arith}
+use Rattle.std.proofs.Common.{◌≡◌, ◌≢◌, ℕ, ◌+◌, ◌≤◌, List, [], ◌∷◌, ◌++◌, length, take, drop, true, false, Option, Some, None, IfSome, IsSome, refl, sym, ap, subst, ◌∙◌, arith}
 use Rattle.std.specs.List.{AllByRecursion}
 use Rattle.std.proofs.lemmas.List.{take_all}
 use Rattle.std.proofs.lemmas.List.Concat.{flat_map-cons}
 use Rattle.h1_error.specs.declared.error.Error.{Error}
 use Rattle.h1_head.specs.Views.{RequestView}
 use Rattle.h1_head.specs.Date.{IsDateAt}
-use Rattle.h1_head.specs.RequestHead.{HeadAt}
 use Rattle.h1_head.proofs.DateLemmas.{date_unique}
 use Rattle.h1_head.proofs.RequestHeadLemmas.{HeadAt-unique}
 use Rattle.h1_body.specs.Body.{Body, whole, payload_of}
@@ -19,6 +18,7 @@ use Rattle.h1_app.specs.declared.transcript.How.TheVariants.{Open, Whole, Failed
 use Rattle.h1_app.specs.Behind.{StoodAs, ReadBehind, WroteBehind, DoneBehind}
 use Rattle.h1_app.specs.Echo.{EchoGives, echo_reply}
 use Rattle.h1_app.specs.Exchange.{render, render_parts, given_to, IsAllowed}
+use Rattle.h1_app.proofs.CompleteLemmas.{no_head}
 use Rattle.h1_serve.specs.ExchangeText.{request_line, field_lines, body_line, exchange_lines, exchanges_lines}
 
 -- a reply's header that was taken up has this second
@@ -102,12 +102,6 @@ rendered secs since flushed total e more h =
       date = subst (λ n. IsDateAt n e.date_text) dated head.2.4.date;
     }
 
--- no bytes are no request
-none_read : (bytes : List ℕ) (n : ℕ) (head : RequestView) (both : Bool) → bytes ≡ [] → HeadAt bytes n head both → ⊥
-none_read bytes n head both none h =
-    let len : length bytes ≡ 0 = ap length none in
-    omega (arith, len, h.cuts.some, h.cuts.within)
-
 same_payload : {front other : List ℕ} {i k : ℕ} → whole front i ≡ whole other k → front ≡ other
 same_payload e = ap payload_of e
 
@@ -142,9 +136,9 @@ pub alike : (secs : ℕ) (since : List ℕ) (flushed other : ℕ → Type 0) (to
     → AreEnded secs since flushed total a → AreEnded secs since other count b → AreAlike a b
 alike secs since flushed other total count [] [] x y = tt
 alike secs since flushed other total count [] (f ∷ later) x y =
-    absurd (none_read since y.read.0 f.head f.both x.read y.read.1)
+    absurd (no_head since y.read.0 f.head f.both x.read y.read.1)
 alike secs since flushed other total count (e ∷ more) [] x y =
-    absurd (none_read since x.read.0 e.head e.both y.read x.read.1)
+    absurd (no_head since x.read.0 e.head e.both y.read x.read.1)
 alike secs since flushed other total count (e ∷ more) (f ∷ later) x y =
     let same = firsts since e f more later x.read y.read in
     let one = rendered secs since flushed total e more x in
