@@ -48,6 +48,27 @@ script_by found source source' sink sink' status.Source e cause = absurd (omega 
 script_by found source source' sink sink' status.Sink e cause = absurd (omega arith)
 script_by found source source' sink sink' status.Memory e cause = absurd (omega arith)
 
+source_by : (found : Option Task) (source source' : SourceState) (sink sink' : SinkState) (answer : Status)
+    → 4 ≡ number_of answer → CauseBy found source source' sink sink' answer
+    → (found ≡ Some task.Script) × Rose source.faults source'.faults
+source_by (Some task.Script) source source' sink sink' status.Source e cause = (refl, cause)
+source_by None source source' sink sink' status.Source e cause = absurd cause
+source_by found source source' sink sink' status.Done e cause = absurd (omega arith)
+source_by found source source' sink sink' status.Words e cause = absurd (omega arith)
+source_by found source source' sink sink' status.Script e cause = absurd (omega arith)
+source_by found source source' sink sink' status.Sink e cause = absurd (omega arith)
+source_by found source source' sink sink' status.Memory e cause = absurd (omega arith)
+
+sink_by : (found : Option Task) (source source' : SourceState) (sink sink' : SinkState) (answer : Status)
+    → 5 ≡ number_of answer → CauseBy found source source' sink sink' answer → Rose sink.faults sink'.faults
+sink_by (Some task.Script) source source' sink sink' status.Sink e cause = cause
+sink_by None source source' sink sink' status.Sink e cause = cause.1
+sink_by found source source' sink sink' status.Done e cause = absurd (omega arith)
+sink_by found source source' sink sink' status.Words e cause = absurd (omega arith)
+sink_by found source source' sink sink' status.Script e cause = absurd (omega arith)
+sink_by found source source' sink sink' status.Source e cause = absurd (omega arith)
+sink_by found source source' sink sink' status.Memory e cause = absurd (omega arith)
+
 no_task_by : (source source' : SourceState) (sink sink' : SinkState) (number : ℕ) (answer : Status)
     → number ≡ number_of answer → WordsCause source source' sink sink' answer
     → (number ≡ 2) ⊎ ((number ≡ 5) × Rose sink.faults sink'.faults) ⊎ (number ≡ 6)
@@ -106,6 +127,14 @@ two_is_words found source source' sink sink' ends = words_by found source source
 pub three_is_script : (found : Option Task) (source source' : SourceState) (sink sink' : SinkState)
     → Ends found source source' sink sink' 3 → (found ≡ Some task.Script) × Refused source source' sink sink'
 three_is_script found source source' sink sink' ends = script_by found source source' sink sink' ends.0 ends.1 ends.2
+
+pub four_is_source : (found : Option Task) (source source' : SourceState) (sink sink' : SinkState)
+    → Ends found source source' sink sink' 4 → (found ≡ Some task.Script) × Rose source.faults source'.faults
+four_is_source found source source' sink sink' ends = source_by found source source' sink sink' ends.0 ends.1 ends.2
+
+pub five_is_sink : (found : Option Task) (source source' : SourceState) (sink sink' : SinkState)
+    → Ends found source source' sink sink' 5 → Rose sink.faults sink'.faults
+five_is_sink found source source' sink sink' ends = sink_by found source source' sink sink' ends.0 ends.1 ends.2
 
 pub no_task_leaves : (source source' : SourceState) (sink sink' : SinkState) (number : ℕ)
     → Ends None source source' sink sink' number

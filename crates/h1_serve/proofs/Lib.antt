@@ -5,5 +5,6 @@ pub mod LineLemmas
 pub mod ExchangeLemmas
 pub mod StatusLemmas
 pub mod CauseLemmas
+pub mod PolledLemmas
 pub mod AlikeLemmas
 pub mod FinishedLemmas

@@ -6,5 +6,6 @@ pub mod PollLine
 pub mod Report
 pub mod Finished
 pub mod Status
+pub mod Polled
 pub mod Running
 pub mod Done

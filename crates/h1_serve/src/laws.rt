@@ -1,6 +1,8 @@
-//! What the causes of the exit statuses come to, and what reports of one script have in common.
-ghost use Rattle.std.specs.Prelude.{◌≡◌, ◌⊎◌, ℕ, List, ◌++◌, Option, Some, None};
+//! What the causes of the exit statuses come to, what reports of one script have in common, and how
+//! many polls wait for their budget.
+ghost use Rattle.std.specs.Prelude.{◌≡◌, ◌⊎◌, ℕ, ◌+◌, ◌*◌, ◌≤◌, List, ◌++◌, length, Option, Some, None};
 ghost use Rattle.h1_link.specs.Counts.{Rose};
+ghost use Rattle.h1_link.specs.LinkState.{LinkState};
 ghost use Rattle.h1_link.specs.SourceState.{SourceState};
 ghost use Rattle.h1_link.specs.SinkState.{SinkState};
 ghost use Rattle.h1_words.specs.declared.command.Command.{Command};
@@ -9,6 +11,7 @@ ghost use Rattle.h1_words.specs.declared.words.Task.TheVariants as task;
 ghost use Rattle.h1_words.specs.Script.{script_of, commands, faulty_at};
 ghost use Rattle.h1_serve.specs.Finished.{IsFinished, IsBehindPolls};
 ghost use Rattle.h1_serve.specs.Output.{Took, usage_line};
+ghost use Rattle.h1_serve.specs.Polled.{Tells, AreSpent, state_behind};
 ghost use Rattle.h1_serve.specs.Status.{Ends, Reported, Refused, GaveScript};
 
 /// What each status tells, and which statuses the words and the script leave.
@@ -21,6 +24,11 @@ pub fn statuses_have_causes()
     ensures script { (found : Option Task) (source source' : SourceState) (sink sink' : SinkState)
         → Ends found source source' sink sink' 3
         → (found ≡ Some task.Script) × Refused source source' sink sink' }
+    ensures source { (found : Option Task) (source source' : SourceState) (sink sink' : SinkState)
+        → Ends found source source' sink sink' 4
+        → (found ≡ Some task.Script) × Rose source.faults source'.faults }
+    ensures sink { (found : Option Task) (source source' : SourceState) (sink sink' : SinkState)
+        → Ends found source source' sink sink' 5 → Rose sink.faults sink'.faults }
 
     // The words alone leave 2, and a script outside of its grammar leaves 3, but for a fault of the
     // source or the sink and for want of memory.
@@ -45,4 +53,17 @@ pub fn finished_reports_are_alike()
     ensures { (moment : ℕ) (script text other : List ℕ)
         → IsFinished moment script text → IsFinished moment script other
         → (told : List ℕ) × IsBehindPolls moment text told × IsBehindPolls moment other told }
+{}
+
+/// Polls that each waited for their budget moved at least 64 bytes each, on a link that tells its
+/// bytes; `polls` are the link's states behind them. `Connection::poll` gives each step: its clause
+/// `later`, and by its clause `cause` the `ToldGrowth` that `WaitCause` has for each poll that waits
+/// for its budget. Where neither the link nor the application makes a poll wait, every poll but the
+/// last waits for its budget (`only_the_budget_is_awaited` in h1_app). So valid input then takes at
+/// most one poll more than the bytes moved divided by 64.
+pub fn polls_for_the_budget_are_few()
+    ensures { (first : LinkState) (polls : List LinkState) (given written : List ℕ)
+        → Tells first given written → AreSpent first polls
+        → (more further : List ℕ) × Tells (state_behind first polls) more further
+        × (64 * length polls + length given + length written ≤ length more + length further) }
 {}

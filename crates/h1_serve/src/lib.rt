@@ -15,7 +15,7 @@ mod scripted;
 mod status;
 
 pub use command::run;
-pub use laws::{finished_reports_are_alike, statuses_have_causes};
+pub use laws::{finished_reports_are_alike, polls_for_the_budget_are_few, statuses_have_causes};
 
 #[cfg(test)]
 mod tests;

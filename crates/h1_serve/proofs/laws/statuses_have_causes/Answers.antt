@@ -1,4 +1,4 @@
-use Rattle.h1_serve.proofs.CauseLemmas.{zero_is_done, two_is_words, three_is_script, no_task_leaves, faulty_leaves, lawful_leaves}
+use Rattle.h1_serve.proofs.CauseLemmas.{zero_is_done, two_is_words, three_is_script, four_is_source, five_is_sink, no_task_leaves, faulty_leaves, lawful_leaves}
 use Rattle.h1_serve.proofs.laws.statuses_have_causes.Goals as goal
 
 pub returns-clause-done : goal.returns-clause-done
@@ -9,6 +9,12 @@ returns-clause-words c = two_is_words
 
 pub returns-clause-script : goal.returns-clause-script
 returns-clause-script c = three_is_script
+
+pub returns-clause-source : goal.returns-clause-source
+returns-clause-source c = four_is_source
+
+pub returns-clause-sink : goal.returns-clause-sink
+returns-clause-sink c = five_is_sink
 
 pub returns-clause-no_task : goal.returns-clause-no_task
 returns-clause-no_task c = no_task_leaves
