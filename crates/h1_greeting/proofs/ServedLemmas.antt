@@ -1,14 +1,125 @@
 -- What holds of a connection that is served, from poll to poll.
-use Rattle.std.proofs.Common.{◌≡◌, ℕ, List, None}
+use Rattle.std.proofs.Common.{◌≡◌, ℕ, ◌+◌, ◌<◌, ◌≤◌, ◌⊎◌, inl, inr, List, length, false, Option, Some, None, is_some, IsSome, refl, ◌∙◌, ap, subst, arith}
+use Rattle.std.proofs.lemmas.Bool.{cases_lt, false≢true}
+use Rattle.h1_error.specs.declared.progress.End.{End}
+use Rattle.h1_error.specs.declared.progress.Progress.{Progress}
+use Rattle.h1_error.specs.declared.progress.Progress.TheVariants.{Ready, Pending}
+use Rattle.h1_error.specs.declared.progress.Waiting.TheVariants as waiting
+use Rattle.h1_link.specs.LinkState.{LinkState}
+use Rattle.h1_link.specs.declared.memory.gate.Gate.{Gate}
+use Rattle.h1_link.specs.declared.memory.gate.Gate.TheVariants.{Open, Room, Blocked}
+use Rattle.h1_link.specs.Gate.{IsClosed, gate_from}
+use Rattle.h1_link.specs.MemPlan.{SamePlan}
+use Rattle.h1_link.specs.MemRule.{Rule}
 use Rattle.h1_link.specs.MemState.{MemState, new_mem_state}
 use Rattle.h1_app.specs.Agrees.{Agrees}
+use Rattle.h1_app.specs.Causes.{Cause, PendedNew, PendedOn, PendedBy}
 use Rattle.h1_app.specs.Since.{Since}
 use Rattle.h1_app.specs.View.{View, entries}
+use Rattle.h1_app.specs.declared.transcript.Entry.{Entry}
+use Rattle.h1_app.specs.declared.exchange.Stage.{Stage}
+use Rattle.h1_app.specs.declared.exchange.Stage.TheVariants as stage
 use Rattle.h1_greeting.specs.Greeting.{Greeting}
+use Rattle.h1_greeting.specs.Polled.{Polled}
 
--- the link was given these bytes, and the transcript agrees with it since it was new
-pub record IsServed {C A J : Type 0} (given : List ℕ) (served : View MemState C A J) : Type 0 where
+-- the link ends behind what is ahead, and takes all: neither was set since a call waited
+pub record NeverWaits (link : MemState) : Type 0 where
+  pub end_at : IsSome link.end_at
+  pub gate : link.gate ≡ Open
+  pub reads : link.reads_noted ≡ 0
+  pub writes : link.writes_noted ≡ 0
+
+-- the link was given these bytes and never waits, the transcript agrees with it since it was new, and
+-- so many polls were made
+pub record IsServed {C A J : Type 0} (given : List ℕ) (polls : ℕ) (served : View MemState C A J) : Type 0 where
   pub put : served.session.link.put ≡ given
+  pub ready : NeverWaits served.session.link
   pub limit : served.limit ≡ None
   pub since : Since (λ link. link.state) new_mem_state.state served.session served.done served.last
   pub agrees : Agrees Greeting None new_mem_state.state served.session.link.state (entries served)
+  pub polled : Polled polls served.end served.session.link.state
+
+pub unended : (end : Option End) → is_some end ≡ false → end ≡ None
+unended None over = refl
+unended (Some end) over = cc
+
+gate_open : (old new : Gate) (a b : ℕ) → old ≡ Open → gate_from new b ≡ gate_from old a → new ≡ Open
+gate_open old Open a b is same = refl
+gate_open old (Room left) a b is same = let clash : Room (b + left) ≡ Open = same ∙ ap (λ g. gate_from g a) is in cc
+gate_open old Blocked a b is same = let clash : Blocked ≡ Open = same ∙ ap (λ g. gate_from g a) is in cc
+
+-- what was set stays so
+pub ready_on : (old new : MemState) → SamePlan old new → NeverWaits old → NeverWaits new
+ready_on old new plan ready = record {
+  end_at = rw plan.end_at ready.end_at;
+  gate = gate_open old.gate new.gate old.state.bytes_out new.state.bytes_out ready.gate plan.gate;
+  reads = plan.reads_noted ∙ ready.reads;
+  writes = plan.writes_noted ∙ ready.writes;
+}
+
+ended_or_not : (end : Option ℕ) → IsSome end → end ≡ None → ⊥
+ended_or_not (Some at) some is = cc
+ended_or_not None some is = absurd (false≢true some)
+
+-- so no read and no write of it was not ready
+no_reads : (link : MemState) → NeverWaits link → Rule link → link.state.read_waits ≡ 0
+no_reads link ready rule = by (cases_lt 0 link.state.read_waits) where
+  by : (0 < link.state.read_waits) ⊎ (link.state.read_waits ≤ 0) → link.state.read_waits ≡ 0
+  by (inl some) = let waited = rule.waits (omega (arith, some, ready.reads)) in absurd (ended_or_not link.end_at ready.end_at waited.1)
+  by (inr none) = omega (arith, none)
+
+no_writes : (link : MemState) → NeverWaits link → Rule link → link.state.write_waits ≡ 0
+no_writes link ready rule = by (cases_lt 0 link.state.write_waits) where
+  by : (0 < link.state.write_waits) ⊎ (link.state.write_waits ≤ 0) → link.state.write_waits ≡ 0
+  by (inl some) = let closed = rule.stalls (omega (arith, some, ready.writes)) in absurd (subst IsClosed ready.gate closed)
+  by (inr none) = omega (arith, none)
+
+-- an application whose count never rises is not waited for
+no_job : {J : Type 0} (to : Stage J) → PendedNew (λ _. Unit {0}) (λ _. 0) to → ⊥
+no_job (stage.Answer job) h = absurd (omega (arith, h.2))
+no_job _ h = h
+
+no_wait : {J : Type 0} (from to : Stage J) → PendedOn (λ _. Unit {0}) (λ _. 0) from to → ⊥
+no_wait (stage.Answer before) (stage.Answer job) h = absurd (omega (arith, h))
+no_wait stage.Head to h = no_job to h
+no_wait _ _ h = h
+
+no_pending : {J : Type 0} (from to : List Entry) (before now : Stage J) → PendedBy (λ _. Unit {0}) (λ _. 0) from to before now → ⊥
+no_pending from to before now h = by (cases_lt (length from) (length to)) where
+  by : (length from < length to) ⊎ (length to ≤ length from) → ⊥
+  by (inl more) = no_job now (h.later more)
+  by (inr no_more) = no_wait before now (h.same (omega (arith, no_more, h.longer)))
+
+-- each poll that isn't the last moves bytes in 64 calls
+polled_on : {C A J : Type 0} (before : LinkState) (polls : ℕ) (from to : View MemState C A J) (answer : Progress)
+    → polls < 1000 → from.end ≡ None → Polled polls from.end from.session.link.state
+    → to.session.link.state.read_waits ≡ 0 → to.session.link.state.write_waits ≡ 0
+    → Cause (λ (link : MemState). link.state) (λ _. Unit {0}) (λ _. 0) before from to answer
+    → Polled (polls + 1) to.end to.session.link.state
+polled_on before polls from to (Ready reason) small on was reads writes cause = rw cause.0 tt
+polled_on before polls from to (Pending waiting.Budget) small on was reads writes cause =
+    rw cause.0 (let so = rw on at was in let rose = cause.1.0 in omega (arith, so, rose, small))
+polled_on before polls from to (Pending waiting.Read) small on was reads writes cause =
+    let rose = cause.1.0 in absurd (omega (arith, rose, reads))
+polled_on before polls from to (Pending waiting.Write) small on was reads writes cause =
+    let rose = cause.1.0 in absurd (omega (arith, rose, writes))
+polled_on before polls from to (Pending waiting.App) small on was reads writes cause =
+    absurd (no_pending from.done to.done from.stage to.stage cause.1.1)
+
+-- what held before a poll holds behind it
+pub served_on : {C A J : Type 0} (given : List ℕ) (polls : ℕ) (from to : View MemState C A J) (answer : Progress)
+    → IsServed given polls from → polls < 1000 → from.end ≡ None → to.limit ≡ from.limit
+    → SamePlan from.session.link to.session.link → Rule to.session.link
+    → Since (λ link. link.state) new_mem_state.state to.session to.done to.last
+    → Agrees Greeting to.limit new_mem_state.state to.session.link.state (entries to)
+    → Cause (λ (link : MemState). link.state) (λ _. Unit {0}) (λ _. 0) new_mem_state.state from to answer
+    → IsServed given (polls + 1) to
+served_on given polls from to answer was small on limit plan rule since agrees cause =
+    let ready = ready_on from.session.link to.session.link plan was.ready in record {
+      put = plan.put ∙ was.put;
+      ready = ready;
+      limit = limit ∙ was.limit;
+      since = since;
+      agrees = subst (λ l. Agrees Greeting l new_mem_state.state to.session.link.state (entries to)) (limit ∙ was.limit) agrees;
+      polled = polled_on new_mem_state.state polls from to answer small on was.polled (no_reads to.session.link ready rule) (no_writes to.session.link ready rule) cause;
+    }

@@ -1,2 +1,3 @@
 pub mod Greeting
 pub mod GreetingLaw
+pub mod Polled

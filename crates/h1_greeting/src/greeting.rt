@@ -6,6 +6,7 @@ ghost use Rattle.h1_link.specs.MemState.{new_mem_state};
 ghost use Rattle.h1_app.specs.Agrees.{Agrees};
 ghost use Rattle.h1_app.specs.View.{entries};
 ghost use Rattle.h1_greeting.specs.Greeting.{Greeting, greeting};
+ghost use Rattle.h1_greeting.specs.Polled.{Polled};
 
 use futures::task::Poll;
 use h1_app::{BodyBytes, Connection, HttpServer, HttpSession, NoModules, Reply, ServeHttp};
@@ -74,6 +75,10 @@ pub fn greet(alloc: Global, given: &[u8]) -> Result<Greeted, Error>
     ensures given { IfOk result (λ served. served.session.link.state.given ≡ Some (take served.session.link.state.bytes_in given.now)) }
     ensures agrees { IfOk result (λ served. Agrees Greeting None new_mem_state.state served.session.link.state (entries served)) }
     ensures greeted { IfOk result (λ served. All (λ exchange. IfSome exchange.reply (λ reply. reply ≡ greeting)) (entries served)) }
+    // It ended, or each of its polls moved bytes in 64 calls: no poll waited for the link or for the
+    // application.
+    ensures polled { IfOk result (λ served. Polled MOST_POLLS served.end served.session.link.state) }
+    ensures err { IfErr result (λ error. error.kind ≡ NoMemory) }
 {
     let mut link = MemLink::new(alloc);
     link.give(given)?;
@@ -85,6 +90,7 @@ pub fn greet(alloc: Global, given: &[u8]) -> Result<Greeted, Error>
             break;
         }
         connection.poll(0, false);
+        connection.link().rule();
     }
     connection.link().rule();
     Ok(connection)
