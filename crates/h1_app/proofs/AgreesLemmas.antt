@@ -14,20 +14,20 @@ use Rattle.h1_body.specs.Laws.{GrowsTo}
 use Rattle.h1_body.specs.Framing.{framing}
 use Rattle.h1_body.proofs.ReadLemmas.{read_is}
 use Rattle.h1_body.proofs.LawLemmas.{bodies_grow}
-use Rattle.h1_server.proofs.BodyLemmas.{payload_ahead}
+use Rattle.h1_transfer.proofs.BodyLemmas.{payload_ahead}
 use Rattle.h1_server.specs.SessionView.{SessionView}
 use Rattle.h1_server.specs.declared.settings.Settings.{Settings}
-use Rattle.h1_app.specs.declared.application.Reply.{Reply}
-use Rattle.h1_app.specs.declared.transcript.Entry.{Entry}
+use Rattle.h1_transcript.specs.declared.reply.Reply.{Reply}
+use Rattle.h1_transcript.specs.declared.transcript.Entry.{Entry}
 use Rattle.h1_app.specs.declared.exchange.Stage.{Stage}
-use Rattle.h1_app.specs.Behind.{StoodAs, ReadBehind, WroteBehind, AfterRead, AfterWrote, DoneBehind, FlushedBy}
-use Rattle.h1_app.specs.Agrees.{Agrees, AreOf, AreReplies, AreDone, RefusalOf}
-use Rattle.h1_app.specs.Application.{Given}
-use Rattle.h1_app.specs.Exchange.{render, IsAllowed}
-use Rattle.h1_app.specs.Since.{Since, ReadEntry, ReadSo, WroteSo, StoppedSo, StoodSo, StopsBody, coming}
+use Rattle.h1_transcript.specs.Behind.{StoodAs, ReadBehind, WroteBehind, AfterRead, AfterWrote, DoneBehind, FlushedBy}
+use Rattle.h1_transcript.specs.Agrees.{Agrees, AreOf, AreReplies, AreDone, RefusalOf}
+use Rattle.h1_transcript.specs.Given.{Given}
+use Rattle.h1_transcript.specs.Exchange.{render, IsAllowed}
+use Rattle.h1_app.specs.Accounted.{Accounted, ReadEntry, ReadSo, WroteSo, StoppedSo, StoodSo, StopsBody, coming}
 use Rattle.h1_app.specs.Sound.{Sound, IsKept}
-use Rattle.h1_app.specs.Stream.{Message, Begins, BehindBody}
-use Rattle.h1_app.proofs.BehindLemmas.{told_map}
+use Rattle.h1_transcript.specs.Stream.{Message, Begins, BehindBody}
+use Rattle.h1_transcript.proofs.BehindLemmas.{told_map}
 use Rattle.h1_app.proofs.StoodLemmas.{stood_as}
 
 nothing_behind : (b : Body) (none : List Message) → none ≡ [] → BehindBody b (λ k. Unit {0}) (none ≡ [])
@@ -97,7 +97,7 @@ one_reply since session e kept h sent = (
   kept ∙ sent,
 )
 
--- one exchange more in front of those that agree
+-- one exchange more before those that agree
 front_of : (now : LinkState) (e : Entry) (k : ℕ) (more : List Entry) (requests : List Message)
     → e.body_error ≡ None → IfSome e.reply (λ reply. StoodAs e.how e (whole e.body k)) → AreOf now more requests
     → AreOf now (e ∷ more) (record { head = e.head; both = e.both; body = whole e.body k } ∷ requests)
@@ -108,7 +108,7 @@ front_of now e k (f ∷ more) [] unrefused stood h = absurd h
 front_of now e k (f ∷ more) (m ∷ requests) unrefused stood h =
     (refl, refl, (k, refl), record { refused = rw unrefused tt; replied = stood }, h)
 
--- the requests of the exchanges that ended, in front of those of the rest
+-- the requests of the exchanges that ended, before those of the rest
 read_agrees : (now : LinkState) (done behind : List Entry) (since rest : List ℕ) → ReadBehind since done rest
     → (requests : List Message) × Begins rest requests × AreOf now behind requests
     → (requests : List Message) × Begins since requests × AreOf now (done ++ behind) requests
@@ -120,7 +120,7 @@ read_agrees now (e ∷ more) behind since rest h last =
       front_of now e h.2 (more ++ behind) next.0 h.4 h.5 next.2,
     )
 
--- their replies, in front of those of the rest
+-- their replies, before those of the rest
 wrote_agrees : (done behind : List Entry) (since rest : List ℕ) → WroteBehind since done rest
     → AreReplies rest behind → AreReplies since (done ++ behind)
 wrote_agrees [] behind since rest h last = rw h last
@@ -146,7 +146,7 @@ allowed_all gives [] None ended h = tt
 allowed_all gives [] (Some e) ended h = (h, tt)
 allowed_all gives (e ∷ more) last ended h = (ended.0, allowed_all gives more last ended.1 h)
 
--- the last exchange agrees with what was read behind the others
+-- the last exchange agrees with what was read after the others
 last_read : {L C : Type 0} (state : L → LinkState) (rest : List ℕ) (session : SessionView L C) (last : Option Entry)
     → StoppedSo state session last → ReadSo rest session last
     → (requests : List Message) × Begins rest requests × AreOf (state session.link) (option_to_list last) requests
@@ -161,7 +161,7 @@ last_wrote rest session (Some e) kept h sent = one_reply rest session e kept h s
 -- a sound connection's transcript agrees
 pub agrees_sound : {L C J : Type 0} (gives : Given → Reply → Type 0) (runs : J → RequestView → Settings → Settings → List ℕ → Type 0) (limit : Option ℕ) (state : L → LinkState)
     (session : SessionView L C) (done : List Entry) (last : Option Entry) (at : Stage J) (end : Option End) (before : LinkState)
-    → Sound gives runs limit session done last at end → Since state before session done last
+    → Sound gives runs limit session done last at end → Accounted state before session done last
     → Agrees gives limit before (state session.link) (done ++ option_to_list last)
 agrees_sound gives runs limit state session done last at end before sound s = record {
   read = told_map before.given (state session.link).given (AfterRead done (λ rest. ReadSo rest session last)) _

@@ -1,5 +1,5 @@
 -- Steps in which the application goes on.
-use Rattle.std.proofs.Common.{◌≡◌, ℕ, ◌+◌, ◌-◌, ◌^◌, ◌⊎◌, inl, min, List, [], ◌++◌, length, drop, true, false, Option, Some, None, IfSome, unwrap_or, refl, sym, ◌∙◌, ap, subst, append_assoc, append-nil, length-append, arith}
+use Rattle.std.proofs.Common.{◌≡◌, ℕ, ◌+◌, ◌-◌, ◌^◌, ◌⊎◌, inl, min, List, [], ◌∷◌, ◌++◌, Bool, length, drop, true, false, Option, Some, None, IfSome, unwrap_or, refl, sym, ◌∙◌, ap, subst, append_assoc, append-nil, length-append, arith}
 use Rattle.std.proofs.lemmas.List.{drop-append-le}
 use Rattle.h1_error.specs.declared.error.Error.{Error}
 use Rattle.h1_error.specs.declared.error.ErrorType.{ErrorType}
@@ -18,28 +18,36 @@ use Rattle.h1_body.specs.declared.framing.Framing.{Framing}
 use Rattle.h1_body.specs.declared.reader.BodyReader.{BodyReader}
 use Rattle.h1_body.proofs.ReadLemmas.{read_is}
 use Rattle.h1_body.proofs.RunLemmas.{ahead-ahead}
-use Rattle.h1_server.specs.Decoding.{Decoded, Lacks}
+use Rattle.h1_transfer.specs.Decoding.{Decoded, Lacks}
 use Rattle.h1_server.specs.SessionView.{SessionView}
 use Rattle.h1_server.specs.declared.settings.Settings.{Settings}
-use Rattle.h1_app.specs.declared.application.Reply.{Reply}
-use Rattle.h1_app.specs.declared.transcript.Entry.{Entry}
+use Rattle.h1_transcript.specs.declared.reply.Reply.{Reply}
+use Rattle.h1_transcript.specs.declared.transcript.Entry.{Entry}
+use Rattle.h1_app.specs.declared.exchange.Exchange.{Exchange}
+use Rattle.h1_app.specs.declared.exchange.Outcome.{Outcome}
 use Rattle.h1_app.specs.declared.exchange.Stage.{Stage}
 use Rattle.h1_app.specs.declared.exchange.Stage.TheVariants as stage
 use Rattle.h1_app.specs.declared.steps.answering.Asked.{Asked}
 use Rattle.h1_app.specs.declared.steps.answering.Asked.TheVariants as asked
-use Rattle.h1_app.specs.Application.{ReadsOnly, RefusedBy, WaitsBy, payload_of, how_of}
+use Rattle.h1_transcript.specs.Given.{Given}
+use Rattle.h1_application.specs.Application.{ReadsOnly, RefusedBy, WaitsBy, payload_of, how_of}
 use Rattle.h1_app.specs.Asking.{AsksAs, noted}
-use Rattle.h1_app.specs.Behind.{AfterRead, written_of}
-use Rattle.h1_app.specs.Causes.{LacksSo, LastAfter}
-use Rattle.h1_app.specs.Since.{Since, ReadEntry, WroteSo, StopsBody, StoodSo}
-use Rattle.h1_app.specs.Sound.{SoundStage, IsAnswering, lent}
-use Rattle.h1_app.specs.Growth.{Grows, Stays, RefusedIn}
+use Rattle.h1_transcript.specs.Behind.{AfterRead, written_of}
+use Rattle.h1_transcript.specs.Ends.{LacksSo, LastAfter}
+use Rattle.h1_app.specs.Accounted.{Accounted, ReadEntry, WroteSo, StopsBody, StoodSo}
+use Rattle.h1_transcript.specs.Exchange.{IsAllowed}
+use Rattle.h1_app.specs.Sound.{SoundStage, IsAnswering, IsKept, lent}
+use Rattle.h1_app.specs.Step.{StepReady, Stepped, MovesWithin}
+use Rattle.h1_app.specs.Outcome.{OutcomeCause}
+use Rattle.h1_app.specs.Waits.{FewReadsNotReady}
+use Rattle.h1_transcript.specs.Growth.{Grows, Stays, RefusedIn}
 use Rattle.h1_app.proofs.ReplyLemmas.{stays_itself}
-use Rattle.h1_app.proofs.BehindLemmas.{told_map, read_on, wrote_same, flushed_on}
+use Rattle.h1_transcript.proofs.BehindLemmas.{told_map, read_on, wrote_same, flushed_on}
+use Rattle.h1_app.proofs.StepLemmas.{grown_stepped}
 use Rattle.h1_app.proofs.StoodLemmas.{stood_so}
-use Rattle.h1_app.proofs.SinceLemmas.{rose_later}
+use Rattle.h1_app.proofs.AccountedLemmas.{rose_later}
 
--- what is read behind what was read
+-- what is read after what was read
 pub read_decoded : (f : Framing) (used more payload later : List ℕ) (old new : BodyReader) → HasRead f used payload old → Decoded old new more later → HasRead f (used ++ more) (payload ++ later) new
 read_decoded f used more payload later old new h d = record {
   read = (λ xs. ap (body f) (append_assoc used more xs) ∙ h.read (more ++ xs) ∙ ap (ahead payload (length used)) (d.reads xs)
@@ -95,15 +103,15 @@ where_replied P None h = tt
 where_replied P (Some reply) h = h
 
 -- what was given and taken goes on as the application reads
-pub asked_since : {L C : Type 0} (state : L → LinkState) (old behind new : SessionView L C) (e e2 : Entry) (before : LinkState) (done : List Entry)
+pub asked_accounted : {L C : Type 0} (state : L → LinkState) (old behind new : SessionView L C) (e e2 : Entry) (before : LinkState) (done : List Entry)
     → ReadsOnly state (lent old e.body) behind → new ≡ record behind { body = record behind.body { kept = None; waits = false } }
     → e2.head ≡ e.head → e2.both ≡ e.both → e2.body ≡ payload_of behind → e2.handed ≡ length (payload_of behind) → e2.how ≡ how_of behind.body
     → e.body_error ≡ old.body.refused → e2.body_error ≡ behind.body.refused → e.sent_head ≡ None → e.sent_body ≡ None → e2.sent_head ≡ None → e2.sent_body ≡ None
-    → Since state before old done (Some e) → Since state before new done (Some e2)
-asked_since {L} {C} state old behind new e e2 before done r is head both body handed how error0 error2 h0 b0 h2 b2 s =
+    → Accounted state before old done (Some e) → Accounted state before new done (Some e2)
+asked_accounted {L} {C} state old behind new e e2 before done r is head both body handed how error0 error2 h0 b0 h2 b2 s =
     let onward : (used : List ℕ) → HasRead (framing e.head) used e.body old.body.reader → HasRead (framing e2.head) (used ++ r.used) e2.body behind.body.reader =
     λ used h. rw (head, body ∙ payload_is state old behind e.body r) (read_decoded (framing e.head) used r.used e.body r.payload old.body.reader behind.body.reader h r.decoded) in
-    subst (λ (x : SessionView L C). Since state before x done (Some e2)) (sym is) (record {
+    subst (λ (x : SessionView L C). Accounted state before x done (Some e2)) (sym is) (record {
       later = later_on before (state old.link) (state behind.link) s.later r.moved.later;
       read = read_on done before.given (state old.link).given (state behind.link).given r.piece (λ rest. ReadEntry rest e old) (λ rest. ReadEntry rest e2 (record behind { body = record behind.body { kept = None; waits = false } })) r.moved.given
           (λ rest p. record {
@@ -164,14 +172,14 @@ lacks_body session done e since lacks h =
 pub reads_why : {L C : Type 0} (state : L → LinkState) (old new : SessionView L C) (e e2 : Entry) (answer : Asked)
     → IsAnswering e old → AsksAs state old new e e2 answer → answer ≡ asked.Reads
     → (Rose (state old.link).read_waits (state new.link).read_waits ⊎ (new.budget ≡ Some 0))
-    × ((before : LinkState) (done : List Entry) → Since state before new done (Some e2) → LacksSo before (state new.link) done (Some e2))
+    × ((before : LinkState) (done : List Entry) → Accounted state before new done (Some e2) → LacksSo before (state new.link) done (Some e2))
 reads_why {L} {C} state old new e e2 answer a h is =
     let waits : WaitsBy state (lent old e.body) h.behind true =
     subst (λ b. WaitsBy state (lent old e.body) h.behind b) (h.reading is) (h.reads.waits a.asked.waits) in
     let left : SessionView L C = record h.behind { body = record h.behind.body { kept = None; waits = false } } in
     let none : e2.reply ≡ None = ap (λ (x : Entry). x.reply) h.entry ∙ a.reply in
     subst (λ (x : SessionView L C). (Rose (state old.link).read_waits (state x.link).read_waits ⊎ (x.budget ≡ Some 0))
-    × ((before : LinkState) (done : List Entry) → Since state before x done (Some e2) → LacksSo before (state x.link) done (Some e2)))
+    × ((before : LinkState) (done : List Entry) → Accounted state before x done (Some e2) → LacksSo before (state x.link) done (Some e2)))
     (sym h.session) (
       waits.2,
       λ before done s. (
@@ -184,11 +192,11 @@ reads_why {L} {C} state old new e e2 answer a h is =
 -- the step goes on with what was given and taken; a reply that joins the exchange changes nothing of it
 pub asked_on : {L C : Type 0} (state : L → LinkState) (old new : SessionView L C) (last : Option Entry) (e e2 e3 : Entry) (answer : Asked)
     → last ≡ Some e → e3 ≡ record e2 { reply = e3.reply } → IsAnswering e old → AsksAs state old new e e2 answer
-    → (before : LinkState) (done : List Entry) → Since state before old done last → Since state before new done (Some e3)
+    → (before : LinkState) (done : List Entry) → Accounted state before old done last → Accounted state before new done (Some e3)
 asked_on {L} {C} state old new last e e2 e3 answer some like a h before done s =
-    let start : Since state before old done (Some e) = subst (λ x. Since state before old done x) some s in
+    let start : Accounted state before old done (Some e) = subst (λ x. Accounted state before old done x) some s in
     let noted_so : e3 ≡ record (noted e h.behind) { reply = e3.reply } = like ∙ ap (λ (x : Entry). record x { reply = e3.reply }) h.entry in
-    asked_since state old h.behind new e e3 before done h.reads h.session (ap (λ (x : Entry). x.head) noted_so) (ap (λ (x : Entry). x.both) noted_so) (ap (λ (x : Entry). x.body) noted_so) (ap (λ (x : Entry). x.handed) noted_so) (ap (λ (x : Entry). x.how) noted_so) a.asked.body_error (ap (λ (x : Entry). x.body_error) noted_so)
+    asked_accounted state old h.behind new e e3 before done h.reads h.session (ap (λ (x : Entry). x.head) noted_so) (ap (λ (x : Entry). x.both) noted_so) (ap (λ (x : Entry). x.body) noted_so) (ap (λ (x : Entry). x.handed) noted_so) (ap (λ (x : Entry). x.how) noted_so) a.asked.body_error (ap (λ (x : Entry). x.body_error) noted_so)
     a.sent_head a.sent_body (ap (λ (x : Entry). x.sent_head) noted_so ∙ a.sent_head) (ap (λ (x : Entry). x.sent_body) noted_so ∙ a.sent_body) start
 
 -- a refusal in the call for a failed read is one that the link had in it
@@ -237,3 +245,29 @@ asked_grows {L} {C} state now old new e e2 e3 answer like a h =
       written = omega arith;
       began = refl;
     })
+
+-- what was moved as the application read
+asked_moves : {L C : Type 0} (state : L → LinkState) (old new : SessionView L C) (e e2 : Entry) (answer : Asked) → AsksAs state old new e e2 answer → MovesWithin state old new
+asked_moves {L} {C} state old new e e2 answer h = subst (λ (x : SessionView L C). MovesWithin state old x) (sym h.session) (record {
+  read = h.reads.piece;
+  wrote = [];
+  spent = h.reads.spent;
+  moved = h.reads.moved;
+  budget = h.reads.budget;
+  within = h.reads.within;
+  context = h.reads.context;
+})
+
+-- the application goes on: what it read joins the exchange, and its reply may
+pub asked_stepped : {L C J : Type 0} (state : L → LinkState) (pends : J → ℕ) (gives : Given → Reply → Type 0) (runs : J → RequestView → Settings → Settings → List ℕ → Type 0)
+    (now : ℕ) (shutdown : Bool) (x y : Exchange L J C) (e e2 e3 : Entry) (job : J) (answer : Asked) (result : Outcome)
+    → StepReady gives runs now x → x.stage ≡ stage.Answer job → x.transcript.last ≡ Some e → y.transcript.last ≡ Some e3 → e3 ≡ record e2 { reply = e3.reply }
+    → AsksAs state x.session y.session e e2 answer
+    → IsAllowed gives e3 → IsKept y.session e3 → FewReadsNotReady (state x.session.link) (state y.session.link) (e ∷ []) (e3 ∷ []) result
+    → OutcomeCause state pends runs x.session y.session (Some e3) x.stage y.stage result
+    → Stepped state pends gives runs now shutdown x y result
+asked_stepped {L} {C} state pends gives runs now shutdown x y e e2 e3 job answer result ready at was is like asks allowed kept few outcome =
+    let s = at_answer runs x.session x.transcript.last x.stage e job ready.sound at was in
+    grown_stepped state pends gives runs now shutdown x y e e3 result was is (asked_moves state x.session y.session e e2 answer asks)
+    (λ before done since. asked_on state x.session y.session (Some e) e e2 e3 answer refl like s.0 asks before done since)
+    allowed kept (asked_grows state now x.session y.session e e2 e3 answer like s.0 asks) few outcome

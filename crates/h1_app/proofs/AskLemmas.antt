@@ -6,14 +6,15 @@ use Rattle.futures.specs.declared.task.Poll.TheVariants.{Ready, Pending}
 use Rattle.h1_error.specs.declared.error.Error.{Error}
 use Rattle.h1_link.specs.LinkState.{LinkState}
 use Rattle.h1_server.specs.SessionView.{SessionView}
-use Rattle.h1_app.specs.declared.application.Reply.{Reply}
-use Rattle.h1_app.specs.declared.transcript.Entry.{Entry}
+use Rattle.h1_transcript.specs.declared.reply.Reply.{Reply}
+use Rattle.h1_transcript.specs.declared.transcript.Entry.{Entry}
 use Rattle.h1_app.specs.declared.steps.answering.Asked.{Asked}
 use Rattle.h1_app.specs.declared.steps.answering.Asked.TheVariants as asked
 use Rattle.h1_error.specs.declared.error.ErrorType.TheVariants.{NoMemory}
-use Rattle.h1_app.specs.Application.{ReadsOnly, Given, GivesReply, given_by, payload_of}
+use Rattle.h1_application.specs.Application.{ReadsOnly, GivesReply, given_by, payload_of}
+use Rattle.h1_transcript.specs.Given.{Given}
 use Rattle.h1_app.specs.Asking.{AsksAs, IsAskedOf, GivesAsked, noted}
-use Rattle.h1_app.specs.Exchange.{given_to}
+use Rattle.h1_transcript.specs.Exchange.{given_to}
 use Rattle.h1_app.specs.Sound.{lent}
 use Rattle.h1_head.specs.Views.{RequestView}
 use Rattle.h1_server.specs.declared.settings.Settings.{Settings}

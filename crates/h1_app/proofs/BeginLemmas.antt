@@ -10,30 +10,34 @@ use Rattle.h1_head.specs.Wish.{wish}
 use Rattle.h1_head.specs.RequestHead.{HeadAt}
 use Rattle.h1_body.specs.Reader.{body, reads}
 use Rattle.h1_body.specs.Framing.{framing}
-use Rattle.h1_server.specs.Moved.{Received}
-use Rattle.h1_server.specs.SessionView.{SessionView, allowance}
+use Rattle.h1_transfer.specs.Moved.{Received}
+use Rattle.h1_server.specs.SessionView.{SessionView}
+use Rattle.h1_transfer.specs.Budget.{allowance}
 use Rattle.h1_server.specs.declared.request.Request.{Request}
 use Rattle.h1_server.specs.declared.request.ReadRequest.TheVariants as read
 use Rattle.h1_server.specs.declared.settings.Settings.{Settings}
-use Rattle.h1_app.specs.declared.application.Reply.{Reply}
-use Rattle.h1_app.specs.declared.transcript.Entry.{Entry}
+use Rattle.h1_transcript.specs.declared.reply.Reply.{Reply}
+use Rattle.h1_transcript.specs.declared.transcript.Entry.{Entry}
 use Rattle.h1_app.specs.declared.exchange.Stage.{Stage}
 use Rattle.h1_app.specs.declared.exchange.Stage.TheVariants as stage
 use Rattle.h1_app.specs.declared.exchange.Outcome.{Outcome}
 use Rattle.h1_app.specs.declared.exchange.Outcome.TheVariants as outcome
-use Rattle.h1_app.specs.Application.{Given}
-use Rattle.h1_app.specs.Begun.{BeginsWith, IsSetAlike}
-use Rattle.h1_app.specs.Causes.{FailureCause}
-use Rattle.h1_app.specs.Exchange.{IsAllowed}
-use Rattle.h1_app.specs.Since.{Since}
+use Rattle.h1_transcript.specs.Given.{Given}
+use Rattle.h1_transcript.specs.Begun.{BeginsWith, IsSetAlike}
+use Rattle.h1_transcript.specs.Ends.{FailureCause}
+use Rattle.h1_transcript.specs.Exchange.{IsAllowed}
+use Rattle.h1_app.specs.Accounted.{Accounted}
 use Rattle.h1_app.specs.Sound.{SoundStage, IsAwaiting, IsAnswering, BegunAs, NotBegun, IsNewEntry, head_time}
 use Rattle.h1_server.specs.Keepalive.{keepalive_set, wished}
-use Rattle.h1_app.specs.Turns.{OutcomeCause, ExtendsLast, rank, ahead}
-use Rattle.h1_app.specs.Waits.{WaitsFew, replies}
-use Rattle.h1_app.proofs.SinceLemmas.{since_headed, since_begun}
+use Rattle.h1_app.specs.Pace.{rank, ahead}
+use Rattle.h1_app.specs.Outcome.{OutcomeCause}
+use Rattle.h1_transcript.specs.Growth.{ExtendsLast}
+use Rattle.h1_app.specs.Waits.{FewReadsNotReady}
+use Rattle.h1_transcript.specs.Entries.{replies}
+use Rattle.h1_app.proofs.AccountedLemmas.{accounted_headed, accounted_begun}
 use Rattle.h1_app.proofs.HeadLemmas.{AtHead}
 
--- a head was read, and only what is set on the session changed behind it
+-- a head was read, and only what is set on the session changed after it
 pub record Headed {L C : Type 0} (state : L → LinkState) (old new : SessionView L C) (last : Option Entry) : Type 0 where
   pub bytes : List ℕ
   pub left : ℕ
@@ -71,7 +75,7 @@ headed_by {L} {C} state old mid new last n settings h is =
       rest = b.received;
       reader = (λ rest. subst (λ x. reads mid.body.reader rest ≡ body x rest) b.is.framed (b.reader rest));
       body = b.body;
-      reply = h.reads.reply;
+      reply = ap (λ s. s.reply) h.reads.rest;
       budget = h.reads.budget;
       waits = a.3;
     })
@@ -80,19 +84,19 @@ some_same : (a b : Request) → Some a ≡ Some b → a ≡ b
 some_same a b e = cc
 
 -- what was given and taken goes on as the exchange begins, or as none does
-pub begun_since : {L C J : Type 0} (state : L → LinkState) (begins : J → Type 0) (runs : J → RequestView → Settings → Settings → List ℕ → Type 0) (old new : SessionView L C) (last last' : Option Entry) (to : Stage J) (o : Outcome)
-    → Headed state old new last → BegunAs begins runs new last' to o → (before : LinkState) (done : List Entry) → Since state before old done last → Since state before new done last'
-begun_since state begins runs old new last last' to outcome.Done h b before done s =
-    let start : Since state before old done None = subst (λ x. Since state before old done x) h.alone s in
+pub begun_accounted : {L C J : Type 0} (state : L → LinkState) (begins : J → Type 0) (runs : J → RequestView → Settings → Settings → List ℕ → Type 0) (old new : SessionView L C) (last last' : Option Entry) (to : Stage J) (o : Outcome)
+    → Headed state old new last → BegunAs begins runs new last' to o → (before : LinkState) (done : List Entry) → Accounted state before old done last → Accounted state before new done last'
+begun_accounted state begins runs old new last last' to outcome.Done h b before done s =
+    let start : Accounted state before old done None = subst (λ x. Accounted state before old done x) h.alone s in
     let same : h.request ≡ b.0 = some_same h.request b.0 (sym h.is ∙ b.3) in
     let entry : IsNewEntry h.request new.settings b.1 = subst (λ x. IsNewEntry x new.settings b.1) (sym same) b.5 in
-    subst (λ x. Since state before new done x) (sym b.4)
-    (since_begun state old new h.bytes (allowance old.budget) h.left h.used h.request new.settings b.1 before done h.received h.head h.rest h.reader h.reply h.awaiting.request entry start)
-begun_since state begins runs old new last last' to (outcome.Waits what) h b before done s = absurd b
-begun_since state begins runs old new last last' to (outcome.Ends reason) h b before done s =
-    let start : Since state before old done None = subst (λ x. Since state before old done x) h.alone s in
-    subst (λ x. Since state before new done x) (sym b.0)
-    (since_headed state old new h.bytes (allowance old.budget) h.left h.used h.request before done h.received h.head h.wish h.rest h.reply h.awaiting.request h.is start)
+    subst (λ x. Accounted state before new done x) (sym b.4)
+    (accounted_begun state old new h.bytes (allowance old.budget) h.left h.used h.request new.settings b.1 before done h.received h.head h.rest h.reader h.reply h.awaiting.request entry start)
+begun_accounted state begins runs old new last last' to (outcome.Waits what) h b before done s = absurd b
+begun_accounted state begins runs old new last last' to (outcome.Ends reason) h b before done s =
+    let start : Accounted state before old done None = subst (λ x. Accounted state before old done x) h.alone s in
+    subst (λ x. Accounted state before new done x) (sym b.0)
+    (accounted_headed state old new h.bytes (allowance old.budget) h.left h.used h.request before done h.received h.head h.wish h.rest h.reply h.awaiting.request h.is start)
 
 -- the application is started for the request that was read
 begun_sound : {L C : Type 0} (state : L → LinkState) (old new : SessionView L C) (last : Option Entry) (e : Entry)
@@ -198,11 +202,6 @@ begun_extends {L} {C} {J} state begins runs now shutdown old mid new last last' 
 begun_extends state begins runs now shutdown old mid new last last' to (outcome.Waits what) n h set b = absurd b
 begun_extends state begins runs now shutdown old mid new last last' to (outcome.Ends reason) n h set b = rw (h.alone, b.0) tt
 
--- no exchange began
-pub none_extends : (now : ℕ) (shutdown : Bool) (before behind : LinkState) (last : Option Entry)
-    → last ≡ None → ExtendsLast now shutdown before behind last last
-none_extends now shutdown before behind last none = rw none tt
-
 -- the exchange begins with what was set, but for keep-alive
 pub begun_begins : {L C J : Type 0} (state : L → LinkState) (begins : J → Type 0) (runs : J → RequestView → Settings → Settings → List ℕ → Type 0) (shutdown : Bool)
     (old mid new : SessionView L C) (last last' : Option Entry) (to : Stage J) (o : Outcome) (n : ℕ)
@@ -228,7 +227,7 @@ no_replies last none = ap (λ x. replies (option_to_list x)) none
 
 -- no read was pending as the head was read
 pub begun_few : {L C J : Type 0} (state : L → LinkState) (begins : J → Type 0) (runs : J → RequestView → Settings → Settings → List ℕ → Type 0) (old new : SessionView L C) (last last' : Option Entry) (to : Stage J) (o : Outcome)
-    → Headed state old new last → BegunAs begins runs new last' to o → WaitsFew (state old.link) (state new.link) (option_to_list last) (option_to_list last') o
+    → Headed state old new last → BegunAs begins runs new last' to o → FewReadsNotReady (state old.link) (state new.link) (option_to_list last) (option_to_list last') o
 begun_few state begins runs old new last last' to outcome.Done h b =
     let waits = h.waits in
     let none : replies (option_to_list last) ≡ 0 = no_replies last h.alone in

@@ -14,23 +14,25 @@ use Rattle.h1_body.specs.Framing.{out}
 use Rattle.h1_body.specs.Writer.{piece_bytes, after_piece, end_bytes, begun, body_bytes}
 use Rattle.h1_body.specs.declared.framing.Framing.{Framing}
 use Rattle.h1_body.specs.declared.framing.Framing.TheVariants as framing
-use Rattle.h1_server.proofs.MovedLemmas.{moved_itself}
-use Rattle.h1_server.specs.SessionView.{SessionView, allowance}
-use Rattle.h1_server.specs.Writes.{Writes}
-use Rattle.h1_server.specs.PieceWrites.{WritesPiece, PieceAnswer, piece_count}
+use Rattle.h1_transfer.proofs.MovedLemmas.{moved_itself}
+use Rattle.h1_server.specs.SessionView.{SessionView}
+use Rattle.h1_transfer.specs.Budget.{allowance}
+use Rattle.h1_server.specs.Writes.{Writes, WritesPiece}
+use Rattle.h1_transfer.specs.PieceWrites.{PieceAnswer}
+use Rattle.h1_transfer.specs.BodyWrites.{piece_count}
 use Rattle.h1_server.specs.declared.request.Request.{Request}
 use Rattle.h1_server.specs.declared.settings.Settings.{Settings}
-use Rattle.h1_server.specs.declared.reply.Step.TheVariants as step
-use Rattle.h1_app.specs.declared.application.Reply.{Reply}
-use Rattle.h1_app.specs.declared.transcript.Entry.{Entry}
+use Rattle.h1_transfer.specs.declared.outgoing.Step.TheVariants as step
+use Rattle.h1_transcript.specs.declared.reply.Reply.{Reply}
+use Rattle.h1_transcript.specs.declared.transcript.Entry.{Entry}
 use Rattle.h1_app.specs.declared.exchange.Stage.{Stage}
 use Rattle.h1_app.specs.declared.exchange.Stage.TheVariants as at
-use Rattle.h1_app.specs.Growth.{Grows}
-use Rattle.h1_app.specs.Causes.{FailureCause}
-use Rattle.h1_app.specs.Exchange.{render_parts, shown}
-use Rattle.h1_app.specs.Since.{Since, coming}
+use Rattle.h1_transcript.specs.Growth.{Grows}
+use Rattle.h1_transcript.specs.Ends.{FailureCause}
+use Rattle.h1_transcript.specs.Exchange.{render_parts, shown}
+use Rattle.h1_app.specs.Accounted.{Accounted, coming}
 use Rattle.h1_app.specs.Sound.{SoundStage, IsReplied, IsHeaded, IsFinishing, IsPieceOf, fresh, filled}
-use Rattle.h1_app.proofs.ReplyLemmas.{at_none, since_wrote, since_goes_on, settled_owed, stays_itself, dated_same, grows_replying, grows_written, replied_on, headed_on, more_written, waits_why, refused_cause}
+use Rattle.h1_app.proofs.ReplyLemmas.{at_none, accounted_wrote, accounted_goes_on, settled_owed, stays_itself, dated_same, grows_replying, grows_written, replied_on, headed_on, more_written, waits_why, refused_cause}
 
 -- the exchange whose body is to be taken up
 pub record AtTakeBody {L C : Type 0} (e : Entry) (session : SessionView L C) : Type 0 where
@@ -115,7 +117,7 @@ shown_all : (header : ResponseView) (body sent : List ℕ) → sent ≡ body
 shown_all header [] sent e = refl
 shown_all header (b ∷ body) sent e = e
 
--- the body stands behind the head
+-- the body stands after the head
 parts_bodied : (method : List ℕ) (r : Option Reply) (b : Option (List ℕ)) (date : List ℕ)
     (keep : Bool) (h : Option ResponseView) (reply : Reply) (sent : List ℕ)
     → r ≡ Some reply → b ≡ None → h ≡ Some reply.header → sent ≡ reply.body
@@ -131,19 +133,19 @@ parts_bodied method r b date keep h reply sent is none headed bodied =
     rw (is, none, headed) all
 
 -- a body that is taken up as one piece, or none where it is empty
-pub body_since : {L C : Type 0} (state : L → LinkState) (before : LinkState) (done : List Entry) (old new : SessionView L C)
+pub body_accounted : {L C : Type 0} (state : L → LinkState) (before : LinkState) (done : List Entry) (old new : SessionView L C)
     (taking : List ℕ) (left : ℕ) (e : Entry) (sent : List ℕ) (written : ℕ)
     (h : AtTakeBody e old) → Writes state old new taking left → sent ≡ h.reply.body
     → taking ≡ piece_bytes (fresh e h.reply) h.reply.body → new.reply.writer ≡ filled e h.reply
-    → Since state before old done (Some e)
-    → Since state before new done (Some (record e { sent_body = Some sent; written = written }))
-body_since state before done old new taking left e sent written h w is takes writer s =
+    → Accounted state before old done (Some e)
+    → Accounted state before new done (Some (record e { sent_body = Some sent; written = written }))
+body_accounted state before done old new taking left e sent written h w is takes writer s =
     let f : Framing = out e.head.method h.reply.header in
     let bytes : taking ++ end_bytes new.reply.writer ≡ body_bytes f h.reply.body =
     ap (λ xs. xs ++ end_bytes new.reply.writer) takes ∙ ap
     (λ x. piece_bytes (begun f) h.reply.body ++ end_bytes x) writer ∙ one_piece f
     h.reply.body in
-    since_wrote state before done old new taking left e e.sent_head (Some sent) e.date e.date_text e.keep
+    accounted_wrote state before done old new taking left e e.sent_head (Some sent) e.date e.date_text e.keep
     e.owed written (body_bytes f h.reply.body) w
     (bytes ∙ ap (λ x. coming x old.reply.writer ++ body_bytes f h.reply.body) (sym h.sent_body))
     (parts_bodied e.head.method e.reply e.sent_body e.date_text e.keep e.sent_head h.reply sent
@@ -164,13 +166,7 @@ writes_nothing state session limit = record {
     unread = refl;
   };
   budget = same session.budget;
-  received = refl;
-  request = refl;
-  refused = refl;
-  body = refl;
-  settings = refl;
-  reusable = refl;
-  context = refl;
+  rest = refl;
   counted = none session.reply.sent limit;
 }
   where
@@ -213,13 +209,13 @@ some_body body None none h is false_is = absurd (false≢true (is ∙ ap not fal
 some_body body (Some piece) none h is false_is = ap Some h.0
 
 -- an empty body needs no call
-pub no_body_since : {L C : Type 0} (state : L → LinkState) (before : LinkState) (done : List Entry)
+pub no_body_accounted : {L C : Type 0} (state : L → LinkState) (before : LinkState) (done : List Entry)
     (session : SessionView L C) (e : Entry) (sent : List ℕ)
     (h : AtTakeBody e session) → sent ≡ h.reply.body → h.reply.body ≡ []
-    → Since state before session done (Some e)
-    → Since state before session done (Some (record e { sent_body = Some sent }))
-no_body_since state before done session e sent h is empty s =
-    body_since state before done session session [] (allowance session.budget) e sent e.written h
+    → Accounted state before session done (Some e)
+    → Accounted state before session done (Some (record e { sent_body = Some sent }))
+no_body_accounted state before done session e sent h is empty s =
+    body_accounted state before done session session [] (allowance session.budget) e sent e.written h
     (untouched state session e h) is
     (sym (ap (λ xs. piece_bytes (fresh e h.reply) xs) empty ∙ no_piece_bytes
     (out e.head.method h.reply.header)))
@@ -257,15 +253,15 @@ taking_call state old new e piece kept outcome h is call =
     subst (λ (p : Option (List ℕ)). WritesPiece state old new p kept outcome) is
     (at_none _ old.reply.refused h.headed.refused call)
 
-pub taken_since : {L C : Type 0} (state : L → LinkState) (before : LinkState) (done : List Entry)
+pub taken_accounted : {L C : Type 0} (state : L → LinkState) (before : LinkState) (done : List Entry)
     (old new : SessionView L C) (e : Entry) (kept : Option (List ℕ))
     (outcome : Poll (Result (Option ℕ) Error)) (sent : List ℕ) (written : ℕ)
     (h : AtTakeBody e old) → WritesPiece state old new (Some h.reply.body) kept outcome
     → sent ≡ h.reply.body
-    → Since state before old done (Some e)
-    → Since state before new done (Some (record e { sent_body = Some sent; written = written }))
-taken_since state before done old new e kept outcome sent written h w is s =
-    body_since state before done old new w.taking w.left e sent written h w.writes is
+    → Accounted state before old done (Some e)
+    → Accounted state before new done (Some (record e { sent_body = Some sent; written = written }))
+taken_accounted state before done old new e kept outcome sent written h w is s =
+    body_accounted state before done old new w.taking w.left e sent written h w.writes is
     (w.takes.0 ∙ ap (λ x. piece_bytes x h.reply.body) h.writer)
     (w.takes.3 ∙ ap (λ x. after_piece x h.reply.body) h.writer) s
 
@@ -289,7 +285,7 @@ piece_answer state old new piece kept outcome told w same =
     subst (λ (o : Poll (Result (Option ℕ) Error)). PieceAnswer (state old.link) (state new.link)
     new.reply (piece_count old.reply piece) w.left o) same w.answer
 
--- the reply behind the call that takes the body up
+-- the reply after the call that takes the body up
 pub taken_replied : {L C : Type 0} (state : L → LinkState) (old new : SessionView L C) (e : Entry)
     (kept : Option (List ℕ)) (outcome : Poll (Result (Option ℕ) Error)) (sent : List ℕ)
     (written : ℕ)
@@ -308,7 +304,7 @@ taken_replied state old new e kept outcome sent written h w count refused is =
       writer = w.takes.3 ∙ ap (λ x. after_piece x h.reply.body) h.writer;
     }
 
--- the reply behind a call that goes on
+-- the reply after a call that goes on
 pub body_replied : {L C : Type 0} (state : L → LinkState) (old new : SessionView L C) (e : Entry)
     (kept : Option (List ℕ)) (outcome : Poll (Result (Option ℕ) Error)) (written : ℕ)
     (h : AtBody e old) → WritesPiece state old new None kept outcome → written ≡ new.reply.sent
@@ -399,14 +395,14 @@ pub body_call : {L C : Type 0} (state : L → LinkState) (old new : SessionView 
     → WritesPiece state old new None kept outcome
 body_call state old new e kept outcome h call = at_none _ old.reply.refused h.headed.refused call
 
-pub piece_since : {L C : Type 0} (state : L → LinkState) (before : LinkState) (done : List Entry)
+pub piece_accounted : {L C : Type 0} (state : L → LinkState) (before : LinkState) (done : List Entry)
     (old new : SessionView L C) (e : Entry) (kept : Option (List ℕ))
     (outcome : Poll (Result (Option ℕ) Error)) (written : ℕ)
     (h : AtBody e old) → WritesPiece state old new None kept outcome
-    → Since state before old done (Some e)
-    → Since state before new done (Some (record e { written = written }))
-piece_since state before done old new e kept outcome written h w s =
-    since_goes_on state before done old new w.taking w.left e e.owed written w.writes w.takes.0
+    → Accounted state before old done (Some e)
+    → Accounted state before new done (Some (record e { written = written }))
+piece_accounted state before done old new e kept outcome written h w s =
+    accounted_goes_on state before done old new w.taking w.left e e.owed written w.writes w.takes.0
     w.takes.1.writer h.headed.owed s
 
 pub piece_grows : {L C : Type 0} (state : L → LinkState) (now : ℕ) (old new : SessionView L C) (e : Entry)

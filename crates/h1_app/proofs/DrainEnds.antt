@@ -20,32 +20,35 @@ use Rattle.h1_body.specs.Reader.{body, reads}
 use Rattle.h1_body.specs.Writer.{ends_with_link, end_bytes}
 use Rattle.h1_body.specs.declared.framing.Framing.{Framing}
 use Rattle.h1_body.specs.declared.framing.Framing.TheVariants.{Counted, Chunked, UntilClose}
-use Rattle.h1_server.specs.Decoding.{Lacks}
+use Rattle.h1_transfer.specs.Decoding.{Lacks}
 use Rattle.h1_server.specs.Payload.{BodyRefusal}
 use Rattle.h1_server.specs.Persistence.{has_reuses, is_whole}
 use Rattle.h1_server.specs.Reuse.{keeps_alive, stays_open, grants}
 use Rattle.h1_server.specs.SessionView.{SessionView}
-use Rattle.h1_server.specs.declared.body.BodyState.{BodyState}
-use Rattle.h1_server.specs.declared.reply.ReplyState.{ReplyState}
+use Rattle.h1_transfer.specs.declared.body.BodyState.{BodyState}
+use Rattle.h1_transfer.specs.declared.outgoing.Outgoing.{Outgoing}
 use Rattle.h1_server.specs.declared.settings.Settings.{Settings}
-use Rattle.h1_app.specs.declared.application.Reply.{Reply}
+use Rattle.h1_transcript.specs.declared.reply.Reply.{Reply}
 use Rattle.h1_app.specs.declared.exchange.Stage.{Stage}
 use Rattle.h1_app.specs.declared.exchange.Stage.TheVariants as at
-use Rattle.h1_app.specs.declared.transcript.Entry.{Entry}
-use Rattle.h1_app.specs.declared.transcript.How.{How}
-use Rattle.h1_app.specs.declared.transcript.How.TheVariants.{Open, Whole, Failed}
-use Rattle.h1_app.specs.Application.{Given, IsLawful}
-use Rattle.h1_app.specs.Behind.{AfterRead, StoodAs, is_until_close, written_of}
-use Rattle.h1_app.specs.Causes.{FailureCause, IsComplete, IsDone, LacksSo, LastStands}
-use Rattle.h1_app.specs.Exchange.{IsAllowed, IsDated, given_to, is_short, may_keep}
-use Rattle.h1_app.specs.Growth.{Grows}
-use Rattle.h1_app.specs.Since.{Since, IfTold, ReadEntry, StoodSo, WroteSo, coming}
+use Rattle.h1_transcript.specs.declared.transcript.Entry.{Entry}
+use Rattle.h1_transcript.specs.declared.transcript.How.{How}
+use Rattle.h1_transcript.specs.declared.transcript.How.TheVariants.{Open, Whole, Failed}
+use Rattle.h1_transcript.specs.Given.{Given}
+use Rattle.h1_transcript.specs.Lawful.{IsLawful}
+use Rattle.h1_transcript.specs.Behind.{AfterRead, StoodAs, is_until_close, written_of}
+use Rattle.h1_transcript.specs.Ends.{FailureCause, IsComplete, IsDone, LacksSo, LastStands}
+use Rattle.h1_transcript.specs.Exchange.{IsAllowed, IsDated, given_to, is_short, may_keep}
+use Rattle.h1_transcript.specs.Growth.{Grows}
+use Rattle.h1_app.specs.Accounted.{Accounted, ReadEntry, StoodSo, WroteSo, coming}
+use Rattle.h1_transcript.specs.Told.{IfTold}
 use Rattle.h1_app.specs.Sound.{SoundStage, IsDraining, IsOver, IsKept}
-use Rattle.h1_app.specs.Turns.{Went, rank, ahead as ahead_of}
-use Rattle.h1_app.specs.Waits.{replies}
-use Rattle.h1_app.proofs.BehindLemmas.{told_map, read_map, read_on, wrote_same, flushed_on}
+use Rattle.h1_app.specs.Step.{MovesWithin}
+use Rattle.h1_app.specs.Pace.{rank, ahead as ahead_of}
+use Rattle.h1_transcript.specs.Entries.{replies}
+use Rattle.h1_transcript.proofs.BehindLemmas.{told_map, read_map, read_on, wrote_same, flushed_on}
 use Rattle.h1_app.proofs.JoinLemmas.{read_join}
-use Rattle.h1_app.proofs.GrowthLemmas.{refused_same}
+use Rattle.h1_transcript.proofs.GrowthLemmas.{refused_same}
 use Rattle.h1_app.proofs.ReplyLemmas.{stays_itself, dated_same, replied_same}
 use Rattle.h1_app.proofs.EndReplies.{complete, stands_broken, stands_unfinished}
 use Rattle.h1_app.proofs.DrainLemmas.{Reused, HasMore, Answered, if_some_on, stood_on, reading_end}
@@ -59,8 +62,8 @@ at_drain runs session last stage e is some sound =
     subst (λ x. IsDraining x session) (same_Some h.0 e (sym h.1 ∙ some)) h.2
 
 -- what was moved
-pub drain_went : {L C : Type 0} (state : L → LinkState) (old new : SessionView L C) (e f : Entry) → Reused state old new e f → Went state old new
-drain_went state old new e f r = record {
+pub drain_moves : {L C : Type 0} (state : L → LinkState) (old new : SessionView L C) (e f : Entry) → Reused state old new e f → MovesWithin state old new
+drain_moves state old new e f r = record {
   read = r.piece;
   wrote = [];
   spent = r.spent;
@@ -71,13 +74,13 @@ drain_went state old new e f r = record {
 }
 
 -- what was given and taken goes on
-pub drain_since : {L C : Type 0} (state : L → LinkState) (before : LinkState) (done : List Entry) (old new : SessionView L C) (e f : Entry)
-    → IsDraining e old → Reused state old new e f → Since state before old done (Some e) → Since state before new done (Some f)
-drain_since {L} {C} state before done old new e f d r s =
+pub drain_accounted : {L C : Type 0} (state : L → LinkState) (before : LinkState) (done : List Entry) (old new : SessionView L C) (e f : Entry)
+    → IsDraining e old → Reused state old new e f → Accounted state before old done (Some e) → Accounted state before new done (Some f)
+drain_accounted {L} {C} state before done old new e f d r s =
     let g : Entry = record e { body = e.body ++ r.payload } in
     let le : (state old.link).flushed ≤ (state new.link).flushed = r.moved.later.flushed in
     let outs : (state old.link).bytes_out ≤ (state new.link).bytes_out = r.moved.later.counts.bytes_out in
-    subst (λ (x : Entry). Since state before new done (Some x)) (sym r.entry) (record {
+    subst (λ (x : Entry). Accounted state before new done (Some x)) (sym r.entry) (record {
       later = later_on before (state old.link) (state new.link) s.later r.moved.later;
       read = read_on done before.given (state old.link).given (state new.link).given r.piece (λ rest. ReadEntry rest e old) (λ rest. ReadEntry rest g new) r.moved.given
           (λ rest p. record {
@@ -121,7 +124,7 @@ drain_grows state now old new e f r = subst (λ (x : Entry). Grows now (state ol
 })
 
 pub drain_kept : {L C : Type 0} (state : L → LinkState) (old new : SessionView L C) (e f : Entry) → IsDraining e old → Reused state old new e f → IsKept new f
-drain_kept state old new e f d r = ap (λ (x : Entry). x.written) r.entry ∙ d.written ∙ sym (ap (λ (x : ReplyState). x.sent) r.reply)
+drain_kept state old new e f d r = ap (λ (x : Entry). x.written) r.entry ∙ d.written ∙ sym (ap (λ (x : Outgoing). x.sent) r.reply)
 
 -- the payload is no part of the flag
 keep_same : (e : Entry) (payload : List ℕ) → may_keep (record e { body = payload }) ≡ may_keep e
@@ -132,7 +135,7 @@ keep_same e payload = by_how e.how refl
     by_how Open is = rw is refl
     by_how Failed is = rw is refl
 
--- what the application was given stays in front of the payload
+-- what the application was given stays before the payload
 allowed_more : (gives : Given → Reply → Type 0) (e : Entry) (payload : List ℕ) → IsAllowed gives e → IsAllowed gives (record e { body = e.body ++ payload })
 allowed_more gives e payload a =
     let g : Entry = record e { body = e.body ++ payload } in
@@ -205,6 +208,7 @@ draining_on state old new e f d r unrefused = subst (λ (x : Entry). IsDraining 
   headed = rw r.reply d.headed;
   keep = rw r.reply d.keep;
   framing = rw r.reply d.framing;
+  whole = rw r.reply d.whole;
   nothing = rw r.reply d.nothing;
   free = rw r.reply d.free;
   reply_owed = rw r.reply d.reply_owed;
@@ -251,7 +255,7 @@ ends_is Chunked = refl
 ends_is UntilClose = refl
 
 -- a reply that was taken up says by its flag and its framing whether the connection goes on
-open_is : (reply : ReplyState) → reply.headed ≡ true → stays_open reply ≡ (reply.keep && not (ends_with_link reply.writer.framing))
+open_is : (reply : Outgoing) → reply.headed ≡ true → stays_open reply ≡ (reply.keep && not (ends_with_link reply.writer.framing))
 open_is reply headed = rw headed refl
 
 until_close_is : {L C : Type 0} (e : Entry) (session : SessionView L C) → IsDraining e session
@@ -295,13 +299,13 @@ not_open {L} {C} gives e session a d dead = by_keep e.keep refl
         ap (λ keep. keep && not (ends_with_link session.reply.writer.framing)) (sym is ∙ d.keep) ∙ sym (open_is session.reply d.headed) ∙ sym alive ∙ dead in
         inr (until_close_is e session d ∙ not_false (ends_with_link session.reply.writer.framing) closed)
 
--- the reply is complete behind the drain
+-- the reply is complete after the drain
 pub drain_complete : {L C : Type 0} (state : L → LinkState) (before : LinkState) (done : List Entry) (old new : SessionView L C) (e f : Entry)
-    → IsDraining e old → Reused state old new e f → Since state before new done (Some f) → IsComplete before (state new.link) done f
+    → IsDraining e old → Reused state old new e f → Accounted state before new done (Some f) → IsComplete before (state new.link) done f
 drain_complete state before done old new e f d r s =
     let nothing : end_bytes old.reply.writer ≡ [] = ap (λ sent. coming sent old.reply.writer) (sym d.sent_body) ∙ d.nothing in
     complete state before done new f d.reply.header d.reply.body (ap (λ (x : Entry). x.owed) r.entry ∙ d.owed) s
-    (ap (λ (x : ReplyState). x.owed) r.reply ∙ d.reply_owed) (ap (λ (x : ReplyState). end_bytes x.writer) r.reply ∙ nothing)
+    (ap (λ (x : Outgoing). x.owed) r.reply ∙ d.reply_owed) (ap (λ (x : Outgoing). end_bytes x.writer) r.reply ∙ nothing)
     (ap (λ (x : Entry). x.sent_head) r.entry ∙ d.sent_head) (ap (λ (x : Entry). x.sent_body) r.entry ∙ d.sent_body)
 
 pub drain_long : {L C : Type 0} (state : L → LinkState) (old new : SessionView L C) (e f : Entry)
@@ -313,9 +317,9 @@ drain_closes : {L C : Type 0} (state : L → LinkState) (old new : SessionView L
     → IsDraining e old → Reused state old new e f → is_until_close f ≡ is_until_close e
 drain_closes state old new e f d r = ap is_until_close r.entry ∙ closes_same e (e.body ++ r.payload) d.reply.header d.sent_head
 
--- and where the link is kept, the connection is kept behind it
+-- and where the link is kept, the connection is kept after it
 pub drain_done : {L C : Type 0} (state : L → LinkState) (before : LinkState) (done : List Entry) (old new : SessionView L C) (e f : Entry)
-    → IsDraining e old → Reused state old new e f → keeps_alive old ≡ true → Since state before new done (Some f) → IsDone before (state new.link) done f
+    → IsDraining e old → Reused state old new e f → keeps_alive old ≡ true → Accounted state before new done (Some f) → IsDone before (state new.link) done f
 drain_done state before done old new e f d r alive s =
     let open_so = kept_open e old d alive in
     record {
@@ -328,7 +332,7 @@ drain_done state before done old new e f d r alive s =
 -- why a drain waits
 pub drain_waits : {L C : Type 0} (state : L → LinkState) (before : LinkState) (done : List Entry) (old new : SessionView L C) (e f : Entry)
     → IsDraining e old → Reused state old new e f → keeps_alive old ≡ true → Lacks new.body.reader new.received
-    → Since state before new done (Some f) → LacksSo before (state new.link) done (Some f)
+    → Accounted state before new done (Some f) → LacksSo before (state new.link) done (Some f)
 drain_waits state before done old new e f d r alive lacks s = (
   inr (drain_done state before done old new e f d r alive s),
   read_map done before.given (state new.link).given (λ rest. ReadEntry rest f new) (λ rest. LastStands rest f (unfinished f.body))
@@ -337,7 +341,7 @@ drain_waits state before done old new e f d r alive lacks s = (
 
 -- why a drain fails
 pub drain_fails : {L C : Type 0} (state : L → LinkState) (before : LinkState) (done : List Entry) (old new : SessionView L C) (f : Entry) (error : Error) (k : ErrorType)
-    → BodyRefusal state old new k → IsDone before (state new.link) done f → f.body_error ≡ None → Since state before new done (Some f)
+    → BodyRefusal state old new k → IsDone before (state new.link) done f → f.body_error ≡ None → Accounted state before new done (Some f)
     → FailureCause before (state old.link) (state new.link) done (Some f) error k
 drain_fails state before done old new f error kind.InvalidBody h is none s = (
   inr (is, none, tt),
@@ -366,7 +370,7 @@ stood_whole Whole e body k h = (h.0, h.1, (k, refl))
 stood_whole Open e body k h = h
 stood_whole Failed e body k h = h
 
--- what was received behind a request that was read whole
+-- what was received after a request that was read whole
 read_past : {L C : Type 0} (session : SessionView L C) (done : List Entry) (e : Entry) (since : List ℕ) → e.body_error ≡ None
     → reads session.body.reader [] ≡ whole [] 0 → 0 < length session.received
     → AfterRead done (λ rest. ReadEntry rest e session) since → AfterRead (done ++ e ∷ []) (λ rest. 0 < length rest) since
@@ -395,7 +399,7 @@ read_past session done e since unrefused read more h =
 
 -- why a link that is kept isn't handed on
 pub drain_overread : {L C : Type 0} (state : L → LinkState) (before : LinkState) (done : List Entry) (old new : SessionView L C) (e f : Entry)
-    → IsDraining e old → Reused state old new e f → keeps_alive old ≡ true → HasMore new → Since state before new done (Some f)
+    → IsDraining e old → Reused state old new e f → keeps_alive old ≡ true → HasMore new → Accounted state before new done (Some f)
     → IsDone before (state new.link) done f × (f.left.pipelining ≡ false)
     × IfTold before.given (state new.link).given (AfterRead (done ++ f ∷ []) (λ rest. 0 < length rest))
 drain_overread state before done old new e f d r alive more s =
@@ -409,7 +413,7 @@ drain_overread state before done old new e f d r alive more s =
 
 -- why a link that isn't kept is shut
 pub drain_shut : {L C : Type 0} (gives : Given → Reply → Type 0) (state : L → LinkState) (before : LinkState) (done : List Entry) (old new : SessionView L C) (e f : Entry)
-    → IsAllowed gives e → IsDraining e old → Reused state old new e f → keeps_alive old ≡ false → Since state before new done (Some f)
+    → IsAllowed gives e → IsDraining e old → Reused state old new e f → keeps_alive old ≡ false → Accounted state before new done (Some f)
     → IsComplete before (state new.link) done f × (is_short f ≡ false) × (f.body_error ≡ None) × ((f.keep ≡ false) ⊎ (is_until_close f ≡ true))
 drain_shut gives state before done old new e f a d r dead s = (
   drain_complete state before done old new e f d r s,
@@ -433,7 +437,7 @@ drain_over state old new e f d r alive read reusable =
       reusable = reusable;
     }
 
--- bytes were received behind the request, where the link is kept and isn't handed on
+-- bytes were received after the request, where the link is kept and isn't handed on
 pub drain_more : {L C : Type 0} (state : L → LinkState) (old new : SessionView L C) (e f : Entry) → Answered state old new (Ready (Ok false))
     → keeps_alive new ≡ true → HasMore new
 drain_more state old new e f a alive = elim a.1 [

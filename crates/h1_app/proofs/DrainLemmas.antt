@@ -1,5 +1,6 @@
--- What the rest of a request's body comes to behind its reply, and why a connection isn't kept.
-use Rattle.std.proofs.Common.{◌≡◌, ℕ, ◌+◌, ◌-◌, ◌<◌, ◌≤◌, ◌⊎◌, inl, inr, zero, suc, List, [], ◌∷◌, ◌++◌, length, Bool, true, false, Option, Some, None, IfSome, IsSome, Result, Ok, Err, option_map, unwrap_or, refl, sym, ◌∙◌, ap, subst, append-nil, arith}
+-- What the rest of a request's body comes to after its reply, and why a connection isn't kept.
+use Rattle.std.proofs.Common.{◌≡◌, ℕ, ◌+◌, ◌-◌, ◌<◌, ◌≤◌, ◌⊎◌, inl, inr, zero, suc, List, [], ◌∷◌, ◌++◌, length, Bool, true, false, Option, Some, None, IfSome, IsSome, Result, Ok, Err, option_map, unwrap_or, refl, sym, ◌∙◌, ap, subst, append-nil, arith, ◌&&◌}
+use Rattle.h1_transfer.specs.Calls.{Called, Fault}
 use Rattle.std.proofs.lemmas.Bool.{false≢true}
 use Rattle.futures.specs.declared.task.Poll.{Poll}
 use Rattle.futures.specs.declared.task.Poll.TheVariants.{Ready, Pending}
@@ -20,20 +21,21 @@ use Rattle.h1_body.specs.declared.reader.Reading.{Reading}
 use Rattle.h1_body.specs.declared.reader.Reading.TheVariants as reading
 use Rattle.h1_body.proofs.CountedLemmas.{counted_has, counted_lacks}
 use Rattle.h1_body.proofs.RunLemmas.{ahead_none}
-use Rattle.h1_server.specs.Decoding.{Decoded, Lacks}
-use Rattle.h1_server.specs.Moved.{Moved}
-use Rattle.h1_server.specs.Payload.{BodyRefusal}
+use Rattle.h1_transfer.specs.Decoding.{Decoded, Lacks}
+use Rattle.h1_transfer.specs.Moved.{Moved}
+use Rattle.h1_server.specs.Payload.{BodyRefusal, DrainsBody, DrainAnswer}
 use Rattle.h1_server.specs.Persistence.{is_whole}
-use Rattle.h1_server.specs.Reuse.{ReusesBy, ReuseAnswer, DrainsBody, DrainAnswer, keeps_alive, may_follow}
-use Rattle.h1_server.specs.SessionView.{SessionView, allowance}
-use Rattle.h1_server.specs.declared.body.BodyState.{BodyState}
-use Rattle.h1_server.proofs.MovedLemmas.{moved_itself}
-use Rattle.h1_app.specs.declared.transcript.Entry.{Entry}
-use Rattle.h1_app.specs.declared.transcript.How.{How}
-use Rattle.h1_app.specs.declared.transcript.How.TheVariants.{Open, Whole, Failed}
-use Rattle.h1_app.specs.Application.{payload_of}
+use Rattle.h1_server.specs.Reuse.{ReusesBy, ReuseAnswer, keeps_alive, may_follow, may_go_on, is_replied}
+use Rattle.h1_server.specs.SessionView.{SessionView}
+use Rattle.h1_transfer.specs.Budget.{allowance}
+use Rattle.h1_transfer.specs.declared.body.BodyState.{BodyState}
+use Rattle.h1_transfer.proofs.MovedLemmas.{moved_itself}
+use Rattle.h1_transcript.specs.declared.transcript.Entry.{Entry}
+use Rattle.h1_transcript.specs.declared.transcript.How.{How}
+use Rattle.h1_transcript.specs.declared.transcript.How.TheVariants.{Open, Whole, Failed}
+use Rattle.h1_application.specs.Application.{payload_of}
 use Rattle.h1_app.specs.Draining.{ReusesAs}
-use Rattle.h1_app.specs.Since.{StoodSo}
+use Rattle.h1_app.specs.Accounted.{StoodSo}
 use Rattle.h1_app.specs.Sound.{lent}
 
 -- what an option holds goes on to something else
@@ -104,7 +106,7 @@ pub record Reused {L C : Type 0} (state : L → LinkState) (old new : SessionVie
   pub waits : new.body.waits ≡ old.body.waits
   pub few : (state new.link).read_waits ≤ (state old.link).read_waits + 1
 
--- the session behind the drain, from which the payload was taken
+-- the session after the drain, from which the payload was taken
 abbrev taken_from : {L C : Type 0} → SessionView L C → Bool → SessionView L C
 taken_from drained reusable = record drained { reusable = reusable; body = record drained.body { kept = None } }
 
@@ -164,7 +166,7 @@ reused_shut {L} {C} state old behind new e f shut is session entry =
     } in
     subst (λ (x : SessionView L C). Reused state old x e f) (sym shape) made
 
--- the session behind a drain of a link that is kept
+-- the session after a drain of a link that is kept
 drained_shape : {L C : Type 0} (drained behind new : SessionView L C) → behind ≡ record drained { reusable = behind.reusable }
     → new ≡ record behind { body = record behind.body { kept = None } } → new ≡ taken_from drained behind.reusable
 drained_shape {L} {C} drained behind new is session =
@@ -188,12 +190,12 @@ reused_drained {L} {C} state old drained behind new e f outcome some d is sessio
       decoded = d.reads.decoded;
       entry = entry ∙ ap (λ xs. record e { body = xs })
           (ap (λ (x : SessionView L C). payload_of x) is ∙ ap (λ kept. unwrap_or kept []) d.reads.keeps_payload);
-      request = d.request;
-      reply = d.reply;
-      settings = d.settings;
-      context = d.context;
+      request = ap (λ (s : SessionView L C). s.request) d.rest;
+      reply = ap (λ (s : SessionView L C). s.reply) d.rest;
+      settings = ap (λ (s : SessionView L C). s.settings) d.rest;
+      context = ap (λ (s : SessionView L C). s.context) d.rest;
       kept = refl;
-      waits = d.waits;
+      waits = ap (λ (s : SessionView L C). s.body.waits) d.rest;
       few = d.few;
     } in
     subst (λ (x : SessionView L C). Reused state old x e f) (sym (drained_shape drained behind new is session)) made
@@ -206,13 +208,13 @@ reused {L} {C} state old new e f answer some h = by_alive (keeps_alive old) h.re
     by_alive true r = reused_drained state old r.0 h.behind new e f r.1 some r.2 r.3 h.session h.entry
     by_alive false r = reused_shut state old h.behind new e f r.1 r.2 h.session h.entry
 
--- bytes were received behind the request where none may be
+-- bytes were received after the request where none may be
 pub record HasMore {L C : Type 0} (new : SessionView L C) : Type 0 where
   pub read : reads new.body.reader [] ≡ whole [] 0
   pub pipelining : new.settings.pipelining ≡ false
   pub more : 0 < length new.received
 
--- what the call for reuse answered, by how the session stands behind it
+-- what the call for reuse answered, by how the session stands after it
 abbrev pub Answered : {L C : Type 0} → (L → LinkState) → SessionView L C → SessionView L C → Poll (Result Bool Error) → Type 0
 Answered state old new (Ready (Ok true)) =
     (keeps_alive old ≡ true) × (reads new.body.reader [] ≡ whole [] 0) × (new.body.refused ≡ None)
@@ -228,7 +230,7 @@ alive_same : {L C : Type 0} (a b : SessionView L C) → b.settings ≡ a.setting
     → b.body.refused ≡ a.body.refused → keeps_alive b ≡ keeps_alive a
 alive_same a b settings request reply refused = rw (settings, request, reply, refused) refl
 
--- a refusal of the drain is one behind it
+-- a refusal of the drain is one after it
 refusal_taken : {L C : Type 0} (state : L → LinkState) (old drained : SessionView L C) (payload : List ℕ) (reusable : Bool) (k : ErrorType)
     → BodyRefusal state (lent old payload) drained k → BodyRefusal state old (taken_from drained reusable) k
 refusal_taken state old drained payload reusable kind.InvalidBody h = h
@@ -268,7 +270,8 @@ answered_kept {L} {C} state old drained payload reusable outcome answer alive so
     by_reusable true read none still may = (alive, read, none, refl, still)
     by_reusable false read none still may =
         let follows = not_followed drained.settings.pipelining drained.received (sym may) in (
-          alive_same old drained d.settings d.request d.reply (none ∙ sym unrefused),
+          alive_same old drained (ap (λ (s : SessionView L C). s.settings) d.rest) (ap (λ (s : SessionView L C). s.request) d.rest)
+              (ap (λ (s : SessionView L C). s.reply) d.rest) (none ∙ sym unrefused),
           inr (alive, record { read = read; pipelining = follows.0; more = follows.1 }),
         )
 
@@ -299,14 +302,20 @@ answered {L} {C} state old new e f answer some unrefused h = by_alive (keeps_ali
         ap (λ (x : SessionView L C). keeps_alive x) h.session ∙ ap (λ (x : SessionView L C). keeps_alive x) r.2 in
         subst (λ x. Answered state old new x) (sym r.0) (same, inl alive)
 
+-- after a whole reply the connection goes on where it persists
+pub alive_replied : (alive replied : Bool) → replied ≡ true → (alive && replied) ≡ alive
+alive_replied true replied is = is
+alive_replied false replied is = refl
+
 -- the session is lent the payload, asked, and gives the payload back
 pub reuses_as : {L C : Type 0} (state : L → LinkState) (old asked behind new : SessionView L C) (e : Entry) (payload : List ℕ) (answer : Poll (Result Bool Error))
-    → asked ≡ lent old e.body → ReusesBy state asked behind answer (keeps_alive asked)
+    → is_replied old.reply ≡ true → asked ≡ lent old e.body → ReusesBy state asked behind answer (may_go_on asked)
     → new ≡ record behind { body = record behind.body { kept = None } } → payload ≡ payload_of behind
     → ReusesAs state old new e (record e { body = payload }) answer
-reuses_as {L} {C} state old asked behind new e payload answer lent_is reuses session is = record {
+reuses_as {L} {C} state old asked behind new e payload answer replied lent_is reuses session is = record {
   behind = behind;
-  reuses = subst (λ (x : SessionView L C). ReusesBy state x behind answer (keeps_alive x)) lent_is reuses;
+  reuses = subst (λ t. ReusesBy state (lent old e.body) behind answer t) (alive_replied (keeps_alive old) (is_replied old.reply) replied)
+      (subst (λ (x : SessionView L C). ReusesBy state x behind answer (may_go_on x)) lent_is reuses);
   session = session;
   entry = ap (λ xs. record e { body = xs }) is;
 }

@@ -27,13 +27,14 @@ use Rattle.h1_body.specs.declared.chunking.Chunking.TheVariants as place
 use Rattle.h1_body.specs.declared.reader.Reading.{Reading}
 use Rattle.h1_body.specs.declared.reader.Reading.TheVariants as reading
 use Rattle.h1_server.specs.SessionView.{SessionView}
-use Rattle.h1_app.specs.declared.application.Reply.{Reply}
-use Rattle.h1_app.specs.declared.transcript.Entry.{Entry}
-use Rattle.h1_app.specs.Behind.{WroteBehind, AfterWrote, FlushedBy, written_of}
-use Rattle.h1_app.specs.Causes.{FailureCause, IsComplete, IsWrittenShort, EndsBody, LastStands}
-use Rattle.h1_app.specs.Exchange.{render, is_short, shown}
-use Rattle.h1_app.specs.Since.{Since, IfTold, ReadEntry, WroteSo, coming, StopsBody}
-use Rattle.h1_app.proofs.BehindLemmas.{told_map, read_map}
+use Rattle.h1_transcript.specs.declared.reply.Reply.{Reply}
+use Rattle.h1_transcript.specs.declared.transcript.Entry.{Entry}
+use Rattle.h1_transcript.specs.Behind.{WroteBehind, AfterWrote, FlushedBy, written_of}
+use Rattle.h1_transcript.specs.Ends.{FailureCause, IsComplete, IsWrittenShort, EndsBody, LastStands}
+use Rattle.h1_transcript.specs.Exchange.{render, is_short, shown}
+use Rattle.h1_app.specs.Accounted.{Accounted, ReadEntry, WroteSo, coming, StopsBody}
+use Rattle.h1_transcript.specs.Told.{IfTold}
+use Rattle.h1_transcript.proofs.BehindLemmas.{told_map, read_map}
 
 -- a chunked body that is broken stays so
 chunks_broken : (s : Chunking) (bytes : List ℕ) → chunked s [] ≡ broken []
@@ -89,7 +90,7 @@ stands_unfinished since e session r none h = record {
 -- an error of the request's body ends the connection for its own cause
 stop_cause : {L C : Type 0} (state : L → LinkState) (before old : LinkState) (done : List Entry) (session : SessionView L C)
     (e : Entry) (error : Error) (k : ErrorType)
-    → Since state before session done (Some e) → EndsBody before (state session.link) done e error
+    → Accounted state before session done (Some e) → EndsBody before (state session.link) done e error
     → StopsBody state session k
     → FailureCause before old (state session.link) done (Some e) error k
 stop_cause state before old done session e error kind.InvalidBody s ends h = (
@@ -118,7 +119,7 @@ stop_cause state before old done session e error _ s ends h = absurd h
 
 pub stopped_cause : {L C : Type 0} (state : L → LinkState) (before old : LinkState) (done : List Entry)
     (session : SessionView L C) (e : Entry) (error : Error)
-    → Since state before session done (Some e) → e.body_error ≡ Some error
+    → Accounted state before session done (Some e) → e.body_error ≡ Some error
     → IsComplete before (state session.link) done e ⊎ IsWrittenShort before (state session.link) done e
     → FailureCause before old (state session.link) done (Some e) error error.kind
 stopped_cause state before old done session e error s is replied =
@@ -139,7 +140,7 @@ written_whole since session e sent none is ended h =
 
 pub told_whole : {L C : Type 0} (state : L → LinkState) (before : LinkState) (done : List Entry) (session : SessionView L C)
     (e : Entry) (sent : List ℕ)
-    → Since state before session done (Some e) → session.reply.owed ≡ [] → e.sent_body ≡ Some sent
+    → Accounted state before session done (Some e) → session.reply.owed ≡ [] → e.sent_body ≡ Some sent
     → end_bytes session.reply.writer ≡ []
     → IfTold before.written (state session.link).written (λ since. WroteBehind since done (render e))
 told_whole state before done session e sent s none is ended =
@@ -152,7 +153,7 @@ told_whole state before done session e sent s none is ended =
 -- a reply that is written whole was flushed, where nothing of it is owed
 pub complete : {L C : Type 0} (state : L → LinkState) (before : LinkState) (done : List Entry) (session : SessionView L C)
     (e : Entry) (head : ResponseView) (sent : List ℕ)
-    → e.owed ≡ false → Since state before session done (Some e) → session.reply.owed ≡ []
+    → e.owed ≡ false → Accounted state before session done (Some e) → session.reply.owed ≡ []
     → end_bytes session.reply.writer ≡ []
     → e.sent_head ≡ Some head → e.sent_body ≡ Some sent
     → IsComplete before (state session.link) done e

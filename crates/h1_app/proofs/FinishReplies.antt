@@ -1,5 +1,6 @@
 -- The end of the reply's body is written, and what is left of the request's body may be read.
-use Rattle.std.proofs.Common.{◌≡◌, ℕ, ◌+◌, ◌^◌, ◌<◌, ◌⊎◌, inl, inr, List, [], ◌++◌, Bool, true, false, Option, Some, None, Result, Ok, Err, IfSome, IfNone, IsSome, refl, sym, ◌∙◌, ap, subst, append-nil, arith}
+use Rattle.std.proofs.Common.{◌≡◌, ℕ, ◌+◌, ◌^◌, ◌<◌, ◌⊎◌, inl, inr, List, [], ◌++◌, Bool, true, false, Option, Some, None, Result, Ok, Err, IfSome, IfNone, IsSome, refl, sym, ◌∙◌, ap, subst, append-nil, arith, not}
+use Rattle.h1_server.specs.Reuse.{is_replied}
 use Rattle.std.proofs.lemmas.Bool.{false≢true}
 use Rattle.std.proofs.lemmas.Option.{same_Some}
 use Rattle.futures.specs.declared.task.Poll.{Poll}
@@ -13,30 +14,33 @@ use Rattle.h1_head.specs.Views.{RequestView, ResponseView}
 use Rattle.h1_body.specs.Framing.{out}
 use Rattle.h1_body.specs.Writer as writer
 use Rattle.h1_body.specs.Writer.{WriterView, begun, after_piece, end_bytes}
-use Rattle.h1_server.specs.SessionView.{SessionView, allowance}
+use Rattle.h1_server.specs.SessionView.{SessionView}
+use Rattle.h1_transfer.specs.Budget.{allowance}
 use Rattle.h1_body.specs.declared.framing.Framing.{Framing}
 use Rattle.h1_body.specs.declared.framing.Framing.TheVariants.{Counted, Chunked, UntilClose}
-use Rattle.h1_server.specs.ReplyFraming.{is_begun}
-use Rattle.h1_server.specs.Writes.{Writes, IsRefused}
-use Rattle.h1_server.specs.EndWrites.{WritesEnd, EndsShort, EndCall, starts, goes_on, end_stage, stage_of, EndAnswer}
+use Rattle.h1_transfer.specs.ReplyFraming.{is_begun}
+use Rattle.h1_server.specs.Writes.{Writes, WritesEnd, EndsShort, EndCall}
+use Rattle.h1_transfer.specs.Writes.{IsRefused}
+use Rattle.h1_transfer.specs.EndWrites.{starts, goes_on, end_stage, stage_of, EndAnswer}
 use Rattle.h1_server.specs.declared.request.Request.{Request}
 use Rattle.h1_server.specs.declared.settings.Settings.{Settings}
-use Rattle.h1_server.specs.declared.body.BodyState.{BodyState}
-use Rattle.h1_server.specs.declared.reply.ReplyState.{ReplyState}
-use Rattle.h1_server.specs.declared.reply.Step.{Step}
-use Rattle.h1_server.specs.declared.reply.Step.TheVariants as step
-use Rattle.h1_app.specs.declared.application.Reply.{Reply}
-use Rattle.h1_app.specs.declared.transcript.Entry.{Entry}
+use Rattle.h1_transfer.specs.declared.body.BodyState.{BodyState}
+use Rattle.h1_transfer.specs.declared.outgoing.Outgoing.{Outgoing}
+use Rattle.h1_transfer.specs.declared.outgoing.Step.{Step}
+use Rattle.h1_transfer.specs.declared.outgoing.Step.TheVariants as step
+use Rattle.h1_transcript.specs.declared.reply.Reply.{Reply}
+use Rattle.h1_transcript.specs.declared.transcript.Entry.{Entry}
 use Rattle.h1_app.specs.declared.exchange.Stage.{Stage}
 use Rattle.h1_app.specs.declared.exchange.Stage.TheVariants as at
-use Rattle.h1_app.specs.Growth.{Grows}
-use Rattle.h1_app.specs.Causes.{FailureCause, IsComplete, IsWrittenShort}
-use Rattle.h1_app.specs.Behind.{FlushedBy, written_of}
-use Rattle.h1_app.specs.Exchange.{render, is_short}
-use Rattle.h1_app.specs.Since.{Since, SettledSo, coming}
+use Rattle.h1_transcript.specs.Growth.{Grows}
+use Rattle.h1_transcript.specs.Ends.{FailureCause, IsComplete, IsWrittenShort}
+use Rattle.h1_transcript.specs.Behind.{FlushedBy, written_of}
+use Rattle.h1_transcript.specs.Exchange.{render, is_short}
+use Rattle.h1_app.specs.Accounted.{Accounted, SettledSo, coming}
 use Rattle.h1_app.specs.Sound.{SoundStage, IsReplied, IsHeaded, IsFinishing, IsDraining, filled, failure_of}
-use Rattle.h1_app.specs.Turns.{Went, rank, ahead}
-use Rattle.h1_app.proofs.ReplyLemmas.{at_none, since_wrote, settled_owed, grows_written, replied_on, headed_on, more_written, waits_why, ahead_down}
+use Rattle.h1_app.specs.Step.{MovesWithin}
+use Rattle.h1_app.specs.Pace.{rank, ahead}
+use Rattle.h1_app.proofs.ReplyLemmas.{at_none, accounted_wrote, settled_owed, grows_written, replied_on, headed_on, more_written, waits_why, ahead_down}
 use Rattle.h1_app.proofs.BodyReplies.{writes_nothing}
 use Rattle.h1_app.proofs.EndReplies.{stopped_cause, told_whole, complete, short_where_writer, long_where_writer}
 
@@ -125,7 +129,7 @@ goes_on_ending state old new e reply outcome is long w = record {
   answer = inl (long, w.answer);
 }
 
--- a body that falls short has no bytes behind its payload
+-- a body that falls short has no bytes after its payload
 short_ends : (f : Framing) (payload : List ℕ)
     → writer.is_short (after_piece (begun f) payload) ≡ true
     → end_bytes (after_piece (begun f) payload) ≡ []
@@ -143,13 +147,7 @@ short_writes state old end limit =
     record {
       sent = same.sent;
       budget = same.budget;
-      received = refl;
-      request = refl;
-      refused = refl;
-      body = refl;
-      settings = refl;
-      reusable = refl;
-      context = refl;
+      rest = refl;
       counted = same.counted;
     }
 
@@ -211,28 +209,28 @@ ending state old new e outcome h call =
     (omega (arith, h.replied.asked.written, h.replied.asked.limit)) h.finishing
     (at_none _ old.reply.refused h.headed.refused call)
 
-finish_since : {L C : Type 0} (state : L → LinkState) (before : LinkState) (done : List Entry)
+finish_accounted : {L C : Type 0} (state : L → LinkState) (before : LinkState) (done : List Entry)
     (old new : SessionView L C) (e : Entry) (outcome : Poll (Result (Option ℕ) Error)) (owed : Bool)
     (written : ℕ) (h : AtFinish e old)
     → Ending state old new e h.reply outcome
     → SettledSo before (state new.link) done (Some (record e { owed = owed; written = written }))
-    → Since state before old done (Some e)
-    → Since state before new done (Some (record e { owed = owed; written = written }))
-finish_since state before done old new e outcome owed written h w settled s =
-    since_wrote state before done old new w.taking w.left e e.sent_head e.sent_body e.date e.date_text
+    → Accounted state before old done (Some e)
+    → Accounted state before new done (Some (record e { owed = owed; written = written }))
+finish_accounted state before done old new e outcome owed written h w settled s =
+    accounted_wrote state before done old new w.taking w.left e e.sent_head e.sent_body e.date e.date_text
     e.keep owed written [] w.writes
     (ap (λ x. w.taking ++ coming x new.reply.writer) h.sent_body ∙ w.bytes ∙ ap
     (λ x. coming x old.reply.writer ++ []) (sym h.sent_body))
     (sym (append-nil (render e))) settled s
 
 -- the reply is still owed
-pub owed_since : {L C : Type 0} (state : L → LinkState) (before : LinkState) (done : List Entry)
+pub owed_accounted : {L C : Type 0} (state : L → LinkState) (before : LinkState) (done : List Entry)
     (old new : SessionView L C) (e : Entry) (outcome : Poll (Result (Option ℕ) Error)) (written : ℕ) (h : AtFinish e old)
     → Ending state old new e h.reply outcome
-    → Since state before old done (Some e)
-    → Since state before new done (Some (record e { written = written }))
-owed_since state before done old new e outcome written h w s =
-    finish_since state before done old new e outcome e.owed written h w
+    → Accounted state before old done (Some e)
+    → Accounted state before new done (Some (record e { written = written }))
+owed_accounted state before done old new e outcome written h w s =
+    finish_accounted state before done old new e outcome e.owed written h w
     (settled_owed before (state new.link) done (record e { written = written }) h.headed.owed) s
 
 pub finish_grows : {L C : Type 0} (state : L → LinkState) (now : ℕ) (behind : LinkState) (old new : SessionView L C) (e : Entry)
@@ -314,32 +312,32 @@ nothing_comes : {L C : Type 0} (state : L → LinkState) (old new : SessionView 
     → Ending state old new e reply outcome → end_bytes new.reply.writer ≡ []
 nothing_comes state old new e reply outcome w = ap (λ x. end_bytes x) w.ended
 
--- what is flushed behind the call is all of the reply
-pub done_since : {L C : Type 0} (state : L → LinkState) (before : LinkState) (done : List Entry)
+-- what is flushed after the call is all of the reply
+pub done_accounted : {L C : Type 0} (state : L → LinkState) (before : LinkState) (done : List Entry)
     (old new : SessionView L C) (e : Entry) (outcome : Poll (Result (Option ℕ) Error))
     (told_count : Option ℕ) (written : ℕ) (h : AtFinish e old)
     → Ending state old new e h.reply outcome → written ≡ new.reply.sent
     → outcome ≡ Ready (Ok told_count)
-    → Since state before old done (Some e)
-    → Since state before new done (Some (record e { owed = false; written = written }))
-done_since state before done old new e outcome told_count written h w count ready s =
+    → Accounted state before old done (Some e)
+    → Accounted state before new done (Some (record e { owed = false; written = written }))
+done_accounted state before done old new e outcome told_count written h w count ready s =
     let told = answers state old new e h.reply outcome (Ready (Ok told_count)) w ready
     (not_done told_count) in
-    let owed = owed_since state before done old new e outcome written h w s in
+    let owed = owed_accounted state before done old new e outcome written h w s in
     let flushed : FlushedBy before (state new.link) (written_of done + written) =
     let gone = owed.out in let all = told.2 in omega (arith, gone, all, count) in
-    finish_since state before done old new e outcome false written h w (flushed_so (◌≡◌ {A = Bool} false false) _ e.sent_head flushed) s
+    finish_accounted state before done old new e outcome false written h w (flushed_so (◌≡◌ {A = Bool} false false) _ e.sent_head flushed) s
   where
     flushed_so : (P Q : Type 0) (head : Option ResponseView) → Q → IfSome head (λ head. P → Q)
     flushed_so P Q None q = tt
     flushed_so P Q (Some head) q = λ p. q
 
--- the reply is whole behind the call
+-- the reply is whole after the call
 pub finish_done : {L C : Type 0} (state : L → LinkState) (before : LinkState) (done : List Entry)
     (old new : SessionView L C) (e : Entry) (outcome : Poll (Result (Option ℕ) Error))
     (told_count : Option ℕ) (written : ℕ) (h : AtFinish e old)
     → Ending state old new e h.reply outcome → outcome ≡ Ready (Ok told_count)
-    → Since state before new done (Some (record e { owed = false; written = written }))
+    → Accounted state before new done (Some (record e { owed = false; written = written }))
     → IsComplete before (state new.link) done (record e { owed = false; written = written })
 finish_done state before done old new e outcome told_count written h w ready s =
     let told = answers state old new e h.reply outcome (Ready (Ok told_count)) w ready
@@ -347,6 +345,11 @@ finish_done state before done old new e outcome told_count written h w ready s =
     complete state before done new (record e { owed = false; written = written }) h.reply.header
     h.reply.body refl s told.0.owed
     (nothing_comes state old new e h.reply outcome w) h.headed.sent_head h.sent_body
+
+-- a reply whose body was ended and isn't short is whole
+replied_whole : (reply : Outgoing) (body : WriterView) → reply.headed ≡ true → reply.refused ≡ None
+    → reply.writer ≡ record body { ended = true } → writer.is_short body ≡ false → is_replied reply ≡ true
+replied_whole reply body headed refused ended long = rw (headed, refused, ended) (ap (λ short. not short) long)
 
 -- what is left of the request's body may be read, where it wasn't refused
 pub finish_drains : {L C : Type 0} (state : L → LinkState) (old new : SessionView L C) (e : Entry)
@@ -361,24 +364,26 @@ finish_drains state old new e outcome told_count written h w count ready unrefus
     let counted = w.writes.counted in
     record {
       request = h.request;
-      is = w.writes.request ∙ asked.is;
+      is = (ap (λ s. s.request) w.writes.rest) ∙ asked.is;
       wish = asked.wish;
       reply = h.reply;
       replied = h.replied.is;
-      left = h.replied.left ∙ sym w.writes.settings;
+      left = h.replied.left ∙ sym (ap (λ s. s.settings) w.writes.rest);
       sent_head = h.headed.sent_head;
       sent_body = h.sent_body;
       headed = w.headed ∙ h.headed.headed;
       keep = h.headed.keep ∙ sym w.keep;
       framing = ap (λ (x : WriterView). x.framing) w.ended;
+      whole = replied_whole new.reply (filled e h.reply) (w.headed ∙ h.headed.headed) told.0.refused w.ended
+          (long state old new e h.reply outcome (Ready (Ok told_count)) w ready (not_done told_count));
       nothing = ap (λ x. coming x new.reply.writer) h.sent_body ∙ nothing_comes state old new e h.reply outcome w;
       free = told.0.free;
       reply_owed = told.0.owed;
       owed = refl;
       unrefused = unrefused;
-      body = ap (λ (x : BodyState). x.refused) w.writes.body ∙ sym asked.body_error ∙ unrefused;
-      kept = ap (λ (x : BodyState). x.kept) w.writes.body ∙ asked.kept;
-      waits = ap (λ (x : BodyState). x.waits) w.writes.body ∙ asked.waits;
+      body = ap (λ s. s.body.refused) w.writes.rest ∙ sym asked.body_error ∙ unrefused;
+      kept = ap (λ s. s.body.kept) w.writes.rest ∙ asked.kept;
+      waits = ap (λ s. s.body.waits) w.writes.rest ∙ asked.waits;
       written = count;
       limit = omega (arith, counted, count);
       long = finish_long state old new e outcome told_count false written h w ready;
@@ -386,7 +391,7 @@ finish_drains state old new e outcome told_count written h w count ready unrefus
 
 -- the step goes on to the drain
 pub finish_on : {L C J : Type 0} (state : L → LinkState) (runs : J → RequestView → Settings → Settings → List ℕ → Type 0)
-    (old new : SessionView L C) (f : Entry) (from : Stage J) → from ≡ at.Finish → IsDraining f new → Went state old new
+    (old new : SessionView L C) (f : Entry) (from : Stage J) → from ≡ at.Finish → IsDraining f new → MovesWithin state old new
     → SoundStage runs new (Some f) at.Drain × (rank {J = J} at.Drain < rank from)
     × (ahead {J = J} new.budget at.Drain < ahead old.budget from)
 finish_on {L} {C} {J} state runs old new f from is drains went = (
@@ -421,7 +426,7 @@ plain_cause before old now done last body_error error k is which cause =
 short_cause : {L C : Type 0} (state : L → LinkState) (before old : LinkState) (done : List Entry)
     (session : SessionView L C) (f : Entry) (body_error : Option Error) (error : Error)
     → error.kind ≡ kind.PrematureBodyEnd → f.body_error ≡ body_error
-    → Since state before session done (Some f) → IsWrittenShort before (state session.link) done f
+    → Accounted state before session done (Some f) → IsWrittenShort before (state session.link) done f
     → FailureCause before old (state session.link) done (Some f) (failure_of body_error error)
     (failure_of body_error error).kind
 short_cause state before old done session f None error is body s short =
@@ -431,7 +436,7 @@ short_cause state before old done session f (Some body_error) error is body s sh
     (sym (fails_as_body body_error error is))
     (stopped_cause state before old done session f body_error s body (inr short))
 
-refusal_cause : (before old now : LinkState) (done : List Entry) (reply : ReplyState) (last : Option Entry)
+refusal_cause : (before old now : LinkState) (done : List Entry) (reply : Outgoing) (last : Option Entry)
     (body_error : Option Error) (error : Error) (k : ErrorType)
     → error.kind ≡ k → IsRefused old now reply step.Finish error k
     → FailureCause before old now done last (failure_of body_error error)
@@ -451,7 +456,7 @@ pub finish_fails : {L C : Type 0} (state : L → LinkState) (before : LinkState)
     (error reason : Error) (written : ℕ) (h : AtFinish e old)
     → Ending state old new e h.reply outcome → outcome ≡ Ready (Err error)
     → reason ≡ failure_of e.body_error error
-    → Since state before new done (Some (record e { written = written }))
+    → Accounted state before new done (Some (record e { written = written }))
     → FailureCause before (state old.link) (state new.link) done (Some (record e { written = written }))
     reason reason.kind
 finish_fails state before done old new e outcome error reason written h w failed is s =

@@ -1,5 +1,7 @@
--- What steps of a connection leave, one behind the other.
+-- What steps of a connection leave, one after the other.
 use Rattle.std.proofs.Common.{◌≡◌, ℕ, ◌+◌, ◌-◌, ◌*◌, ◌<◌, ◌≤◌, ◌⊎◌, inl, inr, List, ◌++◌, length, Bool, true, false, Option, Some, None, IfSome, IfNone, IsSome, option_map, refl, sym, ◌∙◌, ap, length-append, arith}
+use Rattle.h1_app.proofs.LeavesLemmas.{leaves_further, way_leaves}
+use Rattle.h1_app.specs.Leaves.{LeavesOn}
 use Rattle.std.specs.Prelude.{◌==◌, if◌then◌else◌}
 use Rattle.std.proofs.lemmas.Bool.{cases_lt, false≢true}
 use Rattle.std.proofs.lemmas.Bool.Decides.{nat_tests}
@@ -17,19 +19,24 @@ use Rattle.h1_link.specs.LinkState.{LinkState}
 use Rattle.h1_link.specs.Later.{Later}
 use Rattle.h1_link.proofs.Laters.{later_itself, rose_read_waits, rose_write_waits, rose_read_faults, rose_write_faults}
 use Rattle.h1_server.specs.SessionView.{SessionView}
-use Rattle.h1_server.proofs.MovedLemmas.{moved_on}
-use Rattle.h1_app.specs.declared.transcript.Entry.{Entry}
+use Rattle.h1_transfer.proofs.MovedLemmas.{moved_on}
+use Rattle.h1_transcript.specs.declared.transcript.Entry.{Entry}
 use Rattle.h1_app.specs.declared.exchange.Stage.{Stage}
 use Rattle.h1_app.specs.declared.exchange.Stage.TheVariants as stage
 use Rattle.h1_app.specs.declared.exchange.Outcome.TheVariants as outcome
-use Rattle.h1_app.specs.Causes.{Cause, FailureCause, EndCause, WaitCause, PendedBy, PendedOn, PendedNew, StopsLast, ToldGrowth}
-use Rattle.h1_app.specs.Gone.{Gone, JobBegan, JobSince, TurnOthers, waiting_for}
-use Rattle.h1_app.specs.Since.{Since}
-use Rattle.h1_app.specs.Turns.{Went, JobFrom, JobPends, WaitsOn, rank}
+use Rattle.h1_app.specs.Causes.{Cause, WaitCause, PendedBy, PendedOn, PendedNew}
+use Rattle.h1_transcript.specs.Ends.{FailureCause, EndCause, StopsLast}
+use Rattle.h1_transcript.specs.Told.{ToldGrowth}
+use Rattle.h1_app.specs.Turn.{Gone, JobBegan, JobSince, TurnOthers, waiting_for}
+use Rattle.h1_app.specs.Accounted.{Accounted}
+use Rattle.h1_app.specs.Step.{MovesWithin, JobFrom}
+use Rattle.h1_app.specs.Pace.{rank}
+use Rattle.h1_app.specs.Outcome.{JobPends, WaitsOn}
 use Rattle.h1_app.specs.View.{View, entries}
-use Rattle.h1_app.specs.Waits.{replies, still}
-use Rattle.h1_app.proofs.GrowthLemmas.{extends_itself, extends_on, replies_grow}
-use Rattle.h1_app.proofs.ReplyLemmas.{went_none}
+use Rattle.h1_transcript.specs.Entries.{replies}
+use Rattle.h1_app.specs.Waits.{still}
+use Rattle.h1_transcript.proofs.GrowthLemmas.{extends_itself, extends_on, replies_grow}
+use Rattle.h1_app.proofs.ReplyLemmas.{moves_none}
 
 budget_on : (a b c : Option ℕ) (x y : ℕ) → b ≡ option_map (λ left. left - x) a → c ≡ option_map (λ left. left - y) b
     → c ≡ option_map (λ left. left - (x + y)) a
@@ -45,8 +52,8 @@ within_on (Some a) b x y e first second =
     let rest : y ≤ a - x = rw e at second in
     omega arith
 
-went_on : {L C : Type 0} (state : L → LinkState) (a b c : SessionView L C) → Went state a b → Went state b c → Went state a c
-went_on state a b c x y = record {
+moves_on : {L C : Type 0} (state : L → LinkState) (a b c : SessionView L C) → MovesWithin state a b → MovesWithin state b c → MovesWithin state a c
+moves_on state a b c x y = record {
   read = x.read ++ y.read;
   wrote = x.wrote ++ y.wrote;
   spent = x.spent + y.spent;
@@ -87,16 +94,16 @@ job_began : {J : Type 0} (begins : J → Type 0) (pends : J → ℕ) (b c : Stag
 job_began begins pends b (stage.Answer job) x y = began_on begins pends b y.0 job x y.1 y.2
 job_began begins pends b _ x y = tt
 
-since_itself : {L C A J : Type 0} (begins : J → Type 0) (pends : J → ℕ) (at : View L C A J) → JobSince begins pends at at
-since_itself begins pends at = record {
+accounted_itself : {L C A J : Type 0} (begins : J → Type 0) (pends : J → ℕ) (at : View L C A J) → JobSince begins pends at at
+accounted_itself begins pends at = record {
   same = λ same. job_itself begins pends at.stage;
   later = λ less. absurd (omega (arith, less));
 }
 
-since_on : {L C A J : Type 0} (begins : J → Type 0) (pends : J → ℕ) (a b c : View L C A J)
+accounted_on : {L C A J : Type 0} (begins : J → Type 0) (pends : J → ℕ) (a b c : View L C A J)
     → length a.done ≤ length b.done → length b.done ≤ length c.done
     → JobSince begins pends a b → JobSince begins pends b c → JobSince begins pends a c
-since_on {L} {C} {A} {J} begins pends a b c first second x y = record {
+accounted_on {L} {C} {A} {J} begins pends a b c first second x y = record {
   same = λ same. job_on begins pends a.stage b.stage c.stage (x.same (omega (arith, same, first, second))) (y.same (omega (arith, same, first, second)));
   later = λ less. by less (cases_lt (length b.done) (length c.done));
 } where
@@ -111,11 +118,11 @@ gone_itself state begins pends same_plan now shutdown at plan = record {
   app = refl;
   limit = refl;
   plan = plan;
-  went = went_none state at.session at.session refl refl refl;
-  since = λ before s. s;
+  moves = moves_none state at.session at.session refl refl refl;
+  accounted = λ before s. s;
   extends = extends_itself now shutdown (state at.session.link) (state at.session.link) (entries at);
   longer = omega arith;
-  job = since_itself begins pends at;
+  job = accounted_itself begins pends at;
 }
 
 pub gone_on : {L C A J : Type 0} (state : L → LinkState) (begins : J → Type 0) (pends : J → ℕ) (same_plan : L → L → Type 0)
@@ -127,16 +134,16 @@ gone_on state begins pends same_plan now shutdown a b c on x y = record {
   app = y.app ∙ x.app;
   limit = y.limit ∙ x.limit;
   plan = on x.plan y.plan;
-  went = went_on state a.session b.session c.session x.went y.went;
-  since = λ before s. y.since before (x.since before s);
-  extends = extends_on now shutdown (state a.session.link) (state b.session.link) (state c.session.link) x.went.moved.later y.went.moved.later
+  moves = moves_on state a.session b.session c.session x.moves y.moves;
+  accounted = λ before s. y.accounted before (x.accounted before s);
+  extends = extends_on now shutdown (state a.session.link) (state b.session.link) (state c.session.link) x.moves.moved.later y.moves.moved.later
       (entries a) (entries b) (entries c) x.extends y.extends;
   longer = omega (arith, x.longer, y.longer);
-  job = since_on begins pends a b c x.longer y.longer x.job y.job;
+  job = accounted_on begins pends a b c x.longer y.longer x.job y.job;
 }
 
 -- a budget stays one
-pub some_left : {L C : Type 0} (state : L → LinkState) (old new : SessionView L C) → Went state old new → IsSome old.budget → IsSome new.budget
+pub some_left : {L C : Type 0} (state : L → LinkState) (old new : SessionView L C) → MovesWithin state old new → IsSome old.budget → IsSome new.budget
 some_left state old new went some = rw went.budget (mapped old.budget some)
   where
     mapped : (budget : Option ℕ) → IsSome budget → IsSome (option_map (λ left. left - went.spent) budget)
@@ -175,7 +182,7 @@ pub job_kept : {J : Type 0} (pends : J → ℕ) (a : Stage J) → JobKept pends 
 job_kept pends (stage.Answer job) = omega arith
 job_kept pends _ = tt
 
--- behind a step that goes on from it, it isn't asked again
+-- after a step that goes on from it, it isn't asked again
 pub job_gone : {J : Type 0} (pends : J → ℕ) (a b c : Stage J) → rank b ≤ rank a → rank c < rank b → JobKept pends a c
 job_gone pends (stage.Answer before) b (stage.Answer job) falls less = absurd (omega (arith, falls, less))
 job_gone pends (stage.Answer before) b _ falls less = tt
@@ -229,7 +236,7 @@ value None = 0
 value (Some n) = n
 
 -- what is left of a poll's budget is what was not spent
-left_of : {L C : Type 0} (state : L → LinkState) (old new : SessionView L C) (left : ℕ) (w : Went state old new)
+left_of : {L C : Type 0} (state : L → LinkState) (old new : SessionView L C) (left : ℕ) (w : MovesWithin state old new)
     → old.budget ≡ Some 64 → new.budget ≡ Some left → (left ≡ 64 - w.spent) × (w.spent ≤ 64)
 left_of state old new left w start is =
     let whole : w.spent ≤ 64 = rw start at w.within in
@@ -238,7 +245,7 @@ left_of state old new left w start is =
 
 -- a spent budget is why a poll waits
 budget_cause : {L C A J : Type 0} (begins : J → Type 0) (pends : J → ℕ) (state : L → LinkState) (before : LinkState) (from to : View L C A J)
-    → Went state from.session to.session → from.session.budget ≡ Some 64 → to.session.budget ≡ Some 0
+    → MovesWithin state from.session to.session → from.session.budget ≡ Some 64 → to.session.budget ≡ Some 0
     → WaitCause begins pends before (state from.session.link) (state to.session.link) from to waiting.Budget
 budget_cause begins pends state before from to w start is =
     let s = left_of state from.session to.session 0 w start is in
@@ -258,6 +265,7 @@ pub record IsOnWay {L C A J : Type 0} (state : L → LinkState) (begins : J → 
   pub kept : length to.done ≡ length from.done → JobKept pends from.stage to.stage
   pub few : (state to.session.link).read_waits + replies (entries from) ≤ (state from.session.link).read_waits + replies (entries to)
   pub others : TurnOthers state from to outcome.Done
+  pub leaves : LeavesOn state from to
 
 pub way_itself : {L C A J : Type 0} (state : L → LinkState) (begins : J → Type 0) (pends : J → ℕ) (same_plan : L → L → Type 0)
     (now : ℕ) (shutdown : Bool) (at : View L C A J) → same_plan at.session.link at.session.link → at.end ≡ None → IsSome at.session.budget
@@ -270,6 +278,7 @@ way_itself state begins pends same_plan now shutdown at plan alive some = record
   kept = λ same. job_kept pends at.stage;
   few = omega arith;
   others = omega arith;
+  leaves = way_leaves state at alive;
 }
 
 -- a step that is done leads on
@@ -279,15 +288,16 @@ pub way_on : {L C A J : Type 0} (state : L → LinkState) (begins : J → Type 0
     → IsOnWay state begins pends same_plan now shutdown a b → Gone state begins pends same_plan now shutdown b c
     → c.end ≡ None → (length c.done ≡ length b.done → rank c.stage < rank b.stage)
     → (state c.session.link).read_waits + replies (entries b) ≤ (state b.session.link).read_waits + replies (entries c)
-    → TurnOthers state b c outcome.Done → IsOnWay state begins pends same_plan now shutdown a c
-way_on {L} {C} {A} {J} state begins pends same_plan now shutdown a b c on x y alive less few others = record {
+    → TurnOthers state b c outcome.Done → LeavesOn state b c → IsOnWay state begins pends same_plan now shutdown a c
+way_on {L} {C} {A} {J} state begins pends same_plan now shutdown a b c on x y alive less few others leaves = record {
   gone = gone_on state begins pends same_plan now shutdown a b c on x.gone y;
   alive = alive;
-  budget = some_left state b.session c.session y.went x.budget;
+  budget = some_left state b.session c.session y.moves x.budget;
   order = λ same. let first = x.order (before same) in let second = less (behind same) in omega (arith, first, second);
   kept = λ same. job_gone pends a.stage b.stage c.stage (x.order (before same)) (less (behind same));
   few = omega (arith, x.few, few);
   others = omega (arith, x.others, others);
+  leaves = leaves_further state a b c x.leaves x.alive leaves;
 } where
   before : length c.done ≡ length a.done → length b.done ≡ length a.done
   before same = omega (arith, same, x.gone.longer, y.longer)
@@ -311,16 +321,16 @@ way_others state begins pends same_plan now shutdown a b c x others = omega (ari
 
 step_waits : {L C A J : Type 0} (state : L → LinkState) (begins : J → Type 0) (pends : J → ℕ) (same_plan : L → L → Type 0) (now : ℕ) (shutdown : Bool) (before : LinkState)
     (a b c : View L C A J) (left : ℕ) → IsOnWay state begins pends same_plan now shutdown a b → Gone state begins pends same_plan now shutdown b c
-    → c.session.budget ≡ Some left → 0 < left → Since state before c.session c.done c.last → c.done ≡ b.done
+    → c.session.budget ≡ Some left → 0 < left → Accounted state before c.session c.done c.last → c.done ≡ b.done
     → (what : Waiting) → WaitsOn state pends b.session c.session c.last b.stage c.stage what
     → WaitCause begins pends before (state a.session.link) (state c.session.link) a c what
 step_waits state begins pends same_plan now shutdown before a b c left x y is some s still waiting.Read w = (
-  rose_read_waits 1 (state a.session.link) (state b.session.link) (state c.session.link) (state c.session.link) x.gone.went.moved.later
+  rose_read_waits 1 (state a.session.link) (state b.session.link) (state c.session.link) (state c.session.link) x.gone.moves.moved.later
       (rose_of _ _ left is some w.0) (later_itself (state c.session.link)),
   w.1 before c.done s,
 )
 step_waits state begins pends same_plan now shutdown before a b c left x y is some s still waiting.Write w = (
-  rose_write_waits 1 (state a.session.link) (state b.session.link) (state c.session.link) (state c.session.link) x.gone.went.moved.later
+  rose_write_waits 1 (state a.session.link) (state b.session.link) (state c.session.link) (state c.session.link) x.gone.moves.moved.later
       (rose_of _ _ left is some w.0) (later_itself (state c.session.link)),
   w.1,
 )
@@ -332,12 +342,12 @@ step_waits state begins pends same_plan now shutdown before a b c left x y is so
 -- a poll waits for what its last step waits for, or it has spent its budget
 pub poll_waits : {L C A J : Type 0} (state : L → LinkState) (begins : J → Type 0) (pends : J → ℕ) (same_plan : L → L → Type 0) (now : ℕ) (shutdown : Bool) (before : LinkState)
     (a b c : View L C A J) → IsOnWay state begins pends same_plan now shutdown a b → Gone state begins pends same_plan now shutdown b c
-    → a.session.budget ≡ Some 64 → Since state before c.session c.done c.last → c.done ≡ b.done
+    → a.session.budget ≡ Some 64 → Accounted state before c.session c.done c.last → c.done ≡ b.done
     → (what : Waiting) → WaitsOn state pends b.session c.session c.last b.stage c.stage what
     → (budget : Option ℕ) → c.session.budget ≡ budget
     → WaitCause begins pends before (state a.session.link) (state c.session.link) a c (waiting_for budget what)
 poll_waits {L} {C} {A} {J} state begins pends same_plan now shutdown before a b c x y start s still what w None none =
-    let some : IsSome c.session.budget = some_left state b.session c.session y.went x.budget in
+    let some : IsSome c.session.budget = some_left state b.session c.session y.moves x.budget in
     absurd (none_is c.session.budget none some)
   where
     none_is : (budget : Option ℕ) → budget ≡ None → IsSome budget → ⊥
@@ -348,7 +358,7 @@ poll_waits {L} {C} {A} {J} state begins pends same_plan now shutdown before a b 
     on : (test : Bool) → (left == 0) ≡ test → WaitCause begins pends before (state a.session.link) (state c.session.link) a c (if test then waiting.Budget else what)
     on true e =
         let none : left ≡ 0 = grind (arith, nat_tests, e) in
-        budget_cause begins pends state before a c (went_on state a.session b.session c.session x.gone.went y.went) start (is ∙ ap Some none)
+        budget_cause begins pends state before a c (moves_on state a.session b.session c.session x.gone.moves y.moves) start (is ∙ ap Some none)
     on false e =
         let some : 0 < left = grind (arith, nat_tests, e) in
         step_waits state begins pends same_plan now shutdown before a b c left x y is some s still what w
@@ -366,11 +376,11 @@ cause_same state begins pends before a b to link same done last (progress.Pendin
 -- a poll's cause is that of the steps it made
 pub caused_poll : {L C A J : Type 0} (state : L → LinkState) (begins : J → Type 0) (pends : J → ℕ) (a b to : View L C A J) (result : Progress)
     → a.session.link ≡ b.session.link → a.stage ≡ b.stage → a.done ≡ b.done → a.last ≡ b.last
-    → ((before : LinkState) → Since state before b.session b.done b.last → Since state before a.session a.done a.last)
-    → ((before : LinkState) → Since state before a.session a.done a.last → Cause state begins pends before a to result)
-    → IfNone b.end ((before : LinkState) → Since state before b.session b.done b.last → Cause state begins pends before b to result)
+    → ((before : LinkState) → Accounted state before b.session b.done b.last → Accounted state before a.session a.done a.last)
+    → ((before : LinkState) → Accounted state before a.session a.done a.last → Cause state begins pends before a to result)
+    → IfNone b.end ((before : LinkState) → Accounted state before b.session b.done b.last → Cause state begins pends before b to result)
 caused_poll {L} {C} {A} {J} state begins pends a b to result link same done last since cause = on b.end
   where
-    on : (end : Option End) → IfNone end ((before : LinkState) → Since state before b.session b.done b.last → Cause state begins pends before b to result)
+    on : (end : Option End) → IfNone end ((before : LinkState) → Accounted state before b.session b.done b.last → Cause state begins pends before b to result)
     on None = λ before s. cause_same state begins pends before a b to link same done last result (cause before (since before s))
     on (Some reason) = tt

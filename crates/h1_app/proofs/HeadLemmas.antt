@@ -1,5 +1,5 @@
 -- Steps that read a head.
-use Rattle.std.proofs.Common.{◌≡◌, ℕ, ◌+◌, ◌≤◌, inl, inr, List, [], true, Option, Some, None, IfNone, IsSome, option_map, option_to_list, Result, Ok, Err, refl, sym, ◌∙◌, ap, subst, arith}
+use Rattle.std.proofs.Common.{◌≡◌, ℕ, ◌+◌, ◌≤◌, inl, inr, List, [], Bool, true, Option, Some, None, IfNone, IsSome, option_map, option_to_list, Result, Ok, Err, refl, sym, ◌∙◌, ap, subst, arith}
 use Rattle.futures.specs.declared.task.Poll.{Poll}
 use Rattle.futures.specs.declared.task.Poll.TheVariants.{Ready, Pending}
 use Rattle.h1_error.specs.declared.error.Error.{Error}
@@ -8,25 +8,33 @@ use Rattle.h1_error.specs.declared.progress.End.TheVariants as end
 use Rattle.h1_link.specs.LinkState.{LinkState}
 use Rattle.h1_head.specs.Views.{RequestView}
 use Rattle.h1_server.specs.Requests.{ReadsRequest, HeadAnswer, BeginsNone}
-use Rattle.h1_server.specs.SessionView.{SessionView, allowance}
+use Rattle.h1_server.specs.SessionView.{SessionView}
+use Rattle.h1_transfer.specs.Budget.{allowance}
 use Rattle.h1_server.specs.declared.request.ReadRequest.{ReadRequest}
 use Rattle.h1_server.specs.declared.request.ReadRequest.TheVariants as read
 use Rattle.h1_server.specs.declared.request.NoRequest.{NoRequest}
 use Rattle.h1_server.specs.declared.request.NoRequest.TheVariants.{Closed, IdleTimeout}
 use Rattle.h1_server.specs.declared.settings.Settings.{Settings}
-use Rattle.h1_app.specs.declared.transcript.Entry.{Entry}
+use Rattle.h1_transcript.specs.declared.reply.Reply.{Reply}
+use Rattle.h1_transcript.specs.declared.transcript.Entry.{Entry}
+use Rattle.h1_app.specs.declared.exchange.Exchange.{Exchange}
+use Rattle.h1_app.specs.declared.exchange.Outcome.{Outcome}
 use Rattle.h1_app.specs.declared.exchange.Stage.{Stage}
 use Rattle.h1_app.specs.declared.exchange.Stage.TheVariants as stage
 use Rattle.h1_app.specs.declared.exchange.Outcome.TheVariants as outcome
-use Rattle.h1_app.specs.Begun.{BeginsWith}
-use Rattle.h1_app.specs.Behind.{AfterRead}
-use Rattle.h1_app.specs.Causes.{LacksSo, AreAllDone, FailureCause, EndCause}
-use Rattle.h1_app.specs.Since.{Since, IfTold}
+use Rattle.h1_transcript.specs.Given.{Given}
+use Rattle.h1_transcript.specs.Begun.{BeginsWith}
+use Rattle.h1_transcript.specs.Behind.{AfterRead}
+use Rattle.h1_transcript.specs.Ends.{LacksSo, AreAllDone, FailureCause, EndCause}
+use Rattle.h1_app.specs.Accounted.{Accounted}
+use Rattle.h1_transcript.specs.Told.{IfTold}
 use Rattle.h1_app.specs.Sound.{SoundStage, IsAwaiting}
-use Rattle.h1_app.specs.Turns.{OutcomeCause}
-use Rattle.h1_app.specs.Waits.{replies}
-use Rattle.h1_app.proofs.BehindLemmas.{read_map}
-use Rattle.h1_app.proofs.SinceLemmas.{told_ahead, told_lacks, since_received, head_failed, all_done}
+use Rattle.h1_app.specs.Step.{Stepped}
+use Rattle.h1_app.specs.Outcome.{OutcomeCause}
+use Rattle.h1_app.specs.Waits.{FewReadsNotReady}
+use Rattle.h1_transcript.specs.Entries.{replies}
+use Rattle.h1_transcript.proofs.BehindLemmas.{read_map}
+use Rattle.h1_app.proofs.AccountedLemmas.{told_ahead, told_lacks, accounted_received, moves_received, head_failed, all_done}
 
 -- the step's call, at a stage that awaits a head
 pub record AtHead {L C : Type 0} (state : L → LinkState) (old new : SessionView L C) (last : Option Entry) (answer : Poll (Result ReadRequest Error)) : Type 0 where
@@ -41,13 +49,13 @@ at_head state runs old new last from answer sound at read =
     record { alone = s.0; awaiting = s.1; reads = subst (λ x. IfNone x (ReadsRequest state old new answer)) s.1.refused read }
 
 -- a session that kept its bytes
-pub none_since : {L C : Type 0} (state : L → LinkState) (old new : SessionView L C) (last : Option Entry) (answer : Poll (Result ReadRequest Error))
+pub none_accounted : {L C : Type 0} (state : L → LinkState) (old new : SessionView L C) (last : Option Entry) (answer : Poll (Result ReadRequest Error))
     → (h : AtHead state old new last answer) → BeginsNone old new h.reads.bytes
-    → (before : LinkState) (done : List Entry) → Since state before old done last → Since state before new done last
-none_since state old new last answer h got before done s =
-    let start : Since state before old done None = subst (λ x. Since state before old done x) h.alone s in
-    subst (λ x. Since state before new done x) (sym h.alone)
-    (since_received state old new h.reads.bytes (allowance old.budget) h.reads.left before done h.reads.received got.received h.reads.reply h.awaiting.request got.request start)
+    → (before : LinkState) (done : List Entry) → Accounted state before old done last → Accounted state before new done last
+none_accounted state old new last answer h got before done s =
+    let start : Accounted state before old done None = subst (λ x. Accounted state before old done x) h.alone s in
+    subst (λ x. Accounted state before new done x) (sym h.alone)
+    (accounted_received state old new h.reads.bytes (allowance old.budget) h.reads.left before done h.reads.received got.received (ap (λ s. s.reply) h.reads.rest) h.awaiting.request got.request start)
 
 -- the session still awaits a head
 pub still_awaits : {L C : Type 0} (state : L → LinkState) (old new : SessionView L C) (last : Option Entry) (answer : Poll (Result ReadRequest Error))
@@ -57,7 +65,7 @@ still_awaits state old new last answer h none kept =
     record {
       request = none.request;
       refused = kept;
-      unwritten = rw h.reads.reply a.unwritten;
+      unwritten = rw (ap (λ s. s.reply) h.reads.rest) a.unwritten;
       kept = rw none.body a.kept;
       body_refused = rw none.body a.body_refused;
       waits = rw none.body a.waits;
@@ -77,7 +85,7 @@ head_waits state pends runs old new last from some at h =
       (
         elim a.3 [ inl rose ↦ inl rose | inr z ↦ inr (left_none old.budget h.reads.left new.budget some h.reads.budget z) ],
         (λ before done s. subst (λ x. LacksSo before (state new.link) done x) (sym h.alone)
-            (let start : Since state before new done None = subst (λ x. Since state before new done x) h.alone s in
+            (let start : Accounted state before new done None = subst (λ x. Accounted state before new done x) h.alone s in
             told_lacks before (state new.link) done h.reads.bytes (all_done state before new done start)
             (subst (λ xs. IfTold before.given (state new.link).given (AfterRead done (λ rest. rest ≡ xs))) a.0.received
             (told_ahead new done before.given (state new.link).given awaits.request start.read)) a.2)),
@@ -90,18 +98,16 @@ none_parts state old new bytes left Closed a = a
 none_parts state old new bytes left IdleTimeout a = absurd a
 
 -- no request comes: the link ended, and no byte was received
-pub closed_since : {L C : Type 0} (state : L → LinkState) (old new : SessionView L C) (last : Option Entry) (why : NoRequest)
-    → AtHead state old new last (Ready (Ok (read.None why))) → (before : LinkState) (done : List Entry) → Since state before old done last → Since state before new done last
-closed_since state old new last why h =
-    let a = none_parts state old new h.reads.bytes h.reads.left why h.reads.answer in
-    none_since state old new last (Ready (Ok (read.None why))) h a.0
+pub closed_none : {L C : Type 0} (state : L → LinkState) (old new : SessionView L C) (last : Option Entry) (why : NoRequest)
+    → (h : AtHead state old new last (Ready (Ok (read.None why)))) → BeginsNone old new h.reads.bytes
+closed_none state old new last why h = (none_parts state old new h.reads.bytes h.reads.left why h.reads.answer).0
 
 pub closed_ends : {L C : Type 0} (state : L → LinkState) (old new : SessionView L C) (last : Option Entry) (why : NoRequest)
-    → AtHead state old new last (Ready (Ok (read.None why))) → (before : LinkState) (done : List Entry) → Since state before new done last
+    → AtHead state old new last (Ready (Ok (read.None why))) → (before : LinkState) (done : List Entry) → Accounted state before new done last
     → EndCause before (state old.link) (state new.link) done last end.Finished
 closed_ends state old new last why h before done s =
     let a = none_parts state old new h.reads.bytes h.reads.left why h.reads.answer in
-    let start : Since state before new done None = subst (λ x. Since state before new done x) h.alone s in (
+    let start : Accounted state before new done None = subst (λ x. Accounted state before new done x) h.alone s in (
       subst (λ x. AreAllDone before (state new.link) done x) (sym h.alone) (all_done state before new done start),
       a.2,
       read_map done before.given (state new.link).given (λ rest. rest ≡ new.received) (λ rest. rest ≡ [])
@@ -110,11 +116,11 @@ closed_ends state old new last why h before done s =
 
 -- a head read that failed
 pub failed_ends : {L C : Type 0} (state : L → LinkState) (old new : SessionView L C) (last : Option Entry) (error : Error)
-    → AtHead state old new last (Ready (Err error)) → (before : LinkState) (done : List Entry) → Since state before new done last
+    → AtHead state old new last (Ready (Err error)) → (before : LinkState) (done : List Entry) → Accounted state before new done last
     → FailureCause before (state old.link) (state new.link) done last error error.kind
 failed_ends state old new last error h before done s =
     let a = h.reads.answer in
-    let start : Since state before new done None = subst (λ x. Since state before new done x) h.alone s in
+    let start : Accounted state before new done None = subst (λ x. Accounted state before new done x) h.alone s in
     subst (λ x. FailureCause before (state old.link) (state new.link) done x error error.kind) (sym h.alone)
     (head_failed before (state old.link) (state new.link) done h.reads.bytes error error.kind (all_done state before new done start)
     (read_map done before.given (state new.link).given (λ rest. rest ≡ new.received) (λ rest. rest ≡ h.reads.bytes) (λ rest e. e ∙ a.0.received)
@@ -125,13 +131,26 @@ pub none_begins : {L C : Type 0} (old new : SessionView L C) (last : Option Entr
     → last ≡ None → BeginsNone old new bytes → BeginsWith old.settings new.settings last last
 none_begins old new last bytes alone none = rw (alone, none.settings) (record { closing = refl; pipelining = refl; reuses = refl })
 
-pub closed_begins : {L C : Type 0} (state : L → LinkState) (old new : SessionView L C) (last : Option Entry) (why : NoRequest)
-    → AtHead state old new last (Ready (Ok (read.None why))) → BeginsWith old.settings new.settings last last
-closed_begins state old new last why h =
-    none_begins old new last h.reads.bytes h.alone (none_parts state old new h.reads.bytes h.reads.left why h.reads.answer).0
-
 -- a read was not ready at most once
 pub none_few : {L C : Type 0} (state : L → LinkState) (old new : SessionView L C) (last : Option Entry) (answer : Poll (Result ReadRequest Error))
     → AtHead state old new last answer
     → (state new.link).read_waits + replies (option_to_list last) ≤ (state old.link).read_waits + replies (option_to_list last) + 1
 none_few state old new last answer h = let few = h.reads.few in omega (arith, few)
+
+-- a step that begins no exchange, whole
+pub none_stepped : {L C J : Type 0} (state : L → LinkState) (pends : J → ℕ) (gives : Given → Reply → Type 0) (runs : J → RequestView → Settings → Settings → List ℕ → Type 0)
+    (now : ℕ) (shutdown : Bool) (x y : Exchange L J C) (answer : Poll (Result ReadRequest Error)) (result : Outcome)
+    → (h : AtHead state x.session y.session x.transcript.last answer) → BeginsNone x.session y.session h.reads.bytes → y.transcript.last ≡ x.transcript.last
+    → FewReadsNotReady (state x.session.link) (state y.session.link) (option_to_list x.transcript.last) (option_to_list x.transcript.last) result
+    → OutcomeCause state pends runs x.session y.session x.transcript.last x.stage y.stage result
+    → Stepped state pends gives runs now shutdown x y result
+none_stepped state pends gives runs now shutdown x y answer result h none same few outcome = record {
+  moves = moves_received state x.session y.session h.reads.bytes h.reads.left h.reads.received h.reads.budget (ap (λ s. s.context) h.reads.rest);
+  accounted = rw same (none_accounted state x.session y.session x.transcript.last answer h none);
+  allowed = rw (same, h.alone) tt;
+  kept = rw (same, h.alone) tt;
+  extends = rw (same, h.alone) tt;
+  begins_with = rw same (none_begins x.session y.session x.transcript.last h.reads.bytes h.alone none);
+  reads_not_ready = rw same few;
+  outcome = rw same outcome;
+}

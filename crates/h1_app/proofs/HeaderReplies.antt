@@ -8,20 +8,20 @@ use Rattle.h1_link.specs.LinkState.{LinkState}
 use Rattle.h1_link.specs.Counts.{Rose}
 use Rattle.h1_head.specs.Views.{RequestView, ResponseView}
 use Rattle.h1_server.specs.SessionView.{SessionView}
-use Rattle.h1_server.specs.Writes.{IsWaiting}
+use Rattle.h1_transfer.specs.Writes.{IsWaiting}
 use Rattle.h1_server.specs.HeaderWrites.{WritesHeader, HeaderWrite, HeaderCall, HeaderAnswer}
 use Rattle.h1_server.specs.declared.request.Request.{Request}
 use Rattle.h1_server.specs.declared.settings.Settings.{Settings}
-use Rattle.h1_server.specs.declared.reply.Step.TheVariants as step
-use Rattle.h1_app.specs.declared.application.Reply.{Reply}
-use Rattle.h1_app.specs.declared.transcript.Entry.{Entry}
+use Rattle.h1_transfer.specs.declared.outgoing.Step.TheVariants as step
+use Rattle.h1_transcript.specs.declared.reply.Reply.{Reply}
+use Rattle.h1_transcript.specs.declared.transcript.Entry.{Entry}
 use Rattle.h1_app.specs.declared.exchange.Stage.{Stage}
 use Rattle.h1_app.specs.declared.exchange.Stage.TheVariants as at
-use Rattle.h1_app.specs.Growth.{Grows}
-use Rattle.h1_app.specs.Causes.{FailureCause}
-use Rattle.h1_app.specs.Since.{Since}
+use Rattle.h1_transcript.specs.Growth.{Grows}
+use Rattle.h1_transcript.specs.Ends.{FailureCause}
+use Rattle.h1_app.specs.Accounted.{Accounted}
 use Rattle.h1_app.specs.Sound.{SoundStage, IsReplied, IsHeaded, fresh}
-use Rattle.h1_app.proofs.ReplyLemmas.{at_none, at_some, since_goes_on, grows_written, replied_on, headed_on, more_written, waits_why, refused_cause}
+use Rattle.h1_app.proofs.ReplyLemmas.{at_none, at_some, accounted_goes_on, grows_written, replied_on, headed_on, more_written, waits_why, refused_cause}
 
 -- the exchange whose header is being written
 pub record AtHeader {L C : Type 0} (e : Entry) (session : SessionView L C) : Type 0 where
@@ -69,14 +69,14 @@ header_call {L} {C} state old new e kept now outcome h call =
     written None w = w
     written (Some header) w = absurd (none-some header w.back)
 
-pub header_since : {L C : Type 0} (state : L → LinkState) (before : LinkState) (done : List Entry)
+pub header_accounted : {L C : Type 0} (state : L → LinkState) (before : LinkState) (done : List Entry)
     (old new : SessionView L C) (e : Entry) (now : ℕ) (outcome : Poll (Result (Unit {0}) Error))
     (written : ℕ)
     (h : AtHeader e old) → WritesHeader state old new h.request None now outcome
-    → Since state before old done (Some e)
-    → Since state before new done (Some (record e { written = written }))
-header_since state before done old new e now outcome written h w s =
-    since_goes_on state before done old new w.taking w.left e e.owed written w.writes w.takes.0
+    → Accounted state before old done (Some e)
+    → Accounted state before new done (Some (record e { written = written }))
+header_accounted state before done old new e now outcome written h w s =
+    accounted_goes_on state before done old new w.taking w.left e e.owed written w.writes w.takes.0
     w.takes.1.writer h.headed.owed s
 
 pub header_grows : {L C : Type 0} (state : L → LinkState) (old new : SessionView L C) (e : Entry)

@@ -1,5 +1,6 @@
 -- The reply's header is taken up, with the date and the flag of the poll.
 use Rattle.std.proofs.Common.{◌≡◌, ℕ, ◌+◌, ◌/◌, ◌<◌, ◌⊎◌, List, [], ◌∷◌, ◌++◌, length, Bool, true, false, not, ◌&&◌, ◌||◌, Option, Some, None, Result, Ok, Err, IfSome, IfNone, IsSome, is_some, is_none, refl, sym, ◌∙◌, ap, subst, append-nil, length-append, arith}
+use Rattle.h1_error.specs.declared.moment.TheConstants.{YEAR_10000}
 use Rattle.std.proofs.lemmas.Bool.{false≢true}
 use Rattle.std.proofs.lemmas.Option.{same_Some}
 use Rattle.futures.specs.declared.task.Poll.{Poll}
@@ -22,19 +23,21 @@ use Rattle.h1_server.specs.Persistence.{keep_flag, has_reuses, is_whole}
 use Rattle.h1_server.specs.HeaderWrites.{WritesHeader, HeaderWrite, HeaderCall, HeaderAnswer, is_passed_over}
 use Rattle.h1_server.specs.declared.request.Request.{Request}
 use Rattle.h1_server.specs.declared.settings.Settings.{Settings}
-use Rattle.h1_server.specs.declared.reply.Step.TheVariants as step
-use Rattle.h1_app.specs.declared.application.Reply.{Reply}
-use Rattle.h1_app.specs.declared.transcript.Entry.{Entry}
+use Rattle.h1_transfer.specs.declared.outgoing.Step.TheVariants as step
+use Rattle.h1_transcript.specs.declared.reply.Reply.{Reply}
+use Rattle.h1_transcript.specs.declared.transcript.Entry.{Entry}
 use Rattle.h1_app.specs.declared.exchange.Stage.{Stage}
 use Rattle.h1_app.specs.declared.exchange.Stage.TheVariants as at
-use Rattle.h1_app.specs.Growth.{Grows}
-use Rattle.h1_app.specs.Application.{Given, LawfulReplies, IsLawful, how_of, how_stands}
-use Rattle.h1_app.specs.Causes.{FailureCause}
-use Rattle.h1_app.specs.Exchange.{render_parts, IsAllowed, may_keep, given_to}
-use Rattle.h1_app.specs.Since.{Since, coming}
+use Rattle.h1_transcript.specs.Growth.{Grows}
+use Rattle.h1_transcript.specs.Given.{Given}
+use Rattle.h1_transcript.specs.Lawful.{LawfulReplies, IsLawful}
+use Rattle.h1_application.specs.Application.{how_of, how_stands}
+use Rattle.h1_transcript.specs.Ends.{FailureCause}
+use Rattle.h1_transcript.specs.Exchange.{render_parts, IsAllowed, may_keep, given_to}
+use Rattle.h1_app.specs.Accounted.{Accounted, coming}
 use Rattle.h1_app.specs.Sound.{SoundStage, IsReplied, IsHeaded, IsUnwritten, fresh}
-use Rattle.h1_app.specs.Turns.{ahead}
-use Rattle.h1_app.proofs.ReplyLemmas.{at_none, at_some, since_wrote, settled_owed, ahead_wrote, stays_itself, grows_replying, replied_on, more_written, waits_why, refused_cause}
+use Rattle.h1_app.specs.Pace.{ahead}
+use Rattle.h1_app.proofs.ReplyLemmas.{at_none, at_some, accounted_wrote, settled_owed, ahead_wrote, stays_itself, grows_replying, replied_on, more_written, waits_why, refused_cause}
 
 -- the exchange whose header is to be taken up
 pub record AtTakeHeader {L C : Type 0} (e : Entry) (session : SessionView L C) : Type 0 where
@@ -164,15 +167,15 @@ parts_headed : (method : List ℕ) (r : Option Reply) (b : Option (List ℕ)) (d
 parts_headed method r b date old_date keep old_keep h sent none no_head = rw (none, no_head)
     (append-nil (head_bytes (reply_head sent date keep)))
 
-pub headed_since : {L C : Type 0} (state : L → LinkState) (before : LinkState) (done : List Entry)
+pub headed_accounted : {L C : Type 0} (state : L → LinkState) (before : LinkState) (done : List Entry)
     (old new : SessionView L C) (e : Entry) (now : ℕ) (outcome : Poll (Result (Unit {0}) Error))
     (sent : ResponseView) (text : List ℕ) (keep : Bool) (written : ℕ)
     (h : AtTakeHeader e old) → WritesHeader state old new h.request (Some h.reply.header) now
     outcome
     → sent ≡ h.reply.header → IsDateAt (now / 1000) text → keep ≡ new.reply.keep
-    → Since state before old done (Some e)
-    → Since state before new done (Some (headed_as e sent (now / 1000) text keep written))
-headed_since state before done old new e now outcome sent text keep written h w is dated keeps s =
+    → Accounted state before old done (Some e)
+    → Accounted state before new done (Some (headed_as e sent (now / 1000) text keep written))
+headed_accounted state before done old new e now outcome sent text keep written h w is dated keeps s =
     let t = w.takes in
     let date : t.date ≡ text = same_date (now / 1000) t.date text t.is_date dated in
     let flag : keep_flag h.request.wish old.settings old.body ≡ keep = sym t.keep ∙ sym keeps in
@@ -181,7 +184,7 @@ headed_since state before done old new e now outcome sent text keep written h w 
     (keep_flag h.request.wish old.settings old.body))) date
     ∙ ap (λ x. head_bytes (reply_head h.reply.header text x)) flag ∙ ap
     (λ x. head_bytes (reply_head x text keep)) (sym is) in
-    since_wrote state before done old new w.taking w.left e (Some sent) e.sent_body (now / 1000) text
+    accounted_wrote state before done old new w.taking w.left e (Some sent) e.sent_body (now / 1000) text
     keep true written (head_bytes (reply_head sent text keep)) w.writes
     (ap (λ x. w.taking ++ coming x new.reply.writer) h.sent_body ∙ append-nil w.taking ∙ bytes
     ∙ ap (λ x. coming x old.reply.writer ++ head_bytes (reply_head sent text keep))
@@ -233,7 +236,7 @@ pub headed_allowed : {L C : Type 0} (gives : Given → Reply → Type 0) (state 
     (sent : ResponseView) (text : List ℕ) (keep : Bool) (written : ℕ)
     (h : AtTakeHeader e old) → WritesHeader state old new h.request (Some h.reply.header) now
     outcome
-    → sent ≡ h.reply.header → IsDateAt (now / 1000) text → now < 253402300800000
+    → sent ≡ h.reply.header → IsDateAt (now / 1000) text → now < YEAR_10000
     → keep ≡ new.reply.keep
     → LawfulReplies gives → IsAllowed gives e
     → IsAllowed gives (headed_as e sent (now / 1000) text keep written)
@@ -263,7 +266,7 @@ headed_allowed gives state old new e now outcome sent text keep written h w is d
       owed = λ owed. refl;
     }
 
--- the exchange behind the call
+-- the exchange after the call
 headed_replied : {L C : Type 0} (state : L → LinkState) (old new : SessionView L C) (e : Entry)
     (now : ℕ) (outcome : Poll (Result (Unit {0}) Error))
     (sent : ResponseView) (date : ℕ) (text : List ℕ) (keep : Bool) (written : ℕ)

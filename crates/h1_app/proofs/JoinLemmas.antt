@@ -14,17 +14,17 @@ use Rattle.h1_body.specs.declared.reader.BodyReader.{BodyReader}
 use Rattle.h1_body.proofs.ReadLemmas.{read_is}
 use Rattle.h1_body.proofs.LawLemmas.{bodies_grow}
 use Rattle.h1_server.specs.SessionView.{SessionView}
-use Rattle.h1_server.specs.declared.body.BodyState.{BodyState}
-use Rattle.h1_app.specs.declared.application.Reply.{Reply}
-use Rattle.h1_app.specs.declared.transcript.Entry.{Entry}
-use Rattle.h1_app.specs.Behind.{ReadBehind, WroteBehind, AfterRead, AfterWrote, DoneBehind, IsDoneAt, FlushedBy, StoodAs, written_of}
-use Rattle.h1_app.specs.Exchange.{render}
+use Rattle.h1_transfer.specs.declared.body.BodyState.{BodyState}
+use Rattle.h1_transcript.specs.declared.reply.Reply.{Reply}
+use Rattle.h1_transcript.specs.declared.transcript.Entry.{Entry}
+use Rattle.h1_transcript.specs.Behind.{ReadBehind, WroteBehind, AfterRead, AfterWrote, DoneBehind, IsDoneAt, FlushedBy, StoodAs, written_of}
+use Rattle.h1_transcript.specs.Exchange.{render}
 use Rattle.h1_app.specs.Joins.{IsEnded, IsRestarted}
-use Rattle.h1_app.specs.Since.{Since, ReadEntry, ReadSo, WroteSo, StoodSo}
-use Rattle.h1_app.proofs.BehindLemmas.{told_map}
+use Rattle.h1_app.specs.Accounted.{Accounted, ReadEntry, ReadSo, WroteSo, StoodSo}
+use Rattle.h1_transcript.proofs.BehindLemmas.{told_map}
 use Rattle.h1_app.proofs.StoodLemmas.{stood_as}
 
--- a request that was read whole, behind the others
+-- a request that was read whole, after the others
 pub read_join : (done : List Entry) (since rest : List ℕ) (e : Entry) (n k : ℕ) → ReadBehind since done rest
     → HeadAt rest n e.head e.both → body (framing e.head) (drop n rest) ≡ whole e.body k
     → e.body_error ≡ None → IfSome e.reply (λ reply. StoodAs e.how e (whole e.body k))
@@ -33,7 +33,7 @@ read_join [] since rest e n k h head is unrefused stood = rw h (n, head, k, is, 
 read_join (f ∷ more) since rest e n k h head is unrefused stood =
     (h.0, h.1, h.2, h.3, h.4, h.5, read_join more (drop h.2 (drop h.0 since)) rest e n k h.6 head is unrefused stood)
 
--- a reply that was written whole, behind the others
+-- a reply that was written whole, after the others
 pub wrote_join : (done : List Entry) (since later : List ℕ) (e : Entry) → WroteBehind since done (render e ++ later)
     → e.written ≡ min (length (render e)) (2 ^ 64 - 1) → WroteBehind since (done ++ e ∷ []) later
 wrote_join [] since later e h count = (later, h, count, refl)
@@ -52,7 +52,7 @@ done_join flushed total (f ∷ more) e h is =
     let same : total + (f.written + written_of more + e.written) ≡ total + f.written + (written_of more + e.written) = omega arith in
     (h.0, done_join flushed (total + f.written) more e h.1 (subst (λ n. IsDoneAt flushed n e) same is))
 
--- a body of which nothing is to come stays whole, whatever stands behind it
+-- a body of which nothing is to come stays whole, whatever stands after it
 body_ended : (f : Framing) (used received payload : List ℕ) (reader : BodyReader) → HasRead f used payload reader
     → reads reader [] ≡ whole [] 0 → body f (used ++ received) ≡ whole payload (length used)
 body_ended f used received payload reader read is =
@@ -75,7 +75,7 @@ stood_ended e used received now (Some reply) read is h =
     subst (λ b. StoodAs e.how e b) (sym (read.read received) ∙ body_ended (framing e.head) used received e.body now.reader read is)
     (stood_as e.how e used received now read h)
 
--- what is read behind the exchange is what is received
+-- what is read after the exchange is what is received
 read_ended : {L C : Type 0} (old new : SessionView L C) (done : List Entry) (e : Entry) (since : List ℕ)
     → IsEnded old e → IsRestarted old new → AfterRead done (λ rest. ReadEntry rest e old) since
     → AfterRead (done ++ e ∷ []) (λ rest. ReadSo rest new None) since
@@ -116,10 +116,10 @@ flushed_ended None owed P some none h = absurd (false≢true some)
 flushed_ended (Some head) owed P some none h = h none
 
 -- an exchange that is whole joins those that ended
-pub since_joined : {L C : Type 0} (state : L → LinkState) (before : LinkState) (old new : SessionView L C) (done : List Entry) (e : Entry)
+pub accounted_joined : {L C : Type 0} (state : L → LinkState) (before : LinkState) (old new : SessionView L C) (done : List Entry) (e : Entry)
     → IsEnded old e → IsRestarted old new
-    → Since state before old done (Some e) → Since state before new (done ++ e ∷ []) None
-since_joined state before old new done e ended again s = rw again.link (record {
+    → Accounted state before old done (Some e) → Accounted state before new (done ++ e ∷ []) None
+accounted_joined state before old new done e ended again s = rw again.link (record {
   later = s.later;
   read = told_map before.given (state old.link).given (AfterRead done (λ rest. ReadEntry rest e old)) (AfterRead (done ++ e ∷ []) (λ rest. ReadSo rest new None))
       (λ since h. read_ended old new done e since ended again h) s.read;

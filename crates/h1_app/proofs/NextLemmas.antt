@@ -7,27 +7,28 @@ use Rattle.h1_head.specs.Views.{RequestView}
 use Rattle.h1_server.specs.Reuse.{AwaitsNext, one_less}
 use Rattle.h1_server.specs.SessionView.{SessionView}
 use Rattle.h1_server.specs.declared.settings.Settings.{Settings}
-use Rattle.h1_app.specs.declared.application.Reply.{Reply}
-use Rattle.h1_app.specs.declared.transcript.Entry.{Entry}
-use Rattle.h1_app.specs.declared.transcript.Transcript.{Transcript}
+use Rattle.h1_transcript.specs.declared.reply.Reply.{Reply}
+use Rattle.h1_transcript.specs.declared.transcript.Entry.{Entry}
+use Rattle.h1_transcript.specs.declared.transcript.Transcript.{Transcript}
 use Rattle.h1_app.specs.declared.exchange.Stage.{Stage}
 use Rattle.h1_app.specs.declared.exchange.Stage.TheVariants as stage
 use Rattle.h1_app.specs.declared.exchange.Outcome.{Outcome}
 use Rattle.h1_app.specs.declared.exchange.Outcome.TheVariants as outcome
-use Rattle.h1_app.specs.Application.{Given}
-use Rattle.h1_app.specs.Begun.{AreBegun, IsNextSet, reuses_at}
+use Rattle.h1_transcript.specs.Given.{Given}
+use Rattle.h1_transcript.specs.Begun.{AreBegun, IsNextSet, reuses_at}
 use Rattle.h1_app.specs.Draining.{IsLastOver, JoinsNext}
-use Rattle.h1_app.specs.Exchange.{IsAllowed}
-use Rattle.h1_app.specs.Gone.{Gone, TurnCause, outcome_end}
-use Rattle.h1_app.specs.Growth.{Extends}
+use Rattle.h1_transcript.specs.Exchange.{IsAllowed}
+use Rattle.h1_app.specs.Turn.{Gone, TurnCause, outcome_end}
+use Rattle.h1_transcript.specs.Growth.{Extends}
 use Rattle.h1_app.specs.Joins.{IsEnded, IsRestarted}
-use Rattle.h1_app.specs.Sound.{Sound, SoundStage, IsDraining, IsOver}
-use Rattle.h1_app.specs.Turns.{ahead}
-use Rattle.h1_app.specs.Waits.{WaitsFew, replies}
+use Rattle.h1_app.specs.Sound.{Sound, SoundStage, IsDraining, IsOver, IsUnwritten}
+use Rattle.h1_app.specs.Pace.{ahead}
+use Rattle.h1_app.specs.Waits.{FewReadsNotReady}
+use Rattle.h1_transcript.specs.Entries.{replies}
 use Rattle.h1_app.proofs.GoneLemmas.{job_itself}
-use Rattle.h1_app.proofs.ReplyLemmas.{went_none}
-use Rattle.h1_app.proofs.GrowthLemmas.{extends_itself}
-use Rattle.h1_app.proofs.JoinLemmas.{since_joined}
+use Rattle.h1_app.proofs.ReplyLemmas.{moves_none}
+use Rattle.h1_transcript.proofs.GrowthLemmas.{extends_itself}
+use Rattle.h1_app.proofs.JoinLemmas.{accounted_joined}
 use Rattle.h1_app.proofs.TurnLemmas.{at_view, all_join, pipelining_last, reuses_last}
 
 ended_is : {L C : Type 0} (session : SessionView L C) (e : Entry) → IsDraining e session → IsOver e session → IsEnded session e
@@ -47,11 +48,11 @@ ended_is session e d o = record {
 
 restarted_is : {L C : Type 0} (old new : SessionView L C) → AwaitsNext old new → IsRestarted old new
 restarted_is old new a = record {
-  link = a.link;
-  received = a.received;
-  request = a.request;
-  owed = a.reply.0;
-  sent = a.reply.4;
+  link = ap (λ s. s.link) a.rest;
+  received = ap (λ s. s.received) a.rest;
+  request = ap (λ s. s.request) a.rest;
+  owed = ap (λ s. s.reply.owed) a.rest;
+  sent = ap (λ s. s.reply.sent) a.rest;
 }
 
 -- one request fewer may follow each request than the one before
@@ -64,7 +65,7 @@ next_set : {L C : Type 0} (limit : Option ℕ) (old new : SessionView L C) (done
     → AwaitsNext old new → e.left.reuses ≡ e.began.reuses → AreBegun limit 0 false (done ++ e ∷ [])
     → IsNextSet limit (done ++ e ∷ []) new.settings
 next_set limit old new done e d a reuses begun =
-    let settings = a.settings in
+    let settings = ap (λ s. s.settings) a.rest in
     let left : old.settings.reuses ≡ reuses_at limit (0 + length done) =
     ap (λ (s : Settings). s.reuses) (sym d.left) ∙ reuses ∙ reuses_last limit 0 false done e begun in
     let more : 0 + length done + 1 ≡ length (done ++ e ∷ []) = omega (arith, length-append done (e ∷ [])) in
@@ -87,12 +88,12 @@ sound_joined gives runs limit old new done e s d a = record {
   stage = (
     refl,
     record {
-      request = a.request;
-      refused = a.refused;
-      unwritten = record { owed = a.reply.0; free = a.reply.1; headed = a.reply.2; refused = a.reply.3; sent = a.reply.4 };
-      kept = a.body.0;
-      body_refused = a.body.1;
-      waits = a.body.2;
+      request = ap (λ s. s.request) a.rest;
+      refused = ap (λ s. s.refused) a.rest;
+      unwritten = subst IsUnwritten (sym (ap (λ s. s.reply) a.rest)) (record { owed = refl; free = refl; headed = refl; refused = refl; sent = refl });
+      kept = ap (λ b. b.kept) a.body.rest;
+      body_refused = ap (λ b. b.refused) a.body.rest;
+      waits = ap (λ b. b.waits) a.body.rest;
     },
   );
   next = next_set limit old new done e d a s.allowed.reuses s.begun;
@@ -105,9 +106,9 @@ gone_joined : {L C A J : Type 0} (state : L → LinkState) (begins : J → Type 
 gone_joined state begins pends same_plan now shutdown app limit old new done e before after plan d o a = record {
   app = refl;
   limit = refl;
-  plan = rw a.link plan;
-  went = went_none state old new a.link a.budget a.context;
-  since = λ since s. since_joined state since old new done e (ended_is old e d o) (restarted_is old new a) s;
+  plan = rw (ap (λ s. s.link) a.rest) plan;
+  moves = moves_none state old new (ap (λ s. s.link) a.rest) (ap (λ s. s.budget) a.rest) (ap (λ s. s.context) a.rest);
+  accounted = λ since s. accounted_joined state since old new done e (ended_is old e d o) (restarted_is old new a) s;
   extends = subst (λ xs. Extends now shutdown (state old.link) (state new.link) (done ++ e ∷ []) xs) (sym (append-nil (done ++ e ∷ [])))
       (extends_itself now shutdown (state old.link) (state new.link) (done ++ e ∷ []));
   longer = omega (arith, length-append done (e ∷ []));
@@ -115,7 +116,7 @@ gone_joined state begins pends same_plan now shutdown app limit old new done e b
 }
 
 few_joined : {L C : Type 0} (state : L → LinkState) (old new : SessionView L C) (done : List Entry) (e : Entry) → new.link ≡ old.link
-    → WaitsFew (state old.link) (state new.link) (done ++ e ∷ []) ((done ++ e ∷ []) ++ []) outcome.Done
+    → FewReadsNotReady (state old.link) (state new.link) (done ++ e ∷ []) ((done ++ e ∷ []) ++ []) outcome.Done
 few_joined state old new done e link =
     rw link (subst (λ xs. (state old.link).read_waits + replies (done ++ e ∷ []) ≤ (state old.link).read_waits + replies xs)
     (sym (append-nil (done ++ e ∷ []))) (omega arith))
@@ -128,7 +129,7 @@ turned_joined : {L C A J : Type 0} (state : L → LinkState) (pends : J → ℕ)
     → AwaitsNext old new
     → TurnCause state pends (at_view app limit old done (Some e) stage.Next before) (at_view app limit new (done ++ e ∷ []) None stage.Head after) outcome.Done
 turned_joined {J = J} state pends app limit old new done e before after a =
-    (nearer old.budget new.budget J a.budget, λ same. absurd (omega (arith, same, length-append done (e ∷ []))))
+    (nearer old.budget new.budget J (ap (λ s. s.budget) a.rest), λ same. absurd (omega (arith, same, length-append done (e ∷ []))))
 
 -- where there is no memory, all stays but the end
 gone_stays : {L C A J : Type 0} (state : L → LinkState) (begins : J → Type 0) (pends : J → ℕ) (same_plan : L → L → Type 0) (now : ℕ) (shutdown : Bool)
@@ -139,8 +140,8 @@ gone_stays state begins pends same_plan now shutdown app limit session done last
   app = refl;
   limit = refl;
   plan = plan;
-  went = went_none state session session refl refl refl;
-  since = λ since s. s;
+  moves = moves_none state session session refl refl refl;
+  accounted = λ since s. s;
   extends = extends_itself now shutdown (state session.link) (state session.link) (done ++ option_to_list last);
   longer = omega arith;
   job = record { same = λ same. job_itself begins pends at; later = λ less. absurd (omega (arith, less)) };
@@ -183,9 +184,9 @@ gone_next state begins pends same_plan now shutdown app limit old new before beh
 
 pub few_next : {L C J : Type 0} (state : L → LinkState) (old new : SessionView L C) (before behind : Transcript) (from to : Stage J) (result : Outcome)
     → IsLastOver old before.last → JoinsNext old new before behind from to result
-    → WaitsFew (state old.link) (state new.link) (before.done.items ++ option_to_list before.last) (behind.done.items ++ option_to_list behind.last) result
+    → FewReadsNotReady (state old.link) (state new.link) (before.done.items ++ option_to_list before.last) (behind.done.items ++ option_to_list behind.last) result
 few_next state old new before behind from to outcome.Done over h =
-    rw (h.1, h.2, over.1) (few_joined state old new before.done.items over.0 h.0.link)
+    rw (h.1, h.2, over.1) (few_joined state old new before.done.items over.0 (ap (λ s. s.link) h.0.rest))
 few_next state old new before behind from to (outcome.Waits what) over h = absurd h
 few_next state old new before behind from to (outcome.Ends (end.Failed error)) over h = rw (h.1, h.2, h.3) (omega arith)
 few_next state old new before behind from to (outcome.Ends _) over h = absurd h

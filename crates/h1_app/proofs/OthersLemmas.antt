@@ -1,21 +1,21 @@
 -- How many link calls of a connection moved no byte.
-use Rattle.std.proofs.Common.{◌≡◌, ℕ, ◌+◌, ◌*◌, ◌≤◌, List, [], ◌∷◌, ◌++◌, length, Bool, Option, Some, None, option_to_list, length-append, arith}
+use Rattle.std.proofs.Common.{◌≡◌, ℕ, ◌+◌, ◌*◌, ◌≤◌, List, [], ◌∷◌, ◌++◌, length, Bool, Option, Some, None, option_to_list, length-append, arith, ap}
 use Rattle.h1_error.specs.declared.progress.End.{End}
 use Rattle.h1_error.specs.declared.progress.End.TheVariants as end
 use Rattle.h1_link.specs.LinkState.{LinkState}
 use Rattle.h1_head.specs.Views.{RequestView}
 use Rattle.h1_server.specs.SessionView.{SessionView}
 use Rattle.h1_server.specs.declared.settings.Settings.{Settings}
-use Rattle.h1_app.specs.declared.transcript.Entry.{Entry}
-use Rattle.h1_app.specs.declared.transcript.Transcript.{Transcript}
+use Rattle.h1_transcript.specs.declared.transcript.Entry.{Entry}
+use Rattle.h1_transcript.specs.declared.transcript.Transcript.{Transcript}
 use Rattle.h1_app.specs.declared.exchange.Stage.{Stage}
 use Rattle.h1_app.specs.declared.exchange.Stage.TheVariants as stage
 use Rattle.h1_app.specs.declared.exchange.Outcome.{Outcome}
 use Rattle.h1_app.specs.declared.exchange.Outcome.TheVariants as outcome
 use Rattle.h1_app.specs.Draining.{IsLastOver, JoinsNext}
-use Rattle.h1_app.specs.Gone.{TurnOthers}
+use Rattle.h1_app.specs.Turn.{TurnOthers}
 use Rattle.h1_app.specs.Sound.{SoundStage}
-use Rattle.h1_app.specs.Turns.{ExtendsLast}
+use Rattle.h1_transcript.specs.Growth.{ExtendsLast}
 use Rattle.h1_app.specs.Waits.{OthersFew, still}
 use Rattle.h1_app.proofs.TurnLemmas.{at_view}
 
@@ -46,7 +46,7 @@ still_none runs session stage.Finish h = none_is _ h.0 h.1
 still_none runs session stage.Drain h = none_is _ h.0 h.1
 still_none runs session stage.Next h = none_is _ h.0 h.1
 
--- the calls of the stages that are behind are those of the exchange that is last
+-- the calls of the stages that are after are those of the exchange that is last
 still_last : {L C J : Type 0} (runs : J → RequestView → Settings → Settings → List ℕ → Type 0) (session : SessionView L C) (now : ℕ) (shutdown : Bool)
     (first second : LinkState) (last behind : Option Entry) (at : Stage J) → SoundStage runs session last at → ExtendsLast now shutdown first second last behind
     → still at ≤ 3 * length (option_to_list behind)
@@ -78,7 +78,7 @@ pub others_next : {L C A J : Type 0} (state : L → LinkState) (app : A) (limit 
     → IsLastOver old before.last → from ≡ stage.Next → JoinsNext old new before behind from to result
     → TurnOthers state (at_view app limit old before.done.items before.last from first) (at_view app limit new behind.done.items behind.last to second) result
 others_next state app limit old new before behind from to first second outcome.Done over is h =
-    rw (h.0.link, h.1, over.1, h.3, is) (others_joined (state old.link).others before.done.items over.0)
+    rw (ap (λ s. s.link) h.0.rest, h.1, over.1, h.3, is) (others_joined (state old.link).others before.done.items over.0)
 others_next state app limit old new before behind from to first second (outcome.Waits what) over is h = absurd h
 others_next state app limit old new before behind from to first second (outcome.Ends (end.Failed error)) over is h =
     rw (h.1, h.2, h.3, over.1, is) (others_stay (state old.link).others before.done.items over.0)

@@ -11,29 +11,32 @@ use Rattle.h1_link.specs.Counts.{Rose, RoseBy}
 use Rattle.h1_link.proofs.Laters.{later_on}
 use Rattle.h1_head.specs.Views.{ResponseView}
 use Rattle.h1_body.specs.Framing.{framing}
-use Rattle.h1_server.specs.Moved.{Moved}
-use Rattle.h1_server.specs.SessionView.{SessionView, allowance}
-use Rattle.h1_server.specs.Writes.{Writes, IsRefused}
-use Rattle.h1_server.specs.declared.body.BodyState.{BodyState}
+use Rattle.h1_transfer.specs.Moved.{Moved}
+use Rattle.h1_server.specs.SessionView.{SessionView}
+use Rattle.h1_transfer.specs.Budget.{allowance}
+use Rattle.h1_server.specs.Writes.{Writes}
+use Rattle.h1_transfer.specs.Writes.{IsRefused}
+use Rattle.h1_transfer.specs.declared.body.BodyState.{BodyState}
 use Rattle.h1_server.specs.declared.request.Request.{Request}
-use Rattle.h1_server.specs.declared.reply.ReplyState.{ReplyState}
-use Rattle.h1_server.specs.declared.reply.Step.{Step}
-use Rattle.h1_app.specs.declared.application.Reply.{Reply}
+use Rattle.h1_transfer.specs.declared.outgoing.Outgoing.{Outgoing}
+use Rattle.h1_transfer.specs.declared.outgoing.Step.{Step}
+use Rattle.h1_transcript.specs.declared.reply.Reply.{Reply}
 use Rattle.h1_app.specs.declared.exchange.Stage.{Stage}
-use Rattle.h1_app.specs.declared.transcript.Entry.{Entry}
-use Rattle.h1_app.specs.declared.transcript.How.{How}
-use Rattle.h1_app.specs.declared.transcript.How.TheVariants.{Open, Whole, Failed}
-use Rattle.h1_app.specs.Growth.{Grows, Stays, DatedAt, RepliedOn}
-use Rattle.h1_app.specs.Behind.{FlushedBy, IsBelow, written_of}
-use Rattle.h1_app.specs.Causes.{FailureCause}
-use Rattle.h1_app.specs.Exchange.{render}
-use Rattle.h1_app.specs.Since.{Since, ReadSo, WroteSo, coming, SettledSo, StoodSo}
+use Rattle.h1_transcript.specs.declared.transcript.Entry.{Entry}
+use Rattle.h1_transcript.specs.declared.transcript.How.{How}
+use Rattle.h1_transcript.specs.declared.transcript.How.TheVariants.{Open, Whole, Failed}
+use Rattle.h1_transcript.specs.Growth.{Grows, Stays, DatedAt, RepliedOn}
+use Rattle.h1_transcript.specs.Behind.{FlushedBy, IsBelow, written_of}
+use Rattle.h1_transcript.specs.Ends.{FailureCause}
+use Rattle.h1_transcript.specs.Exchange.{render}
+use Rattle.h1_app.specs.Accounted.{Accounted, ReadSo, WroteSo, coming, SettledSo, StoodSo}
 use Rattle.h1_app.specs.Sound.{IsAsked, IsReplied, IsHeaded}
-use Rattle.h1_app.specs.Turns.{Went, ahead, place}
-use Rattle.h1_app.proofs.BehindLemmas.{read_same, wrote_on, flushed_on}
-use Rattle.h1_app.proofs.GrowthLemmas.{refused_same}
-use Rattle.h1_app.proofs.SinceLemmas.{stopped_on}
-use Rattle.h1_server.proofs.MovedLemmas.{moved_itself}
+use Rattle.h1_app.specs.Step.{MovesWithin}
+use Rattle.h1_app.specs.Pace.{ahead, place}
+use Rattle.h1_transcript.proofs.BehindLemmas.{read_same, wrote_on, flushed_on}
+use Rattle.h1_transcript.proofs.GrowthLemmas.{refused_same}
+use Rattle.h1_app.proofs.AccountedLemmas.{stopped_on}
+use Rattle.h1_transfer.proofs.MovedLemmas.{moved_itself}
 
 pub at_none : {A : Type 0} (P : Type 0) (o : Option A) → o ≡ None → IfNone o P → P
 at_none P o e h = rw e at h
@@ -70,8 +73,8 @@ budget_left (Some all) next left some e within =
     (e ∙ ap Some (sym same), omega arith)
 
 -- nothing was moved
-pub went_none : {L C : Type 0} (state : L → LinkState) (old new : SessionView L C) → new.link ≡ old.link → new.budget ≡ old.budget → new.context ≡ old.context → Went state old new
-went_none state old new link budget context = record {
+pub moves_none : {L C : Type 0} (state : L → LinkState) (old new : SessionView L C) → new.link ≡ old.link → new.budget ≡ old.budget → new.context ≡ old.context → MovesWithin state old new
+moves_none state old new link budget context = record {
   read = [];
   wrote = [];
   spent = 0;
@@ -88,10 +91,10 @@ went_none state old new link budget context = record {
   some None = tt
   some (Some left) = omega arith
 
-pub went_wrote : {L C : Type 0} (state : L → LinkState) (old new : SessionView L C) (taking : List ℕ)
+pub moves_wrote : {L C : Type 0} (state : L → LinkState) (old new : SessionView L C) (taking : List ℕ)
     (left : ℕ)
-    → IsSome old.budget → Writes state old new taking left → Went state old new
-went_wrote state old new taking left some w =
+    → IsSome old.budget → Writes state old new taking left → MovesWithin state old new
+moves_wrote state old new taking left some w =
     let spent = budget_left old.budget new.budget left some w.budget w.sent.within in
     record {
       read = [];
@@ -100,12 +103,12 @@ went_wrote state old new taking left some w =
       moved = w.sent.moved;
       budget = spent.0;
       within = spent.1;
-      context = w.context;
+      context = (ap (λ s. s.context) w.rest);
     }
 
 -- fewer steps may follow where the stage's place goes down
 pub ahead_down : {L C J : Type 0} (state : L → LinkState) (old new : SessionView L C) (from to : Stage J)
-    → Went state old new → place to < place from → ahead new.budget to < ahead old.budget from
+    → MovesWithin state old new → place to < place from → ahead new.budget to < ahead old.budget from
 ahead_down state old new from to went less =
     subst (λ b. ahead b to < ahead old.budget from) (sym went.budget) (falls old.budget)
   where
@@ -115,7 +118,7 @@ ahead_down state old new from to went less =
 
 -- and where a byte was moved
 ahead_moved : {L C J : Type 0} (state : L → LinkState) (old new : SessionView L C) (from to : Stage J)
-    → (went : Went state old new) → IsSome old.budget → 0 < length went.wrote → place to < place from + 10
+    → (went : MovesWithin state old new) → IsSome old.budget → 0 < length went.wrote → place to < place from + 10
     → ahead new.budget to < ahead old.budget from
 ahead_moved state old new from to went some wrote less =
     subst (λ b. ahead b to < ahead old.budget from) (sym went.budget)
@@ -135,9 +138,9 @@ pub ahead_wrote : {L C J : Type 0} (state : L → LinkState) (old new : SessionV
     (from to : Stage J)
     → IsSome old.budget → (w : Writes state old new taking left) → 0 < length w.sent.piece → place to < place from + 10
     → ahead new.budget to < ahead old.budget from
-unfolding went_wrote
+unfolding moves_wrote
 ahead_wrote state old new taking left from to some w wrote less =
-    ahead_moved state old new from to (went_wrote state old new taking left some w) some wrote less
+    ahead_moved state old new from to (moves_wrote state old new taking left some w) some wrote less
 
 -- why a write waits
 pub waits_why : {L C : Type 0} (state : L → LinkState) (old new : SessionView L C) (taking : List ℕ)
@@ -227,7 +230,7 @@ rose_on : (front old new by before mid now : ℕ) → new ≡ min (old + by) (2 
 rose_on front old new by before mid now counted one two = omega arith
 
 -- a call that writes goes on with what was read and written since
-pub since_wrote : {L C : Type 0} (state : L → LinkState) (before : LinkState) (done : List Entry)
+pub accounted_wrote : {L C : Type 0} (state : L → LinkState) (before : LinkState) (done : List Entry)
     (old new : SessionView L C) (taking : List ℕ) (left : ℕ)
     (e : Entry) (head : Option ResponseView) (body : Option (List ℕ)) (date : ℕ) (text : List ℕ)
     (keep owed : Bool) (written : ℕ) (extra : List ℕ)
@@ -235,9 +238,9 @@ pub since_wrote : {L C : Type 0} (state : L → LinkState) (before : LinkState) 
     → taking ++ coming body new.reply.writer ≡ coming e.sent_body old.reply.writer ++ extra
     → render (replying e head body date text keep owed written) ≡ render e ++ extra
     → SettledSo before (state new.link) done (Some (replying e head body date text keep owed written))
-    → Since state before old done (Some e)
-    → Since state before new done (Some (replying e head body date text keep owed written))
-since_wrote {L} {C} state before done old new taking left e head body date text keep owed written extra w
+    → Accounted state before old done (Some e)
+    → Accounted state before new done (Some (replying e head body date text keep owed written))
+accounted_wrote {L} {C} state before done old new taking left e head body date text keep owed written extra w
     takes renders settled s =
     let f : Entry = replying e head body date text keep owed written in
     let moved : Moved (state old.link) (state new.link) [] w.sent.piece
@@ -251,9 +254,9 @@ since_wrote {L} {C} state before done old new taking left e head body date text 
             used = h.used;
             head = h.head;
             bytes = h.bytes ∙ ap
-                (λ xs. h.used ++ xs) (sym w.received);
-            decoded = rw w.body h.decoded;
-            stood = stood_on e.reply e.how e f old.body new.body refl refl refl refl w.body h.stood;
+                (λ xs. h.used ++ xs) (sym (ap (λ s. s.received) w.rest));
+            decoded = rw (ap (λ s. s.body) w.rest) h.decoded;
+            stood = stood_on e.reply e.how e f old.body new.body refl refl refl refl (ap (λ s. s.body) w.rest) h.stood;
           }) s.read;
       wrote = wrote_on done before.written (state old.link).written (state new.link).written w.sent.piece
           (λ rest. WroteSo rest old (Some e) × (old.reply.sent ≡ min (length rest) (2 ^ 64 - 1)))
@@ -266,7 +269,7 @@ since_wrote {L} {C} state before done old new taking left e head body date text 
             count_on old.reply.sent new.reply.sent (length w.sent.piece) (length rest) _ w.counted h.1
                 (length-append rest w.sent.piece),
           )) s.wrote;
-      stopped = stopped_on state old new e.body_error w.body w.received moved.later s.stopped;
+      stopped = stopped_on state old new e.body_error (ap (λ s. s.body) w.rest) (ap (λ s. s.received) w.rest) moved.later s.stopped;
       flushed = flushed_on before (state old.link) (state new.link) 0 done moved.later.flushed s.flushed;
       settled = settled;
       out = rose_on (written_of done) old.reply.sent new.reply.sent (length w.sent.piece) _ _ _ w.counted s.out
@@ -274,14 +277,14 @@ since_wrote {L} {C} state before done old new taking left e head body date text 
     }
 
 -- a call that takes nothing up
-pub since_goes_on : {L C : Type 0} (state : L → LinkState) (before : LinkState) (done : List Entry)
+pub accounted_goes_on : {L C : Type 0} (state : L → LinkState) (before : LinkState) (done : List Entry)
     (old new : SessionView L C) (taking : List ℕ) (left : ℕ)
     (e : Entry) (owed : Bool) (written : ℕ)
     → Writes state old new taking left → taking ≡ [] → new.reply.writer ≡ old.reply.writer → owed ≡ true
-    → Since state before old done (Some e)
-    → Since state before new done (Some (record e { owed = owed; written = written }))
-since_goes_on state before done old new taking left e owed written w none same unflushed s =
-    since_wrote state before done old new taking left e e.sent_head e.sent_body e.date e.date_text e.keep
+    → Accounted state before old done (Some e)
+    → Accounted state before new done (Some (record e { owed = owed; written = written }))
+accounted_goes_on state before done old new taking left e owed written w none same unflushed s =
+    accounted_wrote state before done old new taking left e e.sent_head e.sent_body e.date e.date_text e.keep
     owed written [] w
     (ap (λ xs. xs ++ coming e.sent_body new.reply.writer) none ∙ ap (coming e.sent_body) same ∙ sym
     (append-nil (coming e.sent_body old.reply.writer)))
@@ -343,22 +346,22 @@ pub replied_on : {L C : Type 0} (state : L → LinkState) (old new : SessionView
 replied_on state old new taking left e head body date text keep owed written request reply w count
     r = record {
       asked = record {
-        is = w.request ∙ r.asked.is;
+        is = (ap (λ s. s.request) w.rest) ∙ r.asked.is;
         header = r.asked.header;
         both = r.asked.both;
         wish = r.asked.wish;
-        reuses = rw w.settings r.asked.reuses;
-        body_error = rw w.body r.asked.body_error;
+        reuses = rw (ap (λ s. s.settings) w.rest) r.asked.reuses;
+        body_error = rw (ap (λ s. s.body) w.rest) r.asked.body_error;
         handed = r.asked.handed;
         filtered = r.asked.filtered;
-        kept = rw w.body r.asked.kept;
-        waits = rw w.body r.asked.waits;
+        kept = rw (ap (λ s. s.body) w.rest) r.asked.kept;
+        waits = rw (ap (λ s. s.body) w.rest) r.asked.waits;
         written = count;
         limit = omega (arith, w.counted, count);
       };
       is = r.is;
-      how = rw w.body r.how;
-      left = r.left ∙ sym w.settings;
+      how = rw (ap (λ s. s.body) w.rest) r.how;
+      left = r.left ∙ sym (ap (λ s. s.settings) w.rest);
     }
 
 pub more_written : {L C : Type 0} (state : L → LinkState) (old new : SessionView L C) (taking : List ℕ)
@@ -383,7 +386,7 @@ headed_on old new e f reply head keep owed headed kept refused h = record {
 }
 
 -- a write that was refused has its cause
-pub refused_cause : (before old now : LinkState) (done : List Entry) (reply : ReplyState) (step : Step)
+pub refused_cause : (before old now : LinkState) (done : List Entry) (reply : Outgoing) (step : Step)
     (last : Option Entry) (error : Error) (k : ErrorType)
     → IsRefused old now reply step error k → FailureCause before old now done last error k
 refused_cause before old now done reply step last error kind.WriteError h = h.0

@@ -1,26 +1,26 @@
--- A connection stays sound where only its link changed.
+-- A connection stays sound where only its link and its budget changed.
 use Rattle.std.proofs.Common.{ℕ, List, Option, IfSome, IfNone, Some, None}
 use Rattle.h1_error.specs.declared.progress.End.{End}
 use Rattle.h1_head.specs.Views.{RequestView}
 use Rattle.h1_server.specs.SessionView.{SessionView}
-use Rattle.h1_server.specs.declared.reply.Step.{Step}
-use Rattle.h1_server.specs.declared.reply.Step.TheVariants as step
+use Rattle.h1_transfer.specs.declared.outgoing.Step.{Step}
+use Rattle.h1_transfer.specs.declared.outgoing.Step.TheVariants as step
 use Rattle.h1_server.specs.declared.request.Request.{Request}
 use Rattle.h1_server.specs.declared.settings.Settings.{Settings}
-use Rattle.h1_app.specs.declared.application.Reply.{Reply}
-use Rattle.h1_app.specs.declared.transcript.Entry.{Entry}
+use Rattle.h1_transcript.specs.declared.reply.Reply.{Reply}
+use Rattle.h1_transcript.specs.declared.transcript.Entry.{Entry}
 use Rattle.h1_app.specs.declared.exchange.Stage.{Stage}
 use Rattle.h1_app.specs.declared.exchange.Stage.TheVariants as stage
-use Rattle.h1_app.specs.Application.{Given}
+use Rattle.h1_transcript.specs.Given.{Given}
 use Rattle.h1_app.specs.Sound.{Sound, SoundStage, IsAsked, IsReplied, IsHeaded, IsFinishing, IsDraining, IsKept}
 
--- the session with another link
-abbrev relinked : {L C : Type 0} → SessionView L C → L → SessionView L C
-relinked session link = record session { link = link }
+-- the session with another link and budget
+abbrev relinked : {L C : Type 0} → SessionView L C → L → Option ℕ → SessionView L C
+relinked session link budget = record session { link = link; budget = budget }
 
-asked_linked : {L C : Type 0} (session : SessionView L C) (link : L) (e : Entry) (request : Request)
-    → IsAsked e session request → IsAsked e (relinked session link) request
-asked_linked session link e request h = record {
+asked_linked : {L C : Type 0} (session : SessionView L C) (link : L) (budget : Option ℕ) (e : Entry) (request : Request)
+    → IsAsked e session request → IsAsked e (relinked session link budget) request
+asked_linked session link budget e request h = record {
   is = h.is;
   header = h.header;
   both = h.both;
@@ -35,26 +35,26 @@ asked_linked session link e request h = record {
   limit = h.limit;
 }
 
-replied_linked : {L C : Type 0} (session : SessionView L C) (link : L) (e : Entry) (request : Request) (reply : Reply)
-    → IsReplied e session request reply → IsReplied e (relinked session link) request reply
-replied_linked session link e request reply h =
-    record { asked = asked_linked session link e request h.asked; is = h.is; how = h.how; left = h.left }
+replied_linked : {L C : Type 0} (session : SessionView L C) (link : L) (budget : Option ℕ) (e : Entry) (request : Request) (reply : Reply)
+    → IsReplied e session request reply → IsReplied e (relinked session link budget) request reply
+replied_linked session link budget e request reply h =
+    record { asked = asked_linked session link budget e request h.asked; is = h.is; how = h.how; left = h.left }
 
-headed_linked : {L C : Type 0} (session : SessionView L C) (link : L) (e : Entry) (reply : Reply)
-    → IsHeaded e session reply → IsHeaded e (relinked session link) reply
-headed_linked session link e reply h =
+headed_linked : {L C : Type 0} (session : SessionView L C) (link : L) (budget : Option ℕ) (e : Entry) (reply : Reply)
+    → IsHeaded e session reply → IsHeaded e (relinked session link budget) reply
+headed_linked session link budget e reply h =
     record { sent_head = h.sent_head; headed = h.headed; keep = h.keep; refused = h.refused; owed = h.owed }
 
-finishing_linked : {L C : Type 0} (session : SessionView L C) (link : L) (e : Entry) (reply : Reply) (at : Step)
-    → IsFinishing e session reply at → IsFinishing e (relinked session link) reply at
-finishing_linked session link e reply step.Free h = h
-finishing_linked session link e reply step.Finish h = h
-finishing_linked session link e reply step.Head h = absurd h
-finishing_linked session link e reply (step.Piece count) h = absurd h
+finishing_linked : {L C : Type 0} (session : SessionView L C) (link : L) (budget : Option ℕ) (e : Entry) (reply : Reply) (at : Step)
+    → IsFinishing e session reply at → IsFinishing e (relinked session link budget) reply at
+finishing_linked session link budget e reply step.Free h = h
+finishing_linked session link budget e reply step.Finish h = h
+finishing_linked session link budget e reply step.Head h = absurd h
+finishing_linked session link budget e reply (step.Piece count) h = absurd h
 
-draining_linked : {L C : Type 0} (session : SessionView L C) (link : L) (e : Entry)
-    → IsDraining e session → IsDraining e (relinked session link)
-draining_linked session link e h = record {
+draining_linked : {L C : Type 0} (session : SessionView L C) (link : L) (budget : Option ℕ) (e : Entry)
+    → IsDraining e session → IsDraining e (relinked session link budget)
+draining_linked session link budget e h = record {
   request = h.request;
   is = h.is;
   wish = h.wish;
@@ -66,6 +66,7 @@ draining_linked session link e h = record {
   headed = h.headed;
   keep = h.keep;
   framing = h.framing;
+  whole = h.whole;
   nothing = h.nothing;
   free = h.free;
   reply_owed = h.reply_owed;
@@ -79,9 +80,9 @@ draining_linked session link e h = record {
   long = h.long;
 }
 
-stage_linked : {L C J : Type 0} (runs : J → RequestView → Settings → Settings → List ℕ → Type 0) (session : SessionView L C) (link : L) (last : Option Entry) (at : Stage J)
-    → SoundStage runs session last at → SoundStage runs (relinked session link) last at
-stage_linked runs session link last stage.Head h = (
+stage_linked : {L C J : Type 0} (runs : J → RequestView → Settings → Settings → List ℕ → Type 0) (session : SessionView L C) (link : L) (budget : Option ℕ) (last : Option Entry) (at : Stage J)
+    → SoundStage runs session last at → SoundStage runs (relinked session link budget) last at
+stage_linked runs session link budget last stage.Head h = (
   h.0,
   record {
     request = h.1.request;
@@ -92,12 +93,12 @@ stage_linked runs session link last stage.Head h = (
     waits = h.1.waits;
   },
 )
-stage_linked runs session link last (stage.Answer job) h = (
+stage_linked runs session link budget last (stage.Answer job) h = (
   h.0,
   h.1,
   record {
     request = h.2.request;
-    asked = asked_linked session link h.0 h.2.request h.2.asked;
+    asked = asked_linked session link budget h.0 h.2.request h.2.asked;
     unwritten = h.2.unwritten;
     reply = h.2.reply;
     sent_head = h.2.sent_head;
@@ -105,24 +106,24 @@ stage_linked runs session link last (stage.Answer job) h = (
   },
   h.3,
 )
-stage_linked runs session link last stage.TakeHeader h =
-    (h.0, h.1, h.2, h.3, replied_linked session link h.0 h.2 h.3 h.4, h.5, h.6, h.7)
-stage_linked runs session link last stage.Header h =
-    (h.0, h.1, h.2, h.3, replied_linked session link h.0 h.2 h.3 h.4, headed_linked session link h.0 h.3 h.5, h.6, h.7, h.8)
-stage_linked runs session link last stage.TakeBody h =
-    (h.0, h.1, h.2, h.3, replied_linked session link h.0 h.2 h.3 h.4, headed_linked session link h.0 h.3 h.5, h.6, h.7, h.8, h.9)
-stage_linked runs session link last stage.Body h =
-    (h.0, h.1, h.2, h.3, replied_linked session link h.0 h.2 h.3 h.4, headed_linked session link h.0 h.3 h.5, h.6, h.7, h.8)
-stage_linked runs session link last stage.Finish h =
-    (h.0, h.1, h.2, h.3, replied_linked session link h.0 h.2 h.3 h.4, headed_linked session link h.0 h.3 h.5, h.6, finishing_linked session link h.0 h.3 session.reply.step h.7)
-stage_linked runs session link last stage.Drain h = (h.0, h.1, draining_linked session link h.0 h.2)
-stage_linked runs session link last stage.Next h =
-    (h.0, h.1, draining_linked session link h.0 h.2, record { read = h.3.read; keep = h.3.keep; closes = h.3.closes; reusable = h.3.reusable })
+stage_linked runs session link budget last stage.TakeHeader h =
+    (h.0, h.1, h.2, h.3, replied_linked session link budget h.0 h.2 h.3 h.4, h.5, h.6, h.7)
+stage_linked runs session link budget last stage.Header h =
+    (h.0, h.1, h.2, h.3, replied_linked session link budget h.0 h.2 h.3 h.4, headed_linked session link budget h.0 h.3 h.5, h.6, h.7, h.8)
+stage_linked runs session link budget last stage.TakeBody h =
+    (h.0, h.1, h.2, h.3, replied_linked session link budget h.0 h.2 h.3 h.4, headed_linked session link budget h.0 h.3 h.5, h.6, h.7, h.8, h.9)
+stage_linked runs session link budget last stage.Body h =
+    (h.0, h.1, h.2, h.3, replied_linked session link budget h.0 h.2 h.3 h.4, headed_linked session link budget h.0 h.3 h.5, h.6, h.7, h.8)
+stage_linked runs session link budget last stage.Finish h =
+    (h.0, h.1, h.2, h.3, replied_linked session link budget h.0 h.2 h.3 h.4, headed_linked session link budget h.0 h.3 h.5, h.6, finishing_linked session link budget h.0 h.3 session.reply.step h.7)
+stage_linked runs session link budget last stage.Drain h = (h.0, h.1, draining_linked session link budget h.0 h.2)
+stage_linked runs session link budget last stage.Next h =
+    (h.0, h.1, draining_linked session link budget h.0 h.2, record { read = h.3.read; keep = h.3.keep; closes = h.3.closes; reusable = h.3.reusable })
 
 pub sound_linked : {L C J : Type 0} (gives : Given → Reply → Type 0) (runs : J → RequestView → Settings → Settings → List ℕ → Type 0) (limit : Option ℕ)
-    (session : SessionView L C) (link : L) (done : List Entry) (last : Option Entry) (at : Stage J) (end : Option End)
-    → Sound gives runs limit session done last at end → Sound gives runs limit (relinked session link) done last at end
-sound_linked {L} {C} {J} gives runs limit session link done last at end s = record {
+    (session : SessionView L C) (link : L) (budget : Option ℕ) (done : List Entry) (last : Option Entry) (at : Stage J) (end : Option End)
+    → Sound gives runs limit session done last at end → Sound gives runs limit (relinked session link budget) done last at end
+sound_linked {L} {C} {J} gives runs limit session link budget done last at end s = record {
   ended = s.ended;
   allowed = s.allowed;
   kept = kept last s.kept;
@@ -130,10 +131,10 @@ sound_linked {L} {C} {J} gives runs limit session link done last at end s = reco
   stage = stage_of end s.stage;
   next = s.next;
 } where
-  kept : (last : Option Entry) → IfSome last (IsKept session) → IfSome last (IsKept (relinked session link))
+  kept : (last : Option Entry) → IfSome last (IsKept session) → IfSome last (IsKept (relinked session link budget))
   kept None h = tt
   kept (Some e) h = h
 
-  stage_of : (end : Option End) → IfNone end (SoundStage runs session last at) → IfNone end (SoundStage runs (relinked session link) last at)
-  stage_of None h = stage_linked runs session link last at h
+  stage_of : (end : Option End) → IfNone end (SoundStage runs session last at) → IfNone end (SoundStage runs (relinked session link budget) last at)
+  stage_of None h = stage_linked runs session link budget last at h
   stage_of (Some reason) h = tt

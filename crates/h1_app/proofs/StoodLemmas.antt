@@ -14,14 +14,14 @@ use Rattle.h1_body.proofs.CountedLemmas.{counted_has, counted_lacks}
 use Rattle.h1_body.proofs.ReadLemmas.{read_is}
 use Rattle.h1_body.proofs.LawLemmas.{bodies_grow}
 use Rattle.h1_server.specs.Persistence.{is_whole}
-use Rattle.h1_server.specs.declared.body.BodyState.{BodyState}
-use Rattle.h1_server.proofs.BodyLemmas.{nothing_read}
-use Rattle.h1_app.specs.declared.transcript.Entry.{Entry}
-use Rattle.h1_app.specs.declared.transcript.How.{How}
-use Rattle.h1_app.specs.declared.transcript.How.TheVariants.{Open, Whole, Failed}
-use Rattle.h1_app.specs.Application.{how_stands, how_of}
-use Rattle.h1_app.specs.Behind.{IsBelow, StoodAs}
-use Rattle.h1_app.specs.Since.{StoodSo}
+use Rattle.h1_transfer.specs.declared.body.BodyState.{BodyState}
+use Rattle.h1_transfer.proofs.BodyLemmas.{nothing_read}
+use Rattle.h1_transcript.specs.declared.transcript.Entry.{Entry}
+use Rattle.h1_transcript.specs.declared.transcript.How.{How}
+use Rattle.h1_transcript.specs.declared.transcript.How.TheVariants.{Open, Whole, Failed}
+use Rattle.h1_application.specs.Application.{how_stands, how_of}
+use Rattle.h1_transcript.specs.Behind.{IsBelow, StoodAs}
+use Rattle.h1_app.specs.Accounted.{StoodSo}
 
 -- with a stated length and no end of the body, fewer bytes were handed in
 pub below : (f : Framing) (handed : ℕ) (used payload : List ℕ) (reader : BodyReader) (b : Body) → handed ≡ length payload

@@ -6,22 +6,24 @@ use Rattle.h1_link.specs.LinkState.{LinkState}
 use Rattle.h1_head.specs.Views.{RequestView}
 use Rattle.h1_server.specs.SessionView.{SessionView}
 use Rattle.h1_server.specs.declared.settings.Settings.{Settings}
-use Rattle.h1_app.specs.declared.application.Reply.{Reply}
-use Rattle.h1_app.specs.declared.transcript.Entry.{Entry}
+use Rattle.h1_transcript.specs.declared.reply.Reply.{Reply}
+use Rattle.h1_transcript.specs.declared.transcript.Entry.{Entry}
 use Rattle.h1_app.specs.declared.exchange.Stage.{Stage}
 use Rattle.h1_app.specs.declared.exchange.Stage.TheVariants as stage
 use Rattle.h1_app.specs.declared.exchange.Outcome.{Outcome}
 use Rattle.h1_app.specs.declared.exchange.Outcome.TheVariants as outcome
-use Rattle.h1_app.specs.Application.{Given}
-use Rattle.h1_app.specs.Begun.{AreBegun, BeginsWith, IsNextSet, IsSetAlike, IsSetFor, pipelining_behind, reuses_at}
-use Rattle.h1_app.specs.Exchange.{IsAllowed}
-use Rattle.h1_app.specs.Gone.{Gone, TurnCause, outcome_end}
-use Rattle.h1_app.specs.Since.{Since}
+use Rattle.h1_transcript.specs.Given.{Given}
+use Rattle.h1_transcript.specs.Begun.{AreBegun, BeginsWith, IsNextSet, IsSetAlike, IsSetFor, pipelining_behind, reuses_at}
+use Rattle.h1_transcript.specs.Exchange.{IsAllowed}
+use Rattle.h1_app.specs.Turn.{Gone, TurnCause, outcome_end}
+use Rattle.h1_app.specs.Accounted.{Accounted}
 use Rattle.h1_app.specs.Sound.{Sound, SoundStage, IsKept, IfAwaiting}
-use Rattle.h1_app.specs.Turns.{ExtendsLast, JobFrom, OutcomeCause, Went}
+use Rattle.h1_transcript.specs.Growth.{ExtendsLast}
+use Rattle.h1_app.specs.Step.{JobFrom, MovesWithin}
+use Rattle.h1_app.specs.Outcome.{OutcomeCause}
 use Rattle.h1_app.specs.View.{View}
-use Rattle.h1_app.specs.Waits.{WaitsFew}
-use Rattle.h1_app.proofs.GrowthLemmas.{extends_last, replies_append}
+use Rattle.h1_app.specs.Waits.{FewReadsNotReady}
+use Rattle.h1_transcript.proofs.GrowthLemmas.{extends_last, replies_append}
 
 -- what contracts see of a connection with these parts
 abbrev pub at_view : {L C A J : Type 0} → A → Option ℕ → SessionView L C → List Entry → Option Entry → Stage J → Option End → View L C A J
@@ -68,7 +70,7 @@ set_alike limit i pipelining old new h alike = record {
   reuses = alike.reuses ∙ h.reuses;
 }
 
--- each exchange began as the one before it left what is set, behind a step too
+-- each exchange began as the one before it left what is set, after a step too
 begun_stepped : (limit : Option ℕ) (now : ℕ) (shutdown : Bool) (first second : LinkState) (old new : Settings) (done : List Entry) (last behind : Option Entry)
     → AreBegun limit 0 false (done ++ option_to_list last) → ExtendsLast now shutdown first second last behind
     → BeginsWith old new last behind → (last ≡ None → IsNextSet limit done old) → AreBegun limit 0 false (done ++ option_to_list behind)
@@ -98,7 +100,7 @@ next_before runs session last stage.Finish P h p none = absurd (none_some last h
 next_before runs session last stage.Drain P h p none = absurd (none_some last h.0 none h.1)
 next_before runs session last stage.Next P h p none = absurd (none_some last h.0 none h.1)
 
--- and behind a step it is still set so
+-- and after a step it is still set so
 next_stepped : {L C J : Type 0} (runs : J → RequestView → Settings → Settings → List ℕ → Type 0) (limit : Option ℕ) (now : ℕ) (shutdown : Bool) (first second : LinkState)
     (old : Settings) (session : SessionView L C) (done : List Entry) (last behind : Option Entry) (to : Stage J)
     → SoundStage runs session behind to → ExtendsLast now shutdown first second last behind → BeginsWith old session.settings last behind
@@ -146,24 +148,24 @@ sound_stepped {L} {C} {J} gives runs limit state pends now shutdown old new done
 -- and the connection went on by it
 pub gone_stepped : {L C A J : Type 0} (state : L → LinkState) (begins : J → Type 0) (pends : J → ℕ) (same_plan : L → L → Type 0) (now : ℕ) (shutdown : Bool)
     (app : A) (limit : Option ℕ) (old new : SessionView L C) (done : List Entry) (last behind : Option Entry) (from to : Stage J) (before after : Option End)
-    → Went state old new → same_plan old.link new.link
-    → ((before : LinkState) (done : List Entry) → Since state before old done last → Since state before new done behind)
+    → MovesWithin state old new → same_plan old.link new.link
+    → ((before : LinkState) (done : List Entry) → Accounted state before old done last → Accounted state before new done behind)
     → ExtendsLast now shutdown (state old.link) (state new.link) last behind → JobFrom begins pends from to
     → Gone state begins pends same_plan now shutdown (at_view app limit old done last from before) (at_view app limit new done behind to after)
 gone_stepped state begins pends same_plan now shutdown app limit old new done last behind from to before after went plan since extends job = record {
   app = refl;
   limit = refl;
   plan = plan;
-  went = went;
-  since = λ before s. since before done s;
+  moves = went;
+  accounted = λ before s. since before done s;
   extends = extends_last now shutdown (state old.link) (state new.link) done last behind extends;
   longer = omega arith;
   job = record { same = λ same. job; later = λ less. absurd (omega (arith, less)) };
 }
 
 pub few_stepped : (old now : LinkState) (done : List Entry) (last behind : Option Entry) (result : Outcome)
-    → WaitsFew old now (option_to_list last) (option_to_list behind) result
-    → WaitsFew old now (done ++ option_to_list last) (done ++ option_to_list behind) result
+    → FewReadsNotReady old now (option_to_list last) (option_to_list behind) result
+    → FewReadsNotReady old now (done ++ option_to_list last) (done ++ option_to_list behind) result
 few_stepped old now done last behind outcome.Done h =
     omega (arith, h, replies_append done (option_to_list last), replies_append done (option_to_list behind))
 few_stepped old now done last behind _ h =

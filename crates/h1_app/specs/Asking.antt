@@ -7,11 +7,12 @@ use Rattle.h1_error.specs.declared.error.ErrorType.TheVariants.{NoMemory}
 use Rattle.h1_link.specs.LinkState.{LinkState}
 use Rattle.h1_link.specs.Counts.{Rose}
 use Rattle.h1_server.specs.SessionView.{SessionView}
-use Rattle.h1_app.specs.declared.application.Reply.{Reply}
-use Rattle.h1_app.specs.declared.transcript.Entry.{Entry}
+use Rattle.h1_transcript.specs.declared.reply.Reply.{Reply}
+use Rattle.h1_transcript.specs.declared.transcript.Entry.{Entry}
 use Rattle.h1_app.specs.declared.steps.answering.Asked.{Asked}
 use Rattle.h1_app.specs.declared.steps.answering.Asked.TheVariants as asked
-use Rattle.h1_app.specs.Application.{Given, ReadsOnly, payload_of, how_of}
+use Rattle.h1_transcript.specs.Given.{Given}
+use Rattle.h1_application.specs.Application.{ReadsOnly, payload_of, how_of}
 use Rattle.h1_app.specs.Sound.{lent}
 
 -- the exchange with what the session read for it

@@ -1,5 +1,6 @@
--- Reading what is left of a request's body behind its reply, and going on to the next request.
-use Rattle.std.specs.Prelude.{◌≡◌, ◌++◌, Bool, Option, None, Some, Result, option_to_list}
+-- Reading what is left of a request's body after its reply, and going on to the next request.
+use Rattle.std.specs.Prelude.{◌≡◌, ◌++◌, Bool, Option, None, Some, Result, option_to_list, true, false}
+use Rattle.h1_transfer.specs.Calls.{CallsFew, Fault, FaultsBy}
 use Rattle.futures.specs.declared.task.Poll.{Poll}
 use Rattle.h1_error.specs.declared.error.Error.{Error}
 use Rattle.h1_error.specs.declared.error.ErrorType.TheVariants.{NoMemory}
@@ -11,9 +12,9 @@ use Rattle.h1_app.specs.declared.exchange.Stage.{Stage}
 use Rattle.h1_app.specs.declared.exchange.Stage.TheVariants as stage
 use Rattle.h1_app.specs.declared.exchange.Outcome.{Outcome}
 use Rattle.h1_app.specs.declared.exchange.Outcome.TheVariants as outcome
-use Rattle.h1_app.specs.declared.transcript.Entry.{Entry}
-use Rattle.h1_app.specs.declared.transcript.Transcript.{Transcript}
-use Rattle.h1_app.specs.Application.{payload_of}
+use Rattle.h1_transcript.specs.declared.transcript.Entry.{Entry}
+use Rattle.h1_transcript.specs.declared.transcript.Transcript.{Transcript}
+use Rattle.h1_application.specs.Application.{payload_of}
 use Rattle.h1_app.specs.Sound.{lent, IsDraining, IsOver}
 
 -- the session was asked for its link's reuse as it is lent, and the payload went back to the exchange
@@ -22,6 +23,17 @@ pub record ReusesAs {L C : Type 0} (state : L → LinkState) (old new : SessionV
   pub reuses : ReusesBy state (lent old e.body) behind answer (keeps_alive old)
   pub session : new ≡ record behind { body = record behind.body { kept = None } }
   pub entry : noted ≡ record e { body = payload_of behind }
+
+-- a link that isn't kept is shut, and no other
+abbrev pub ShutUnless : Bool → Bool → Bool → Type 0
+ShutUnless true before now = now ≡ before
+ShutUnless false before now = now ≡ true
+
+-- what asking for the reuse of a link did to it beside moving bytes
+pub record CalledForReuse (before now : LinkState) (alive done : Bool) (fault : Fault) : Type 0 where
+  pub others : CallsFew before now done
+  pub faults : FaultsBy before now fault
+  pub shut : ShutUnless alive before.shut now.shut
 
 -- the last exchange of the transcript is over
 abbrev pub IsLastOver : {L C : Type 0} → SessionView L C → Option Entry → Type 0

@@ -3,10 +3,10 @@ use Rattle.std.specs.Prelude.{◌≡◌, [], true, false, None, IsSome}
 use Rattle.h1_body.specs.Body.{whole}
 use Rattle.h1_body.specs.Reader.{reads}
 use Rattle.h1_server.specs.SessionView.{SessionView}
-use Rattle.h1_app.specs.declared.transcript.Entry.{Entry}
-use Rattle.h1_app.specs.Behind.{is_until_close}
-use Rattle.h1_app.specs.Exchange.{is_short}
-use Rattle.h1_app.specs.Since.{coming}
+use Rattle.h1_transcript.specs.declared.transcript.Entry.{Entry}
+use Rattle.h1_transcript.specs.Behind.{is_until_close}
+use Rattle.h1_transcript.specs.Exchange.{is_short}
+use Rattle.h1_app.specs.Accounted.{coming}
 
 -- the request was read whole, and the reply was written whole and flushed
 pub record IsEnded {L C : Type 0} (session : SessionView L C) (e : Entry) : Type 0 where

@@ -19,7 +19,7 @@ applied settings session = record session {
   received = in_front settings.pipelined_prefix session.received;
 }
 
--- the settings with what was received behind the request
+-- the settings with what was received after the request
 abbrev pub with_prefix : {C : Type 0} → HttpPersistentSettings C → Option Filled → HttpPersistentSettings C
 with_prefix settings None = settings
 with_prefix settings (Some prefix) = record settings { pipelined_prefix = Some prefix }

@@ -6,27 +6,29 @@ use Rattle.h1_head.specs.Views.{RequestView}
 use Rattle.h1_head.specs.Wish.{wish}
 use Rattle.h1_body.specs.Writer as writer
 use Rattle.h1_body.specs.Writer.{WriterView, begun, after_piece}
+use Rattle.h1_server.specs.Reuse.{is_replied}
 use Rattle.h1_server.specs.SessionView.{SessionView}
 use Rattle.h1_body.specs.Framing.{out}
 use Rattle.h1_body.specs.Body.{whole}
 use Rattle.h1_body.specs.Reader.{reads}
-use Rattle.h1_app.specs.Begun.{AreBegun, IsNextSet}
-use Rattle.h1_app.specs.Behind.{is_until_close}
-use Rattle.h1_app.specs.Since.{coming}
+use Rattle.h1_transcript.specs.Begun.{AreBegun, IsNextSet}
+use Rattle.h1_transcript.specs.Behind.{is_until_close}
+use Rattle.h1_app.specs.Accounted.{coming}
 use Rattle.h1_server.specs.declared.settings.Settings.{Settings}
 use Rattle.h1_server.specs.declared.request.Request.{Request}
-use Rattle.h1_server.specs.declared.reply.ReplyState.{ReplyState}
-use Rattle.h1_server.specs.declared.reply.Step.{Step}
-use Rattle.h1_server.specs.declared.reply.Step.TheVariants as step
-use Rattle.h1_app.specs.declared.application.Reply.{Reply}
-use Rattle.h1_app.specs.declared.transcript.Entry.{Entry}
+use Rattle.h1_transfer.specs.declared.outgoing.Outgoing.{Outgoing}
+use Rattle.h1_transfer.specs.declared.outgoing.Step.{Step}
+use Rattle.h1_transfer.specs.declared.outgoing.Step.TheVariants as step
+use Rattle.h1_transcript.specs.declared.reply.Reply.{Reply}
+use Rattle.h1_transcript.specs.declared.transcript.Entry.{Entry}
 use Rattle.h1_app.specs.declared.exchange.Stage.{Stage}
 use Rattle.h1_app.specs.declared.exchange.Stage.TheVariants as stage
 use Rattle.h1_app.specs.declared.exchange.Outcome.{Outcome}
 use Rattle.h1_app.specs.declared.exchange.Outcome.TheVariants as outcome
 use Rattle.h1_error.specs.declared.progress.End.TheVariants as end
-use Rattle.h1_app.specs.Application.{Given, how_of}
-use Rattle.h1_app.specs.Exchange.{IsAllowed, is_short}
+use Rattle.h1_transcript.specs.Given.{Given}
+use Rattle.h1_application.specs.Application.{how_of}
+use Rattle.h1_transcript.specs.Exchange.{IsAllowed, is_short}
 use Rattle.h1_error.specs.declared.error.Error.{Error}
 use Rattle.h1_error.specs.declared.error.ErrorType.{ErrorType}
 use Rattle.h1_error.specs.declared.error.ErrorType.TheVariants.{PrematureBodyEnd, NoMemory}
@@ -36,7 +38,7 @@ abbrev pub lent : {L C : Type 0} → SessionView L C → List ℕ → SessionVie
 lent session payload = record session { body = record session.body { kept = Some payload } }
 
 -- nothing of a reply was taken up
-pub record IsUnwritten (reply : ReplyState) : Type 0 where
+pub record IsUnwritten (reply : Outgoing) : Type 0 where
   pub owed : reply.owed ≡ []
   pub free : reply.step ≡ step.Free
   pub headed : reply.headed ≡ false
@@ -122,6 +124,7 @@ pub record IsDraining {L C : Type 0} (e : Entry) (session : SessionView L C) : T
   pub headed : session.reply.headed ≡ true
   pub keep : e.keep ≡ session.reply.keep
   pub framing : session.reply.writer.framing ≡ Some (out e.head.method reply.header)
+  pub whole : is_replied session.reply ≡ true
   pub nothing : coming e.sent_body session.reply.writer ≡ []
   pub free : session.reply.step ≡ step.Free
   pub reply_owed : session.reply.owed ≡ []
@@ -192,7 +195,7 @@ pub record Sound {L C J : Type 0} (gives : Given → Reply → Type 0) (runs : J
   pub stage : IfNone end (SoundStage runs session last at)
   pub next : IfNone end (IfAwaiting at (IsNextSet limit done session.settings))
 
--- an exchange of which nothing was read behind its head
+-- an exchange of which nothing was read after its head
 pub record IsNewEntry (request : Request) (settings : Settings) (e : Entry) : Type 0 where
   pub head : e.head ≡ request.header
   pub both : e.both ≡ request.both

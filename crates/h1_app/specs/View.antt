@@ -2,8 +2,7 @@
 use Rattle.std.specs.Prelude.{◌≡◌, ℕ, List, [], ◌++◌, option_to_list, Option, Some, None}
 use Rattle.h1_error.specs.declared.progress.End.{End}
 use Rattle.h1_server.specs.SessionView.{SessionView}
-use Rattle.h1_app.specs.declared.transcript.Entry.{Entry}
-use Rattle.h1_app.specs.declared.transcript.Transcript.{Transcript}
+use Rattle.h1_transcript.specs.declared.transcript.Entry.{Entry}
 use Rattle.h1_app.specs.declared.exchange.Stage.{Stage}
 use Rattle.h1_app.specs.declared.options.HttpServerOptions.{HttpServerOptions}
 
@@ -21,10 +20,6 @@ pub record View (L C A J : Type 0) : Type 0 where
 -- the transcript
 abbrev pub entries : {L C A J : Type 0} → View L C A J → List Entry
 entries view = view.done ++ option_to_list view.last
-
--- the transcript as it is kept
-abbrev pub transcript_entries : Transcript → List Entry
-transcript_entries transcript = transcript.done.items ++ option_to_list transcript.last
 
 -- the limit that is set on a server
 abbrev pub limit_of : Option HttpServerOptions → Option ℕ

@@ -1,31 +1,23 @@
 -- How often reads of a connection were not ready, and how many of its link calls moved no byte.
-use Rattle.std.specs.Prelude.{ℕ, ◌+◌, ◌≤◌, List, [], ◌∷◌, Option, Some, None}
+use Rattle.std.specs.Prelude.{ℕ, ◌+◌, ◌≤◌, List}
 use Rattle.h1_link.specs.LinkState.{LinkState}
-use Rattle.h1_app.specs.declared.application.Reply.{Reply}
-use Rattle.h1_app.specs.declared.transcript.Entry.{Entry}
+use Rattle.h1_transcript.specs.declared.transcript.Entry.{Entry}
 use Rattle.h1_app.specs.declared.exchange.Stage.{Stage}
 use Rattle.h1_app.specs.declared.exchange.Stage.TheVariants as stage
 use Rattle.h1_app.specs.declared.exchange.Outcome.{Outcome}
 use Rattle.h1_app.specs.declared.exchange.Outcome.TheVariants as outcome
-
--- how many of these exchanges have a reply
-abbrev pub replies : List Entry → ℕ
-replies [] = 0
-replies (e ∷ more) = count e.reply + replies more where
-  count : Option Reply → ℕ
-  count None = 0
-  count (Some reply) = 1
+use Rattle.h1_transcript.specs.Entries.{replies}
 
 -- Reads that were not ready: at most one for each reply that was made, since the application may
 -- have met one and replied all the same, and one more where the connection waits or ends.
-abbrev pub WaitsFew : LinkState → LinkState → List Entry → List Entry → Outcome → Type 0
-WaitsFew old now before behind outcome.Done =
+abbrev pub FewReadsNotReady : LinkState → LinkState → List Entry → List Entry → Outcome → Type 0
+FewReadsNotReady old now before behind outcome.Done =
     now.read_waits + replies before ≤ old.read_waits + replies behind
-WaitsFew old now before behind _ =
+FewReadsNotReady old now before behind _ =
     now.read_waits + replies before ≤ old.read_waits + replies behind + 1
 
--- How many link calls of an exchange that goes on may have moved no byte in front of this stage: the
--- application's read, the flush behind the header, and the flush behind the body.
+-- How many link calls of an exchange that goes on may have moved no byte before this stage: the
+-- application's read, the flush after the header, and the flush after the body.
 abbrev pub still : {J : Type 0} → Stage J → ℕ
 still stage.Head = 0
 still (stage.Answer job) = 0
@@ -37,7 +29,7 @@ still stage.Finish = 2
 still stage.Drain = 3
 still stage.Next = 3
 
--- Link calls that moved no byte: those of the stages that are behind, and one more where the
+-- Link calls that moved no byte: those of the stages that are over, and one more where the
 -- connection waits or ends.
 abbrev pub OthersFew : {J : Type 0} → LinkState → LinkState → Stage J → Stage J → Outcome → Type 0
 OthersFew old now from to outcome.Done = now.others + still from ≤ old.others + still to

@@ -1,9 +1,10 @@
 //! The connection: it moves an exchange on, step by step.
 ghost use Rattle.std.specs.Prelude.{[], ◌≡◌, ◌<◌, ◌≤◌, ◌+◌, ◌*◌, length, IfOk, IfSome, IfNone, IsSome, IsOkAnd, None, Some};
+ghost use Rattle.h1_error.specs.declared.moment.TheConstants.{YEAR_10000};
 ghost use Rattle.h1_error.specs.declared.progress.Progress.TheVariants as answer;
-ghost use Rattle.h1_app.specs.Gone.{outcome_end};
+ghost use Rattle.h1_app.specs.Turn.{outcome_end};
 
-use crate::exchange::{Outcome, Stage};
+use crate::exchange::{Exchange, Outcome, Stage};
 use crate::steps::{next_exchange, step};
 use crate::{HttpServer, ServeHttp, Transcript};
 use h1_error::{End, Error, Progress, Waiting};
@@ -21,9 +22,7 @@ pub const POLL_BUDGET: u32 = 64;
 pub struct Connection<L: Link + Drop, SV: ServeHttp<L, C> + Drop, B: Drop, C: Drop> {
     alloc: Global,
     server: Arc<HttpServer<SV, B>>,
-    session: HttpSession<L, C>,
-    transcript: Transcript,
-    stage: Stage<SV::Job>,
+    exchange: Exchange<L, SV::Job, C>,
     end: Option<End>,
 }
 
@@ -36,9 +35,9 @@ impl<L: Link + Drop, SV: ServeHttp<L, C> + Drop, B: Drop, C: Drop> Model
 
     ghost use Rattle.h1_app.specs.Sound.{Sound};
 
-    ghost view = { λ c. record { session = c.session; app = (arc_value c.server).app; limit = limit_of (arc_value c.server).server_options; done = c.transcript.done.items; last = c.transcript.last; stage = c.stage; end = c.end } };
+    ghost view = { λ c. record { session = c.exchange.session; app = (arc_value c.server).app; limit = limit_of (arc_value c.server).server_options; done = c.exchange.transcript.done.items; last = c.exchange.transcript.last; stage = c.exchange.stage; end = c.end } };
 
-    ghost invariant = { λ c. Sound (SV.gives (arc_value c.server).app) (SV.runs (arc_value c.server).app) (limit_of (arc_value c.server).server_options) c.session c.transcript.done.items c.transcript.last c.stage c.end };
+    ghost invariant = { λ c. Sound (SV.gives (arc_value c.server).app) (SV.runs (arc_value c.server).app) (limit_of (arc_value c.server).server_options) c.exchange.session c.exchange.transcript.done.items c.exchange.transcript.last c.exchange.stage c.end };
 }
 
 impl<L: Link + Drop, SV: ServeHttp<L, C> + Drop, B: Drop, C: Drop> Connection<L, SV, B, C> {
@@ -46,28 +45,32 @@ impl<L: Link + Drop, SV: ServeHttp<L, C> + Drop, B: Drop, C: Drop> Connection<L,
     ghost use Rattle.std.specs.Fn.{FnOnceTakesAtMut, FnOnceReturnsAtMut};
     ghost use Rattle.h1_link.specs.LinkState.{LinkState};
     ghost use Rattle.h1_link.specs.Later.{Later, KeepsBytes};
-    ghost use Rattle.h1_app.specs.View.{View, entries, transcript_entries, IsNewConnection};
-    ghost use Rattle.h1_app.specs.Since.{Since};
-    ghost use Rattle.h1_app.specs.Agrees.{Agrees};
-    ghost use Rattle.h1_app.specs.Growth.{Extends};
-    ghost use Rattle.h1_app.specs.Waits.{WaitsFew, replies};
+    ghost use Rattle.h1_app.specs.View.{View, entries, IsNewConnection};
+    ghost use Rattle.h1_transcript.specs.Entries.{transcript_entries, replies};
+    ghost use Rattle.h1_app.specs.Accounted.{Accounted};
+    ghost use Rattle.h1_transcript.specs.Agrees.{Agrees};
+    ghost use Rattle.h1_transcript.specs.Growth.{Extends};
+    ghost use Rattle.h1_app.specs.Waits.{FewReadsNotReady};
     ghost use Rattle.h1_app.specs.Causes.{Cause};
+    ghost use Rattle.h1_app.specs.Leaves.{Leaves, LeavesOn};
     ghost use Rattle.h1_app.specs.Sound.{Sound};
-    ghost use Rattle.h1_app.specs.Gone.{Gone, TurnCause, TurnOthers, outcome_end, waiting_for};
+    ghost use Rattle.h1_app.specs.Turn.{Gone, TurnCause, TurnOthers, outcome_end, waiting_for};
 
     /// A connection of this server over a link.
     pub fn new(alloc: Global, server: Arc<HttpServer<SV, B>>, link: L) -> Result<Self, Error>
         ensures fresh { IsOkAnd result (IsNewConnection (arc_value server).app (arc_value server).server_options link) }
-        ensures since { IfOk result (λ made. Since L.state (L.state link) made.session made.done made.last) }
+        ensures accounted { IfOk result (λ made. Accounted L.state (L.state link) made.session made.done made.last) }
     {
         let mut session = HttpSession::new(alloc, link)?;
         session.set_keepalive_reuses_remaining(server.request_limit());
         Ok(Connection {
             alloc,
             server,
-            session,
-            transcript: Transcript::new(alloc),
-            stage: Stage::Head,
+            exchange: Exchange {
+                session,
+                transcript: Transcript::new(alloc),
+                stage: Stage::Head,
+            },
             end: None,
         })
     }
@@ -76,27 +79,30 @@ impl<L: Link + Drop, SV: ServeHttp<L, C> + Drop, B: Drop, C: Drop> Connection<L,
     /// epoch and never falls; with `shutdown` a request whose head becomes whole in this poll begins
     /// with keep-alive off, and is the last unless the application turns it on.
     pub fn poll(&mut self, now: u64, shutdown: bool) -> Progress
-        requires { now < 253_402_300_800_000 }
+        requires { now < YEAR_10000 }
         ensures app { (self.new.app ≡ self.old.app) × (self.new.limit ≡ self.old.limit) }
         ensures later { Later (L.state self.old.session.link) (L.state self.new.session.link) }
         ensures plan { L.same_plan self.old.session.link self.new.session.link }
         ensures context { self.new.session.context ≡ self.old.session.context }
-        ensures since { (before : LinkState) → Since L.state before self.old.session self.old.done self.old.last
-            → Since L.state before self.new.session self.new.done self.new.last }
-        ensures agrees { (before : LinkState) → Since L.state before self.old.session self.old.done self.old.last
+        ensures accounted { (before : LinkState) → Accounted L.state before self.old.session self.old.done self.old.last
+            → Accounted L.state before self.new.session self.new.done self.new.last }
+        ensures agrees { (before : LinkState) → Accounted L.state before self.old.session self.old.done self.old.last
             → Agrees (SV.gives self.new.app) self.new.limit before (L.state self.new.session.link) (entries self.new) }
         ensures extends { Extends now shutdown (L.state self.old.session.link) (L.state self.new.session.link) (entries self.old) (entries self.new) }
-        ensures most { (L.state self.new.session.link).moves ≤ (L.state self.old.session.link).moves + 64 }
-        ensures few { (L.state self.new.session.link).read_waits + replies (entries self.old) ≤ (L.state self.old.session.link).read_waits + replies (entries self.new) + 1 }
+        // At most 64 link calls move bytes. One read more than there were replies may not be ready, and
+        // three link calls of each exchange may move no byte, and one more.
+        ensures moves { (L.state self.new.session.link).moves ≤ (L.state self.old.session.link).moves + 64 }
+        ensures reads_not_ready { (L.state self.new.session.link).read_waits + replies (entries self.old) ≤ (L.state self.old.session.link).read_waits + replies (entries self.new) + 1 }
         ensures others { (L.state self.new.session.link).others + 3 * length self.old.done ≤ (L.state self.old.session.link).others + 3 * length (entries self.new) + 1 }
         ensures ended { IfSome self.old.end (λ reason. (result ≡ answer.Ready reason) × (self.new ≡ self.old)) }
-        ensures cause { IfNone self.old.end ((before : LinkState) → Since L.state before self.old.session self.old.done self.old.last
+        ensures leaves { IfNone self.old.end (Leaves (L.state self.old.session.link) (L.state self.new.session.link) self.new.last self.new.end) }
+        ensures cause { IfNone self.old.end ((before : LinkState) → Accounted L.state before self.old.session self.old.done self.old.last
             → Cause L.state SV.begins SV.pends before self.old self.new result) }
     {
         if let Some(end) = self.end {
             return Progress::Ready(end);
         }
-        self.session.set_poll_budget(Some(POLL_BUDGET));
+        self.exchange.session.set_poll_budget(Some(POLL_BUDGET));
         self.go_on(now, shutdown)
     }
 
@@ -104,12 +110,13 @@ impl<L: Link + Drop, SV: ServeHttp<L, C> + Drop, B: Drop, C: Drop> Connection<L,
     fn go_on(&mut self, now: u64, shutdown: bool) -> Progress
         requires alive { self.old.end ≡ None }
         requires budget { self.old.session.budget ≡ Some 64 }
-        requires moment { now < 253_402_300_800_000 }
+        requires moment { now < YEAR_10000 }
         ensures gone { Gone L.state SV.begins SV.pends L.same_plan now shutdown self.old self.new }
         ensures sound { Sound (SV.gives self.new.app) (SV.runs self.new.app) self.new.limit self.new.session self.new.done self.new.last self.new.stage self.new.end }
-        ensures few { (L.state self.new.session.link).read_waits + replies (entries self.old) ≤ (L.state self.old.session.link).read_waits + replies (entries self.new) + 1 }
+        ensures reads_not_ready { (L.state self.new.session.link).read_waits + replies (entries self.old) ≤ (L.state self.old.session.link).read_waits + replies (entries self.new) + 1 }
         ensures others { (L.state self.new.session.link).others + 3 * length self.old.done ≤ (L.state self.old.session.link).others + 3 * length (entries self.new) + 1 }
-        ensures cause { (before : LinkState) → Since L.state before self.old.session self.old.done self.old.last
+        ensures leaves { LeavesOn L.state self.old self.new }
+        ensures cause { (before : LinkState) → Accounted L.state before self.old.session self.old.done self.old.last
             → Cause L.state SV.begins SV.pends before self.old self.new result }
     {
         loop {
@@ -126,25 +133,18 @@ impl<L: Link + Drop, SV: ServeHttp<L, C> + Drop, B: Drop, C: Drop> Connection<L,
     fn turn(&mut self, now: u64, shutdown: bool) -> Outcome
         requires alive { self.old.end ≡ None }
         requires budget { IsSome self.old.session.budget }
-        requires moment { now < 253_402_300_800_000 }
+        requires moment { now < YEAR_10000 }
         ensures gone { Gone L.state SV.begins SV.pends L.same_plan now shutdown self.old self.new }
         ensures sound { Sound (SV.gives self.new.app) (SV.runs self.new.app) self.new.limit self.new.session self.new.done self.new.last self.new.stage self.new.end }
         ensures end { self.new.end ≡ outcome_end result }
-        ensures few { WaitsFew (L.state self.old.session.link) (L.state self.new.session.link) (entries self.old) (entries self.new) result }
+        ensures reads_not_ready { FewReadsNotReady (L.state self.old.session.link) (L.state self.new.session.link) (entries self.old) (entries self.new) result }
         ensures others { TurnOthers L.state self.old self.new result }
+        ensures leaves { LeavesOn L.state self.old self.new }
         ensures outcome { TurnCause L.state SV.pends self.old self.new result }
     {
-        let outcome = match self.stage {
-            Stage::Next => next_exchange(&mut self.session, &mut self.transcript, &mut self.stage),
-            _ => step(
-                self.alloc,
-                &self.server,
-                &mut self.session,
-                &mut self.transcript.last,
-                &mut self.stage,
-                now,
-                shutdown,
-            ),
+        let outcome = match self.exchange.stage {
+            Stage::Next => next_exchange(&mut self.exchange),
+            _ => step(self.alloc, &self.server, &mut self.exchange, now, shutdown),
         };
         self.end = end_of(outcome);
         outcome
@@ -154,7 +154,7 @@ impl<L: Link + Drop, SV: ServeHttp<L, C> + Drop, B: Drop, C: Drop> Connection<L,
     fn waits_for(&self, what: Waiting) -> Waiting
         ensures { result ≡ waiting_for self.now.session.budget what }
     {
-        if self.session.poll_budget() == Some(0) {
+        if self.exchange.session.poll_budget() == Some(0) {
             Waiting::Budget
         } else {
             what
@@ -165,7 +165,7 @@ impl<L: Link + Drop, SV: ServeHttp<L, C> + Drop, B: Drop, C: Drop> Connection<L,
     pub fn transcript(&self) -> &Transcript
         ensures { transcript_entries result.now ≡ entries self.now }
     {
-        &self.transcript
+        &self.exchange.transcript
     }
 
     /// Why the connection ended.
@@ -178,7 +178,7 @@ impl<L: Link + Drop, SV: ServeHttp<L, C> + Drop, B: Drop, C: Drop> Connection<L,
     pub fn link(&self) -> &L
         ensures { result.now ≡ self.now.session.link }
     {
-        self.session.link()
+        self.exchange.session.link()
     }
 
     /// Calls a function on the link, which may move none of its bytes.
@@ -189,10 +189,10 @@ impl<L: Link + Drop, SV: ServeHttp<L, C> + Drop, B: Drop, C: Drop> Connection<L,
         ensures called { FnOnceReturnsAtMut F.FnOnce f self.old.session.link result self.new.session.link }
         ensures rest { self.new ≡ record self.old { session = record self.old.session { link = self.new.session.link } } }
         ensures keeps { KeepsBytes (L.state self.old.session.link) (L.state self.new.session.link) }
-        ensures since { (before : LinkState) → Since L.state before self.old.session self.old.done self.old.last
-            → Since L.state before self.new.session self.new.done self.new.last }
+        ensures accounted { (before : LinkState) → Accounted L.state before self.old.session self.old.done self.old.last
+            → Accounted L.state before self.new.session self.new.done self.new.last }
     {
-        self.session.with_link(f)
+        self.exchange.session.with_link(f)
     }
 
     pub fn into_link(self) -> L
@@ -201,11 +201,14 @@ impl<L: Link + Drop, SV: ServeHttp<L, C> + Drop, B: Drop, C: Drop> Connection<L,
         let Connection {
             alloc: _,
             server,
+            exchange,
+            end: _,
+        } = self;
+        let Exchange {
             session,
             transcript,
             stage,
-            end: _,
-        } = self;
+        } = exchange;
         session.into_inner()
     }
 }

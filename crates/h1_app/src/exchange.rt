@@ -1,5 +1,8 @@
 //! Where an exchange stands, and what one step of it comes to.
+use crate::Transcript;
 use h1_error::{End, Error, Waiting};
+use h1_link::Link;
+use h1_server::HttpSession;
 
 /// Where the exchange of a connection stands. `J` is the application's job.
 #[derive(Drop)]
@@ -22,6 +25,15 @@ pub enum Stage<J> {
     Drain,
     /// The exchange is over, and the next one begins.
     Next,
+}
+
+/// What the steps of an exchange work on: the session, the exchanges so far, and the stage at which
+/// the last of them stands.
+#[derive(Drop)]
+pub struct Exchange<L: Link + Drop, J: Drop, C: Drop> {
+    pub session: HttpSession<L, C>,
+    pub transcript: Transcript,
+    pub stage: Stage<J>,
 }
 
 /// What one step of an exchange comes to.

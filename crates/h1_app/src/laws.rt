@@ -10,29 +10,30 @@ ghost use Rattle.h1_link.specs.LinkState.{LinkState};
 ghost use Rattle.bytes.specs.Filled.{Filled};
 ghost use Rattle.h1_server.specs.Reuse.{prefix_of};
 ghost use Rattle.h1_server.specs.SessionView.{SessionView, IsNewSession};
-ghost use Rattle.h1_app.specs.declared.transcript.Entry.{Entry};
+ghost use Rattle.h1_transcript.specs.declared.transcript.Entry.{Entry};
 ghost use Rattle.h1_app.specs.declared.reused.HttpPersistentSettings.{HttpPersistentSettings};
 ghost use Rattle.h1_app.specs.Persistent.{applied, with_prefix};
 ghost use Rattle.h1_app.specs.Joins.{IsEnded, IsRestarted};
-ghost use Rattle.h1_app.specs.Since.{Since};
-ghost use Rattle.h1_app.specs.Agrees.{Agrees};
-ghost use Rattle.h1_app.specs.Causes.{Cause, EndCause, PendedBy};
-ghost use Rattle.h1_app.specs.Complete.{IsValid, GaveOf, AreWithin, NoFault, KeepsOn, ServesAll};
-ghost use Rattle.h1_app.specs.Stream.{Message};
+ghost use Rattle.h1_app.specs.Accounted.{Accounted};
+ghost use Rattle.h1_transcript.specs.Agrees.{Agrees};
+ghost use Rattle.h1_app.specs.Causes.{Cause, PendedBy};
+ghost use Rattle.h1_transcript.specs.Ends.{EndCause};
+ghost use Rattle.h1_transcript.specs.Complete.{IsValid, GaveOf, AreWithin, NoFault, KeepsOn, ServesAll};
+ghost use Rattle.h1_transcript.specs.Stream.{Message};
 ghost use Rattle.h1_app.specs.View.{View};
 
 use crate::ServeHttp;
 use h1_link::Link;
 
-/// Behind an exchange whose request was read whole and whose reply was written whole, the bytes that
+/// After an exchange whose request was read whole and whose reply was written whole, the bytes that
 /// were received and not used are the input of the next one, and nothing is owed any more.
 pub fn the_next_exchange_begins_behind_the_last<L: Link, C>()
     ensures { (before : LinkState) (old new : SessionView L C) (done : List Entry) (e : Entry)
         → IsEnded old e → IsRestarted old new
-        → Since L.state before old done (Some e) → Since L.state before new (done ++ e ∷ []) None }
+        → Accounted L.state before old done (Some e) → Accounted L.state before new (done ++ e ∷ []) None }
 {}
 
-/// A link that is handed on with what was received holds the input behind the request: a new session
+/// A link that is handed on with what was received holds the input after the request: a new session
 /// that is set so goes on where the last one stood.
 pub fn a_link_that_is_handed_on_goes_on<L: Link, C>()
     ensures { (old fresh : SessionView L C) (prefix : Option Filled) (settings : HttpPersistentSettings C)
@@ -42,7 +43,7 @@ pub fn a_link_that_is_handed_on_goes_on<L: Link, C>()
 
 /// Valid input is served: where the application keeps the connection, the limit allows so many
 /// requests and no call of the link failed, every end is that of a connection whose requests were
-/// all served, or want of memory.
+/// all served, or out of memory.
 pub fn valid_input_is_served<L: Link + Drop, SV: ServeHttp<L, C> + Drop, C: Drop>()
     ensures { (app : SV) (limit : Option ℕ) (before old now : LinkState) (input : List ℕ) (requests : List Message)
         → (done : List Entry) (last : Option Entry) (reason : End)

@@ -6,24 +6,22 @@
 //! contracts tie the transcript to the bytes of the link.
 #![tactic(auto)]
 
-mod application;
 mod connection;
-mod echo;
 mod exchange;
 mod laws;
 mod options;
 mod reused;
 mod server;
 mod steps;
-mod transcript;
 
-pub use application::{Reply, ServeHttp};
 pub use connection::{Connection, POLL_BUDGET};
-pub use echo::{EchoApp, EchoJob};
 pub use exchange::{Outcome, Stage};
+pub use h1_application::ServeHttp;
 pub use h1_body::BodyBytes;
+pub use h1_echo::{EchoApp, EchoJob};
 pub use h1_error::{End, Error, ErrorType, HeadFault, Progress, Waiting};
 pub use h1_server::HttpSession;
+pub use h1_transcript::{Entry, How, Reply, Transcript};
 pub use laws::{
     a_link_that_is_handed_on_goes_on, only_the_budget_is_awaited,
     the_next_exchange_begins_behind_the_last, valid_input_is_served,
@@ -31,7 +29,6 @@ pub use laws::{
 pub use options::HttpServerOptions;
 pub use reused::{HttpPersistentSettings, ReusedHttpStream};
 pub use server::{HttpServer, HttpServerApp, NoModules, Plain};
-pub use transcript::{Entry, How, Transcript};
 
 #[cfg(test)]
 mod tests;

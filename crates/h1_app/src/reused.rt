@@ -1,5 +1,5 @@
 //! What goes from one request to the next on a link: the settings, the caller's context and the
-//! bytes that were received behind the request.
+//! bytes that were received after the request.
 ghost use Rattle.std.specs.Prelude.{◌≡◌, [], None, Some, option_map, is_some};
 ghost use Rattle.h1_server.specs.Keepalive.{keepalive_timeout};
 ghost use Rattle.h1_app.specs.Persistent.{applied, with_prefix};
@@ -51,7 +51,7 @@ impl<C: Drop> HttpPersistentSettings<C> {
         self.user_context.take()
     }
 
-    /// Puts bytes in front of what the next session reads.
+    /// Puts bytes before what the next session reads.
     pub fn set_pipelined_prefix(&mut self, prefix: BytesMut)
         ensures { self.new ≡ record self.old { pipelined_prefix = Some prefix } }
     {
@@ -97,7 +97,7 @@ impl<L: Link + Drop, C: Drop> ReusedHttpStream<L, C> {
         }
     }
 
-    /// The link of a session that is over. What was received behind its request joins the settings.
+    /// The link of a session that is over. What was received after its request joins the settings.
     pub fn from_reusable_stream(
         reusable: ReusableHttpStream<L>,
         persistent_settings: HttpPersistentSettings<C>,

@@ -59,8 +59,8 @@ pub trait HttpServerApp<L: Link + Drop, C: Drop> {
     fn server_options(&self) -> Option<&HttpServerOptions>
         ensures { option_copied result ≡ (served self.now).server_options };
 
-    /// What is to be done behind a connection. Whoever serves connections calls it.
-    fn http_cleanup(&self);
+    /// What is to be done after a connection. Whoever serves connections calls it.
+    fn http_cleanup(&self) {}
 }
 
 impl<L: Link + Drop, C: Drop, SV: ServeHttp<L, C> + Drop, B: Drop> HttpServerApp<L, C>
@@ -78,8 +78,6 @@ impl<L: Link + Drop, C: Drop, SV: ServeHttp<L, C> + Drop, B: Drop> HttpServerApp
     fn server_options(&self) -> Option<&HttpServerOptions> {
         self.server_options.as_ref()
     }
-
-    fn http_cleanup(&self) {}
 }
 
 /// An application without modules.
@@ -119,6 +117,4 @@ impl<L: Link + Drop, C: Drop, SV: ServeHttp<L, C> + Drop> HttpServerApp<L, C> fo
     fn server_options(&self) -> Option<&HttpServerOptions> {
         self.server.server_options.as_ref()
     }
-
-    fn http_cleanup(&self) {}
 }

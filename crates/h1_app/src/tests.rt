@@ -1,8 +1,10 @@
 //! A connection over a link in memory, as its caller meets it.
 ghost use Rattle.std.specs.Prelude.{◌≡◌, IfOk, IfErr};
 ghost use Rattle.h1_error.specs.declared.error.ErrorType.TheVariants.{NoMemory};
-ghost use Rattle.h1_app.specs.Application.{IsLawful};
-ghost use Rattle.h1_app.specs.Echo.{refused_reply};
+ghost use Rattle.h1_transcript.specs.Lawful.{IsLawful};
+ghost use Rattle.h1_echo.specs.Echo.{refused_reply};
+
+mod waiting;
 
 use crate::{
     BodyBytes, Connection, EchoApp, End, Error, ErrorType, HttpPersistentSettings, HttpServer,
@@ -14,6 +16,7 @@ use h1_head::ResponseHeader;
 use h1_link::{Link, MemLink};
 use h1_server::ReadRequest;
 use std::alloc::Global;
+use std::process::Abort;
 use std::sync::Arc;
 use std::test::Fail;
 
@@ -323,6 +326,19 @@ fn what_is_set_goes_on_to_the_next_session(rt: HostRuntime) -> Result<(), Fail> 
     Ok(())
 }
 
+/// Writes a reply that has no body.
+fn reply_without_body(rt: &impl Abort, session: &mut HttpSession<MemLink, u32>, reply: Reply) {
+    assert!(rt; session.has_request() && session.is_free());
+    let mut header = Some(reply.header);
+    assert!(rt; header.as_ref().is_some_and(|header| header.status() >= 200));
+    assert_eq!(rt;
+        session.poll_write_response_header(&mut header, 0),
+        Poll::Ready(Ok(()))
+    );
+    assert!(rt; session.is_free());
+    assert_eq!(rt; session.poll_finish_body(0), Poll::Ready(Ok(Some(0))));
+}
+
 #[test]
 fn a_reused_link_goes_on_with_what_was_received(rt: HostRuntime) -> Result<(), Fail> {
     let mut link = MemLink::new(rt.alloc());
@@ -337,6 +353,8 @@ fn a_reused_link_goes_on_with_what_was_received(rt: HostRuntime) -> Result<(), F
     assert!(rt; session.is_body_done() && session.is_body_empty());
     session.respect_keepalive();
     assert_eq!(rt; session.get_keepalive_timeout(), Some(0));
+    reply_without_body(&rt, &mut session, refusal(rt.alloc())?);
+    assert!(rt; session.has_request() && session.is_free());
     assert_eq!(rt; session.poll_drain_request_body(0), Poll::Ready(Ok(())));
     assert_eq!(rt; session.poll_reuse(0), Poll::Ready(Ok(true)));
     assert!(rt; session.is_reusable());

@@ -19,7 +19,7 @@ pub none_before : (p : ℕ → Bool) (xs : List ℕ) → list_any p (take (posit
 none_before p [] = refl
 none_before p (x ∷ xs) = none_more (p x) p (position_or_len p xs) x xs refl (none_before p xs)
 
--- the place of the first that passes, behind those that don't
+-- the place of the first that passes, after those that don't
 pub place_of_first : (p : ℕ → Bool) (front : List ℕ) (y : ℕ) (rest : List ℕ) →
     list_any p front ≡ false → p y ≡ true → position_or_len p (front ++ y ∷ rest) ≡ length front
 place_of_first p [] y rest h e = rw e refl

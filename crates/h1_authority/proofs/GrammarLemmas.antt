@@ -17,7 +17,7 @@ behind_none rest (b ∷ bytes) h =
     let parts = none_of (eqb b 64) (has_userinfo bytes) h in
     rw parts.0 (behind_none rest bytes parts.1)
 
--- what stands behind the last `@`
+-- what stands after the last `@`
 behind_last : (front rest more : List ℕ) → has_userinfo more ≡ false →
     behind_userinfo_from rest (front ++ 64 ∷ more) ≡ more
 behind_last [] rest more h = behind_none more more h
@@ -41,7 +41,7 @@ behind_is rest [] = inl (refl, refl)
 behind_is rest (b ∷ bytes) = behind_more _ b rest bytes _ refl
     (behind_is (cond (eqb b 64) bytes rest) bytes)
 
--- the port behind a host
+-- the port after a host
 port_more : (t : Bool) (b : ℕ) (text host : List ℕ) (a parsed : Authority) →
     (eqb b 58 && is_port_text text) ≡ t → parsed.host ≡ host → parsed.port ≡ port_of text →
     cond t (Some parsed) None ≡ Some a → (a.host ≡ host) × IsPortPart (b ∷ text) a.port
@@ -72,7 +72,7 @@ with_port_all a behind (inr (text, e, plain, port)) =
     let made : Option ℕ → Option Authority = λ q. Some (record { host = a.host; port = q }) in
     rw (e, plain) (ap made (sym port))
 
--- a host and what stands behind it
+-- a host and what stands after it
 record Splits (rest : List ℕ) (a : Authority) : Type 0 where
   behind : List ℕ
   parts : rest ≡ a.host ++ behind

@@ -6,7 +6,7 @@ use Rattle.std.specs.Str.Parse.{IsNumeral, AllDigits, digits_value, digits_value
 use Rattle.h1_authority.specs.ParsedAuthority.{port_from, port_of_digits, port_of}
 use Rattle.h1_authority.specs.AuthorityGrammar.{IsPort}
 
--- behind those of n these digits write a port
+-- after those of n these digits write a port
 record Writes (n : ℕ) (digits : List ℕ) (port : ℕ) : Type 0 where
   each : AllDigits 10 digits
   value : digits_value_after 10 n digits ≡ port

@@ -5,7 +5,7 @@ use Rattle.std.specs.Str.Parse.{IsNumeral, digits_value, without_leading_plus}
 use Rattle.h1_authority.specs.Bytes.{has_userinfo}
 use Rattle.h1_authority.specs.ParsedAuthority.{Authority, is_authority_byte, is_port_text, is_literal, port_of}
 
--- digits, perhaps behind one `+`, that write a number of at most 65,535
+-- digits, perhaps after one `+`, that write a number of at most 65,535
 pub record IsPort (text : List ℕ) (port : ℕ) : Type 0 where
   pub digits : IsNumeral 10 (without_leading_plus text)
   pub value : digits_value 10 (without_leading_plus text) ≡ port

@@ -18,7 +18,7 @@ abbrev pub is_authority_byte : ℕ → Bool
 is_authority_byte b =
     is_ascii_alphanumeric b || list_any (λ c. c == b) (codes "-._~!$&'()*+,;=:@[]%")
 
--- what stands behind the last `@`, or `rest` where there is none
+-- what stands after the last `@`, or `rest` where there is none
 abbrev pub behind_userinfo_from : List ℕ → List ℕ → List ℕ
 behind_userinfo_from rest [] = rest
 behind_userinfo_from rest (b ∷ bytes) = behind_userinfo_from (if b == 64 then bytes else rest) bytes
@@ -34,7 +34,7 @@ with_digit n b =
     then Some (n * 10 + digit_value b)
     else None
 
--- the number that digits write behind those of n
+-- the number that digits write after those of n
 abbrev pub port_from : Option ℕ → List ℕ → Option ℕ
 port_from None bytes = None
 port_from (Some n) [] = Some n
@@ -64,7 +64,7 @@ is_port_text bytes = is_name bytes && not (list_any (λ b. b == 58) bytes)
 abbrev pub is_literal : List ℕ → Bool
 is_literal bytes = not (list_any is_bracket bytes) && nat_le (count_by (λ b. b == 58) bytes) 8
 
--- a host, and behind it nothing, or a colon and the text of a port
+-- a host, and after it nothing, or a colon and the text of a port
 abbrev pub with_port : List ℕ → List ℕ → Option Authority
 with_port host [] = Some (record { host = host; port = None })
 with_port host (b ∷ text) =
@@ -72,7 +72,7 @@ with_port host (b ∷ text) =
     then Some (record { host = host; port = port_of text })
     else None
 
--- behind a leading `[`, with the place of the first `]`
+-- after a leading `[`, with the place of the first `]`
 abbrev pub bracketed_at : List ℕ → Option ℕ → Option Authority
 bracketed_at rest None = None
 bracketed_at rest (Some end) =

@@ -7,8 +7,8 @@ use Rattle.h1_authority.specs.Bytes.{is_bracket}
 abbrev pub is_ambiguous_outside : List ℕ → Bool
 is_ambiguous_outside bytes = list_any is_bracket bytes || nat_lt 1 (count_by (λ b. b == 58) bytes)
 
--- behind a leading `[`: a second `[` before the first `]`, or no `]`, or what is ambiguous
--- behind it
+-- after a leading `[`: a second `[` before the first `]`, or no `]`, or what is ambiguous
+-- after it
 abbrev pub is_ambiguous_behind_bracket : List ℕ → Bool
 is_ambiguous_behind_bracket [] = true
 is_ambiguous_behind_bracket (b ∷ bytes) =

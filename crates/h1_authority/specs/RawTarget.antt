@@ -35,14 +35,14 @@ behind_slashes [] = None
 behind_slashes (a ∷ []) = None
 behind_slashes (a ∷ b ∷ rest) = if a == 47 && b == 47 then Some rest else None
 
--- behind `http:` or `https:`: `//` and a nonempty authority without `\`
+-- after `http:` or `https:`: `//` and a nonempty authority without `\`
 abbrev pub http_class : List ℕ → Option (List ℕ) → TargetClass
 http_class scheme None = ambiguous
 http_class scheme (Some rest) =
     if is_empty (authority_part rest) || has_backslash (authority_part rest) then ambiguous
     else absolute scheme (authority_part rest)
 
--- behind another scheme
+-- after another scheme
 abbrev pub other_class : List ℕ → Option (List ℕ) → TargetClass
 other_class scheme None = absent
 other_class scheme (Some rest) =
@@ -55,7 +55,7 @@ class_of_scheme scheme rest =
     if is_http_family_scheme scheme then http_class scheme (behind_slashes rest)
     else other_class scheme (behind_slashes rest)
 
--- what stands before the first of the five bytes, and that byte with all behind it: only `:`
+-- what stands before the first of the five bytes, and that byte with all after it: only `:`
 -- ends a scheme
 abbrev pub class_at : List ℕ → List ℕ → TargetClass
 class_at scheme [] = absent

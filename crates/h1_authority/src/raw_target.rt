@@ -18,7 +18,7 @@ pub enum RawTargetAuthority<'a> {
     Absolute {
         /// What stands before the first colon.
         scheme: &'a [u8],
-        /// What stands behind `//`, up to the first `/`, `?` or `#`.
+        /// What stands after `//`, up to the first `/`, `?` or `#`.
         authority: &'a [u8],
     },
 }

@@ -1,4 +1,4 @@
--- A byte of a chunk in front of what completes a body from the next place.
+-- A byte of a chunk before what completes a body from the next place.
 use Rattle.std.proofs.Common.{◌≡◌, ℕ, ◌+◌, ◌-◌, ◌*◌, ◌/◌, ◌<◌, ◌≤◌, List, [], ◌∷◌, ◌++◌, refl, sym, ap, subst, ◌∙◌, append_assoc, zero-add, arith, length-append, inl, inr, ◌⊎◌, ◌≢◌, true, false, Bool, ◌&&◌, ◌==◌, nat_lt, nat_le, cond, Some, None}
 use Rattle.std.proofs.lemmas.Bool.Decides.{nat_tests, eqb_tells}
 use Rattle.std.proofs.lemmas.Bool.{cases_lt, false≢true}

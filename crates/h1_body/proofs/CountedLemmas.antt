@@ -51,7 +51,7 @@ front_range piece n = let e : n - 0 ≡ n = omega arith in ap (λ k. take k piec
 whole_range : (piece : List ℕ) → slice_range piece 0 (length piece) ≡ piece
 whole_range piece = take_all (length piece - 0) piece (omega arith)
 
--- the body goes on behind the piece
+-- the body goes on after the piece
 pub counted_goes : (left : ℕ) (piece : List ℕ) → length piece < left
     → Feeds (counted left) (counted (left - length piece)) piece (fed_of 0 (length piece) state.More)
 counted_goes left piece h =

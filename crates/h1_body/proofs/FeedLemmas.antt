@@ -146,7 +146,7 @@ split_range piece at n h =
     let e : at + (n - at) ≡ n = omega arith in
     ap (λ k. take k piece) (sym e) ∙ take-add at (n - at) piece
 
--- a return behind a run of data
+-- a return after a run of data
 pub feeds_run : (from to : Chunking) (piece : List ℕ) (at n more : ℕ) → at < n → n ≤ length piece
     → n - at ≤ more + 1 → Skips from (take at piece) (Data more)
     → Runs (Data more) (slice_range piece at n) (slice_range piece at n) to
@@ -189,7 +189,7 @@ feeds_chunk from piece at more room steps =
     feeds_run from DataCr piece at (at + more + 1) more (omega arith) (omega arith)
     (omega arith) steps (run_whole more _ len) refl (inr no_data_behind)
 
--- the data go on behind the piece
+-- the data go on after the piece
 pub feeds_rest : (from : Chunking) (piece : List ℕ) (at more : ℕ) → at < length piece
     → length piece - at ≤ more → Skips from (take at piece) (Data more)
     → Feeds (chunked from) (chunked (Data (more - (length piece - at)))) piece (fed_of at (length piece) state.More)

@@ -16,7 +16,7 @@ use Rattle.h1_body.proofs.RunLemmas.{Runs, run_none, run_then, run_skip, run_who
 pub skipped : (s to : Chunking) (b : ℕ) → use_of s ≡ skips → step s b ≡ to → Runs s (b ∷ []) [] to
 skipped s to b over e = subst (λ (t : Chunking). Runs s (b ∷ []) [] t) e (run_skip s b over)
 
--- a byte in front of a run
+-- a byte before a run
 pub skip_then : {s mid to : Chunking} {b : ℕ} {bytes payload : List ℕ} → Runs s (b ∷ []) [] mid
     → Runs mid bytes payload to → Runs s (b ∷ bytes) payload to
 skip_then one two = run_then one two
@@ -29,7 +29,7 @@ pub value-grows : (n : ℕ) (digits : List ℕ) → n ≤ digits_value_after 16 
 value-grows n [] = omega arith
 value-grows n (d ∷ digits) = omega (arith, value-grows (n * 16 + digit_value d) digits)
 
--- digits of a size behind others
+-- digits of a size after others
 run_digits : (left size : ℕ) (digits : List ℕ) → AllDigits 16 digits → length digits ≤ left
     → digits_value_after 16 size digits ≤ CHUNK_LIMIT
     → Runs (Size left size) digits []
@@ -93,7 +93,7 @@ run_text left size (b ∷ text) is few =
     subst (λ k. Runs (Extension left size) (b ∷ text) [] (Extension k size)) same
     (skip_then one (run_text (left - 1) size text is.1 (omega arith)))
 
--- CRLF behind a size, and behind an extension
+-- CRLF after a size, and after an extension
 pub run_size_end : (left size : ℕ) → Runs (Size left size) crlf [] (behind_size size)
 run_size_end left size =
     skip_then (run_skip (Size left size) 13 refl) (run_skip (SizeLf size) 10 refl)
@@ -146,7 +146,7 @@ data_behind size h = grind (arith, nat_tests)
 pub trailers_behind : (size : ℕ) → size ≤ 0 → behind_size size ≡ Trailers TRAILERS_LIMIT
 trailers_behind size h = grind (arith, nat_tests)
 
--- CRLF behind data
+-- CRLF after data
 pub run_data_end : Runs DataCr crlf [] Start
 run_data_end = skip_then (run_skip DataCr 13 refl) (run_skip DataLf 10 refl)
 

@@ -92,7 +92,7 @@ pub record Edge (s : Chunking) (bytes payload : List ℕ) : Type 0 where
   pub before : chunked s (take at bytes) ≡ unfinished payload
   pub through : chunked s (take (suc at) bytes) ≡ broken payload
 
--- a byte of the body in front of the byte that breaks it
+-- a byte of the body before the byte that breaks it
 edge_later : (s : Chunking) (b : ℕ) (bytes front later payload : List ℕ)
     → ((xs : List ℕ) → chunked s (b ∷ xs) ≡ ahead front 1 (chunked (step s b) xs))
     → payload ≡ front ++ later → Edge (step s b) bytes later → Edge s (b ∷ bytes) payload
@@ -196,7 +196,7 @@ first_break bytes payload e =
     let found = edge Start bytes payload refl e in
     (found.at, found.inside, found.before, rw (add-one found.at) found.through)
 
--- more bytes behind
+-- more bytes after
 payload-ahead : (front : List ℕ) (used : ℕ) (b : Body)
     → payload_of (ahead front used b) ≡ front ++ payload_of b
 payload-ahead front used (whole payload n) = refl

@@ -12,7 +12,7 @@ use Rattle.h1_body.proofs.TrailerRuns.{done_takes_none, broken_takes_none}
 use Rattle.h1_body.proofs.SoundLemmas.{front_skipped, front_yielded}
 use Rattle.h1_body.proofs.Completing.{Completes}
 
--- what is behind the front of a whole body, an unfinished and a broken one
+-- what is after the front of a whole body, an unfinished and a broken one
 pub behind_whole : (front : List ℕ) (used : ℕ) (b : Body) (payload : List ℕ) (n : ℕ)
     → ahead front used b ≡ whole payload n
     → (later : List ℕ) × (k : ℕ) × (b ≡ whole later k) × (payload ≡ front ++ later) × (n ≡ used + k)
@@ -39,7 +39,7 @@ behind_final front used (whole later k) h = tt
 behind_final front used (unfinished later) h = h
 behind_final front used (broken later) h = tt
 
--- where the state of a place is done, it is behind the body
+-- where the state of a place is done, it is after the body
 completes_none : (s : Chunking) (payload : List ℕ) (n : ℕ) → stop_of (state_of s) ≡ whole payload n
     → Completes s [] payload
 completes_none Start payload n e = absurd cc
@@ -67,7 +67,7 @@ counted_on : (s : Chunking) (b : ℕ) (bytes payload : List ℕ) (n k : ℕ) →
 counted_on s b bytes payload n k e h =
     subst (λ (m : ℕ). Completes s (take m (b ∷ bytes)) payload) (sym e) h
 
--- a byte in front of bytes that are read as this says
+-- a byte before bytes that are read as this says
 sound_byte : (u : Use) (s : Chunking) (b : ℕ) (bytes payload : List ℕ) (n : ℕ)
     → ((later : List ℕ) (k : ℕ) → chunked (step s b) bytes ≡ whole later k → Completes (step s b)
     (take k bytes) later)
@@ -122,7 +122,7 @@ stable_byte yields stop b rest grown known h =
     ap (ahead (b ∷ []) 1) (known (behind_final (b ∷ []) 1 rest h))
 stable_byte ends stop b rest grown known h = refl
 
--- bytes behind an end change nothing
+-- bytes after an end change nothing
 pub stable : (s : Chunking) (bytes more : List ℕ) → IsFinal (chunked s bytes)
     → chunked s (bytes ++ more) ≡ chunked s bytes
 stable s [] more h = stopped_final s more h

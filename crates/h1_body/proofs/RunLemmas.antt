@@ -7,7 +7,7 @@ use Rattle.h1_body.specs.Chunks.{chunked, step, state_of, use_of, skips, with_by
 use Rattle.h1_body.specs.declared.chunking.Chunking.{Chunking}
 use Rattle.h1_body.specs.declared.chunking.Chunking.TheVariants.{Data, DataCr}
 
--- bytes in front of bytes that are in front
+-- bytes before bytes that are in front
 pub ahead-ahead : (front later : List ℕ) (m n : ℕ) (b : Body)
     → ahead front m (ahead later n b) ≡ ahead (front ++ later) (m + n) b
 ahead-ahead front later m n (whole payload k) = grind (arith, append_assoc {A = ℕ})
@@ -28,7 +28,7 @@ pub record Runs (from : Chunking) (bytes payload : List ℕ) (to : Chunking) : T
 pub run_none : (s : Chunking) → Runs s [] [] s
 run_none s = record { reads = λ more. sym (ahead_none (chunked s more)) }
 
--- one run behind another
+-- one run after another
 pub run_then : {from mid to : Chunking} {bytes later front back : List ℕ}
     → Runs from bytes front mid → Runs mid later back to
     → Runs from (bytes ++ later) (front ++ back) to
@@ -58,7 +58,7 @@ in_data_last more e = grind (arith, nat_tests)
 in_data_more : (more : ℕ) → 0 < more → in_data more ≡ Data (more - 1)
 in_data_more more h = grind (arith, nat_tests)
 
--- data of a chunk that goes on behind them
+-- data of a chunk that goes on after them
 pub run_inside : (more : ℕ) (bytes : List ℕ) → length bytes ≤ more
     → Runs (Data more) bytes bytes (Data (more - length bytes))
 run_inside more [] h =

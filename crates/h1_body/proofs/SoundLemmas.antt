@@ -1,4 +1,4 @@
--- A byte in front of what completes a body from the place behind it.
+-- A byte before what completes a body from the place after it.
 use Rattle.std.proofs.Common.{◌≡◌, ℕ, List, ◌∷◌}
 use Rattle.h1_body.specs.Chunks.{step, use_of, skips, yields}
 use Rattle.h1_body.specs.declared.chunking.Chunking.{Chunking}

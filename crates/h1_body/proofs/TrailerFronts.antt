@@ -1,4 +1,4 @@
--- A byte of a trailer in front of what completes a body from the next place.
+-- A byte of a trailer before what completes a body from the next place.
 use Rattle.std.proofs.Common.{◌≡◌, ℕ, ◌+◌, ◌-◌, ◌<◌, ◌≤◌, List, [], ◌∷◌, ◌++◌, length, refl, sym, ap, subst, ◌∙◌, append_assoc, arith, length-append, inl, inr, true, ◌&&◌, ◌==◌, nat_lt, nat_le}
 use Rattle.std.specs.List.{flat_map}
 use Rattle.httparse.specs.Grammar.{is_token_byte}
@@ -30,7 +30,7 @@ trailer_in_front left trailer rest is few behind = record {
 regroup_trailer : (n v c r : List ℕ) → n ++ 58 ∷ (v ++ (c ++ r)) ≡ (n ++ 58 ∷ (v ++ c)) ++ r
 regroup_trailer n v c r = simp append_assoc
 
--- the name of a trailer begins in front of what completes it
+-- the name of a trailer begins before what completes it
 trailer_begun : (left b : ℕ) (bytes : List ℕ) → is_token_byte b ≡ true → 4 ≤ left
     → EndsName (left - 4) bytes → EndsTrailers left (b ∷ bytes)
 trailer_begun left b bytes token room ends =

@@ -63,7 +63,7 @@ run_value left (b ∷ value) is few =
     subst (λ k. Runs (Value left) (b ∷ value) [] (Value k)) same
     (skip_then one (run_value (left - 1) value is.1 (omega arith)))
 
--- CRLF behind a value
+-- CRLF after a value
 pub run_value_end : (left : ℕ) → Runs (Value left) crlf [] (Trailers left)
 run_value_end left = skip_then (run_skip (Value left) 13 refl) (run_skip (ValueLf left) 10 refl)
 

@@ -45,7 +45,7 @@ pub no_digits : size_digits 0 ≡ []
 unfolding size_digits
 no_digits = refl
 
--- a digit written in front of the line
+-- a digit written before the line
 pub digit_put : (bytes : List ℕ) (at left digit : ℕ) → 0 < left → 0 < at → at ≤ length bytes
     → digit ≡ upper_digit (left % 16)
     → size_digits (left / 16) ++ drop (at - 1)

@@ -5,7 +5,7 @@ use Rattle.h1_body.specs.declared.fed.FeedState.TheVariants.{More, Done, Broken}
 
 -- the payload and the number of bytes of a body that ended, the payload of one that did not, and
 -- the
--- payload in front of the first byte with which the bytes begin no body
+-- payload before the first byte with which the bytes begin no body
 pub data Body : Type 0 where
   whole : List ℕ → ℕ → Body
   unfinished : List ℕ → Body
@@ -28,7 +28,7 @@ stop_of More = unfinished []
 stop_of Done = whole [] 0
 stop_of Broken = broken []
 
--- no bytes behind change it
+-- no bytes after it change it
 abbrev pub IsFinal : Body → Type 0
 IsFinal (whole payload n) = Unit {0}
 IsFinal (unfinished payload) = ⊥

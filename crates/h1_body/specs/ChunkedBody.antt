@@ -27,7 +27,7 @@ pub record ChunkedBody : Type 0 where
 abbrev pub crlf : List ℕ
 crlf = 13 ∷ 10 ∷ []
 
--- chunk-ext, kept as its bytes behind the semicolon
+-- chunk-ext, kept as its bytes after the semicolon
 abbrev pub print_extension : Option (List ℕ) → List ℕ
 print_extension None = []
 print_extension (Some text) = 59 ∷ text

@@ -66,7 +66,7 @@ in_value left b =
     then ValueLf left
     else (if is_text b && nat_lt 0 left then Value (left - 1) else Broken)
 
--- where the reader stands behind one byte more
+-- where the reader stands after one byte more
 abbrev pub step : Chunking → ℕ → Chunking
 step Start b = at_start b
 step (Size left size) b = in_size left size b
@@ -100,7 +100,7 @@ use_of Done = ends
 use_of Broken = ends
 use_of _ = skips
 
--- the body of a byte and what the bytes behind it make
+-- the body of a byte and what the bytes after it make
 abbrev pub with_byte : Use → Body → ℕ → Body → Body
 with_byte skips stop b rest = ahead [] 1 rest
 with_byte yields stop b rest = ahead (b ∷ []) 1 rest

@@ -15,8 +15,8 @@ IsEnd More = ⊥
 IsEnd Done = Unit {0}
 IsEnd Broken = Unit {0}
 
--- `before` and `behind` are what the reader made of the bytes that follow, before the call and
--- behind it
+-- `before` and `after` are what the reader made of the bytes that follow, before the call and
+-- after it
 pub record Feeds (before behind : List ℕ → Body) (piece : List ℕ) (fed : Fed) : Type 0 where
   pub ordered : fed.payload.start ≤ fed.payload.end
   pub used_up : fed.payload.end ≡ fed.used
@@ -28,9 +28,9 @@ pub record Feeds (before behind : List ℕ → Body) (piece : List ℕ) (fed : F
   -- at least one byte of a piece is used, unless the reader was at an end before; then none is
   pub moves : (before [] ≡ unfinished []) → 0 < length piece → 0 < fed.used
   pub stays : (before [] ≡ unfinished []) ⊎ (fed.used ≡ 0)
-  -- it stops behind a run that no byte prolongs, at an end, or at the end of the piece
+  -- it stops after a run that no byte prolongs, at an end, or at the end of the piece
   pub rests : (fed.used ≡ length piece) ⊎ (IsEnd fed.state
       ⊎ ((fed.payload.start < fed.payload.end) × ((b : ℕ) → payload_of (behind (b ∷ [])) ≡ [])))
-  -- in front of the last byte used the body was not at an end
+  -- before the last byte used the body was not at an end
   pub first : 0 < fed.used → before (take (fed.used - 1) piece)
       ≡ unfinished (slice_range piece fed.payload.start (fed.payload.end - 1))

@@ -2,7 +2,7 @@
 use Rattle.std.specs.Prelude.{◌≡◌, ℕ, List, ◌++◌}
 use Rattle.h1_body.specs.Body.{Body, whole, unfinished, broken, payload_of}
 
--- what bytes make of a body, and what they make of it with more bytes behind: an end stays as it
+-- what bytes make of a body, and what they make of it with more bytes after: an end stays as it
 -- is,
 -- and payload only grows
 abbrev pub GrowsTo : Body → Body → Type 0

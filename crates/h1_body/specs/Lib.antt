@@ -4,7 +4,6 @@ pub mod Chunks
 pub mod Feeds
 pub mod Fixed
 pub mod Laws
-pub mod Memory
 pub mod Read
 pub mod Reader
 pub mod Writer

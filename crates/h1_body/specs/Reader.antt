@@ -20,7 +20,7 @@ body (framing.Counted n) bytes = counted n bytes
 body framing.Chunked bytes = chunked Start bytes
 body framing.UntilClose bytes = unfinished bytes
 
--- what they make of it where the link ended behind them
+-- what they make of it where the link ended after them
 abbrev pub body_at_end : Framing → List ℕ → Body
 body_at_end (framing.Counted n) bytes = counted n bytes
 body_at_end framing.Chunked bytes = chunked Start bytes

@@ -17,6 +17,6 @@ abbrev pub chunk_bytes : List ℕ → List ℕ
 chunk_bytes [] = []
 chunk_bytes (b ∷ payload) = size_line (length (b ∷ payload)) ++ (b ∷ payload) ++ 13 ∷ 10 ∷ []
 
--- last-chunk = 1*"0" CRLF, and the empty line behind it
+-- last-chunk = 1*"0" CRLF, and the empty line after it
 abbrev pub last_chunk : List ℕ
 last_chunk = 48 ∷ 13 ∷ 10 ∷ 13 ∷ 10 ∷ []

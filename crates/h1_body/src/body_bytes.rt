@@ -1,6 +1,6 @@
 //! Bytes of a body that are kept.
 ghost use Rattle.std.specs.Prelude.{◌≡◌, ◌==◌, ◌++◌, [], length, nat_eq, OnOk, IfOk, IfErr};
-ghost use Rattle.h1_body.specs.Memory.{no_memory};
+ghost use Rattle.h1_error.specs.Memory.{no_memory};
 ghost use Rattle.std.specs.Cmp.Lexicographic.{pointwise, nat_list_eq_equiv};
 ghost use Rattle.std.specs.Cmp.{partial_equiv_from_equiv};
 

@@ -23,7 +23,7 @@ pub fn chunked_is_the_grammar()
         → (more : List ℕ) × (later : List ℕ)
         × (chunked Start (bytes ++ more) ≡ whole (payload ++ later) (length (bytes ++ more))) }
 
-    // What is broken begins no body, and the bytes in front of the one that broke it do.
+    // What is broken begins no body, and the bytes before the one that broke it do.
     ensures dead { (bytes more payload : List ℕ) (b : ChunkedBody)
         → chunked Start bytes ≡ broken payload → IsChunkedBody b → bytes ++ more ≢ print_body b }
     ensures edge { (bytes payload : List ℕ) → chunked Start bytes ≡ broken payload

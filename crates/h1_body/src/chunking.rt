@@ -22,17 +22,17 @@ pub const TRAILERS_LIMIT: u32 = 1_048_575;
 pub enum Chunking {
     /// Before the first digit of a size line.
     Start,
-    /// Behind a digit of a size: how many digits may follow, and the size so far.
+    /// After a digit of a size: how many digits may follow, and the size so far.
     Size(u8, u64),
     /// In the extension of a size line: how many bytes may follow before CRLF, and the size.
     Extension(u16, u64),
-    /// Behind CR of a size line, with the size.
+    /// After CR of a size line, with the size.
     SizeLf(u64),
     /// In the data of a chunk: how many bytes follow the next one.
     Data(u64),
-    /// Behind the data of a chunk.
+    /// After the data of a chunk.
     DataCr,
-    /// Behind CR that follows the data of a chunk.
+    /// After CR that follows the data of a chunk.
     DataLf,
     /// Before a trailer line or the empty line: how many bytes all lines that follow may have.
     Trailers(u32),
@@ -40,11 +40,11 @@ pub enum Chunking {
     Name(u32),
     /// In the value of a trailer: how many bytes may follow before CRLF.
     Value(u32),
-    /// Behind CR of a trailer line: how many bytes all lines that follow may have.
+    /// After CR of a trailer line: how many bytes all lines that follow may have.
     ValueLf(u32),
-    /// Behind CR of the empty line.
+    /// After CR of the empty line.
     EndLf,
-    /// Behind the body.
+    /// After the body.
     Done,
     /// The bytes begin no body.
     Broken,
@@ -61,7 +61,7 @@ pub fn state_of(chunking: Chunking) -> FeedState
     }
 }
 
-/// Where the reader stands behind one byte more. Behind the end it stays where it is.
+/// Where the reader stands after one byte more. After the end it stays where it is.
 pub fn step(chunking: Chunking, byte: u8) -> Chunking
     ensures { result ≡ step chunking byte }
 {
@@ -126,7 +126,7 @@ fn in_size(left: u8, size: u64, byte: u8) -> Chunking
         return with_digit(left, size, digit);
     }
     if byte == b';' {
-        // Behind 16 - left digits and the semicolon stand the bytes that are counted and CRLF.
+        // After 16 - left digits and the semicolon stand the bytes that are counted and CRLF.
         Chunking::Extension(SIZE_LINE_LIMIT - 19 + u16::from(left), size)
     } else {
         at_byte(13, Chunking::SizeLf(size), byte)

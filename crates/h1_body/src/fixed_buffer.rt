@@ -1,7 +1,7 @@
 //! A copy of payload up to a capacity.
 ghost use Rattle.std.specs.Prelude.{◌≡◌, ◌<◌, ◌==◌, [], false, length, OnOk, IfOk, IfErr, MatchOption};
 ghost use Rattle.h1_body.specs.Fixed.{after_write};
-ghost use Rattle.h1_body.specs.Memory.{no_memory};
+ghost use Rattle.h1_error.specs.Memory.{no_memory};
 
 use crate::BodyBytes;
 use bytes::Bytes;

@@ -12,7 +12,7 @@ ghost use Rattle.h1_body.specs.declared.fed.FeedState.TheVariants.{Done};
 ghost use Rattle.h1_body.specs.declared.reader.BodyReader.{BodyReader};
 ghost use Rattle.h1_body.specs.declared.framing.Framing.{Framing};
 
-/// With more bytes behind, an end stays as it is, and payload only grows.
+/// With more bytes after, an end stays as it is, and payload only grows.
 pub fn bodies_grow()
     ensures { (framing : Framing) (bytes more : List ℕ)
         → GrowsTo (body framing bytes) (body framing (bytes ++ more)) }

@@ -1,6 +1,6 @@
 //! Reading a body from pieces of any size (RFC 9112, sections 6 and 7.1).
 ghost use Rattle.std.specs.Prelude.{◌≡◌, ◌++◌, ℕ, List, [], true, false, slice_range, IfOk, IfErr};
-ghost use Rattle.h1_body.specs.Memory.{no_memory};
+ghost use Rattle.h1_error.specs.Memory.{no_memory};
 ghost use Rattle.h1_body.specs.Body.{stop_of, whole, unfinished};
 ghost use Rattle.h1_body.specs.Chunks.{chunked};
 ghost use Rattle.h1_body.specs.Reader.{body, counted, reads, closes_with_link, is_until_close};
@@ -26,12 +26,12 @@ pub enum Reading {
     Chunked(Chunking),
     /// In a body that ends where the link does.
     UntilClose,
-    /// Behind a body that ended where the link did.
+    /// After a body that ended where the link did.
     Ended,
 }
 
 impl BodyReader {
-    /// A reader in front of a body.
+    /// A reader before a body.
     pub fn new(framing: Framing) -> Self
         ensures reads { (bytes : List ℕ) → reads result bytes ≡ body framing bytes }
         ensures closes { closes_with_link result ≡ is_until_close framing }

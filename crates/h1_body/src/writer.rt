@@ -121,6 +121,13 @@ impl BodyWriter {
         payload.len().min(self.room())
     }
 
+    /// Whether less payload was taken than the framing states.
+    pub fn is_short(&self) -> bool
+        ensures { result ≡ is_short self.now }
+    {
+        matches!(self.framing, Some(Framing::Counted(n)) if self.written < n)
+    }
+
     /// Whether the end of the link ends the body.
     pub fn is_close_delimited(&self) -> bool
         ensures { result ≡ ends_with_link self.now.framing }

@@ -1,4 +1,4 @@
--- The cut of a front, and of what goes on behind it.
+-- The cut of a front, and of what goes on after it.
 use Rattle.std.proofs.Common.{◌≡◌, ℕ, ◌+◌, ◌<◌, ◌≤◌, Bool, true, false, cond, Option, Some, None, List, [], ◌∷◌, ◌++◌, length, take, drop, min, MatchOption, refl, sym, ◌∙◌, ap, arith, length-append, ◌==◌}
 use Rattle.std.proofs.lemmas.Grind.{common_steps}
 use Rattle.std.proofs.lemmas.List.{length-take, take-append-drop, take_min}

@@ -15,7 +15,7 @@ is_empty_line Nothing = true
 is_empty_line Cr = true
 is_empty_line Text = false
 
--- the cut, counted from `at`, where `begun` says whether a nonempty line is behind, and `line` is
+-- the cut, counted from `at`, where `begun` says whether a nonempty line came before, and `line` is
 -- what is there of the line that the bytes go on with
 abbrev pub cut_from : ℕ → Bool → LineSoFar → List ℕ → Option ℕ
 cut_from at begun line [] = None
@@ -26,6 +26,6 @@ cut_from at begun line (b ∷ bytes) =
     else cut_from (at + 1) true Nothing bytes)
     else cut_from (at + 1) begun (line_with line b) bytes
 
--- the number of bytes through the first empty line behind a nonempty one
+-- the number of bytes through the first empty line after a nonempty one
 abbrev pub cut : List ℕ → Option ℕ
 cut bytes = cut_from 0 false Nothing bytes

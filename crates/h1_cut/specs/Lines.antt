@@ -2,7 +2,7 @@
 use Rattle.std.specs.Prelude.{ℕ, ◌+◌, Bool, true, false, ◌&&◌, Option, Some, None, List, [], ◌∷◌, ◌++◌, length, ◌==◌, if◌then◌else◌}
 
 -- the whole lines of the bytes, each without its LF, where `line` is what stands before them on the
--- first line; what is behind the last LF is no line
+-- first line; what is after the last LF is no line
 abbrev pub lines_behind : List ℕ → List ℕ → List (List ℕ)
 lines_behind line [] = []
 lines_behind line (b ∷ bytes) =
@@ -14,8 +14,8 @@ is_empty [] = true
 is_empty (b ∷ []) = b == 13
 is_empty (b ∷ c ∷ more) = false
 
--- the number of bytes through the first empty line behind a nonempty one, where `at` bytes are
--- behind and `begun` says whether a nonempty line is among them
+-- the number of bytes through the first empty line after a nonempty one, where `at` bytes came
+-- before and `begun` says whether a nonempty line is among them
 abbrev pub end_of_head : ℕ → Bool → List (List ℕ) → Option ℕ
 end_of_head at begun [] = None
 end_of_head at begun (line ∷ lines) =

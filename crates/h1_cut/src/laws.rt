@@ -4,7 +4,7 @@ ghost use Rattle.std.specs.Prelude.{◌≡◌, ◌≤◌, ◌<◌, ◌++◌, ℕ
 ghost use Rattle.h1_cut.specs.Cut.{cut};
 ghost use Rattle.h1_cut.specs.Lines.{end_of_head, lines_behind};
 
-/// Bytes behind a head don't move its end.
+/// Bytes after a head don't move its end.
 pub fn cut_is_stable()
     ensures { (bytes more : List ℕ) (n : ℕ) → cut bytes ≡ Some n → cut (bytes ++ more) ≡ Some n }
 {}
@@ -21,7 +21,7 @@ pub fn heads_are_prefix_free()
         → cut (head ++ more) ≡ Some (length (head ++ more)) → more ≡ [] }
 {}
 
-/// The cut is the number of bytes through the first empty line behind a nonempty one.
+/// The cut is the number of bytes through the first empty line after a nonempty one.
 pub fn cut_is_by_lines()
     ensures { (bytes : List ℕ) → cut bytes ≡ end_of_head 0 false (lines_behind [] bytes) }
 {}

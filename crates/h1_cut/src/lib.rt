@@ -1,7 +1,7 @@
 //! Where the head of a message ends in a stream of bytes (RFC 9112, sections 2.1 and 2.2).
 //!
 //! The lines of the stream are its parts through each LF, and a line is empty if nothing or one CR
-//! stands before its LF. A head ends with the first empty line behind a nonempty one; the number of
+//! stands before its LF. A head ends with the first empty line after a nonempty one; the number of
 //! bytes through that line is its cut. Whole buffers are asked by [`cut_of`] and [`cut_within`],
 //! pieces of a stream by a [`HeadSearch`].
 #![tactic(auto)]

@@ -48,7 +48,7 @@ task_name task.Trailer = codes "Trailer"
 task_name task.Done = codes "Done"
 task_name task.Failed = codes "Failed"
 
--- the variant's name, and the inner name or the decimal number behind one space
+-- the variant's name, and the inner name or the decimal number after one space
 abbrev pub text_of : ErrorType → List ℕ
 text_of (kind.InvalidHTTPHeader fault) = codes "InvalidHTTPHeader " ++ fault_name fault
 text_of kind.ConnectionClosed = codes "ConnectionClosed"

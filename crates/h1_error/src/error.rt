@@ -1,15 +1,15 @@
 //! Errors, their kinds and the kinds' numbers.
 ghost use Rattle.std.specs.Prelude.{◌≡◌, Some, IfOk, IfErr, false, string_bytes};
-ghost use Rattle.h1_error.specs.declared.error.ErrorType.TheVariants.{NoMemory};
+ghost use Rattle.h1_error.specs.Memory.{no_memory};
 ghost use Rattle.h1_error.specs.Code.{code_of};
 ghost use Rattle.h1_error.specs.Text.{text_of, task_name, connect_name};
 
 use crate::HeadFault;
 use std::alloc::{AllocError, AllocFailed, Global};
-use std::fmt;
 
 /// An error of a connection, a session or a call on a head.
-#[derive(Clone, Copy, Debug, PartialEq, Eq, Hash)]
+#[derive(Clone, Copy, Debug, PartialEq, Eq, Hash, thiserror::Error)]
+#[error("{kind}")]
 pub struct Error {
     /// What went wrong.
     pub kind: ErrorType,
@@ -18,45 +18,62 @@ pub struct Error {
     pub retry: bool,
 }
 
-/// The kinds of error. Each has a number, which [`ErrorType::code`] gives.
-#[derive(Clone, Copy, Debug, PartialEq, Eq, Hash)]
+/// The kinds of error. Each has a number, which [`ErrorType::code`] gives, and a name for reports,
+/// which [`ErrorType::text`] gives. Its message is for people.
+#[derive(Clone, Copy, Debug, PartialEq, Eq, Hash, thiserror::Error)]
 pub enum ErrorType {
     /// The head is refused.
+    #[error("the head is refused: {0}")]
     InvalidHTTPHeader(HeadFault),
     /// The peer closed inside a message (RFC 9112, section 8).
+    #[error("the peer closed the connection inside a message")]
     ConnectionClosed,
     /// A body that its framing doesn't allow (RFC 9112, section 7.1).
+    #[error("the body isn't what its framing allows")]
     InvalidBody,
     /// The link failed in a read.
+    #[error("a read from the link failed")]
     ReadError,
     /// The link failed in a write or a flush.
+    #[error("a write to the link failed")]
     WriteError,
     /// No byte came before a deadline.
+    #[error("no byte came before the deadline")]
     ReadTimedout,
     /// No byte was taken before a deadline.
+    #[error("no byte was taken before the deadline")]
     WriteTimedout,
     /// A body ended before its Content-Length was reached.
+    #[error("the body ended before its Content-Length was reached")]
     PrematureBodyEnd,
     /// A link couldn't be made or taken again.
+    #[error("no link to the server: {0}")]
     ConnectError(ConnectFault),
     /// A task of a kind that doesn't fit where it came.
+    #[error("a task of kind {name} doesn't fit here", name = .0.name())]
     UnexpectedTask(TaskKind),
     /// A module refused with this number.
+    #[error("a module refused with the number {0}")]
     ModuleFailed(u32),
     /// A failed task with this number.
+    #[error("a task failed with the number {0}")]
     TaskFailed(u32),
     /// A module of this key is there already.
+    #[error("a module of this key is there already")]
     Duplicate,
     /// The allocator had no memory.
+    #[error("out of memory")]
     NoMemory,
 }
 
 /// Why a link couldn't be made or taken again.
-#[derive(Clone, Copy, Debug, PartialEq, Eq, Hash)]
+#[derive(Clone, Copy, Debug, PartialEq, Eq, Hash, thiserror::Error)]
 pub enum ConnectFault {
     /// The dialer failed.
+    #[error("the dialer failed")]
     DialFailed,
-    /// Bytes came behind a message's body where none may.
+    /// Bytes came after a message's body where none may.
+    #[error("bytes came after a message's body where none may")]
     DataAfterBody,
 }
 
@@ -94,45 +111,31 @@ impl ErrorType {
         }
     }
 
-    /// The variant's name, and behind one space the inner variant's name or the number in decimal,
-    /// where there is one.
+    /// The kind's name in a report: the variant's name, and after one space the inner variant's
+    /// name or the number in decimal, where there is one.
     pub fn text(&self, alloc: Global) -> Result<String, Error>
         ensures text { IfOk result (λ text. string_bytes text ≡ text_of self.now) }
-        ensures memory { IfErr result (λ error. error ≡ record { kind = NoMemory; retry = false }) }
+        ensures memory { IfErr result (λ error. error ≡ no_memory) }
     {
-        Ok(self.to_string(alloc)?)
-    }
-}
-
-impl fmt::Display for ErrorType {
-    ghost output = { λ kind. Some (text_of kind) };
-
-    fn fmt<W: fmt::Write>(&self, f: &mut fmt::Formatter<W>) -> fmt::Result {
-        match self {
+        let text = match self {
             ErrorType::InvalidHTTPHeader(fault) => {
-                let name = fault.name();
-                write!(f, "InvalidHTTPHeader {name}")
+                format!(in alloc; "InvalidHTTPHeader {}", fault.name())?
             }
-            ErrorType::ConnectionClosed => write!(f, "ConnectionClosed"),
-            ErrorType::InvalidBody => write!(f, "InvalidBody"),
-            ErrorType::ReadError => write!(f, "ReadError"),
-            ErrorType::WriteError => write!(f, "WriteError"),
-            ErrorType::ReadTimedout => write!(f, "ReadTimedout"),
-            ErrorType::WriteTimedout => write!(f, "WriteTimedout"),
-            ErrorType::PrematureBodyEnd => write!(f, "PrematureBodyEnd"),
-            ErrorType::ConnectError(fault) => {
-                let name = fault.name();
-                write!(f, "ConnectError {name}")
-            }
-            ErrorType::UnexpectedTask(kind) => {
-                let name = kind.name();
-                write!(f, "UnexpectedTask {name}")
-            }
-            ErrorType::ModuleFailed(number) => write!(f, "ModuleFailed {number}"),
-            ErrorType::TaskFailed(number) => write!(f, "TaskFailed {number}"),
-            ErrorType::Duplicate => write!(f, "Duplicate"),
-            ErrorType::NoMemory => write!(f, "NoMemory"),
-        }
+            ErrorType::ConnectionClosed => format!(in alloc; "ConnectionClosed")?,
+            ErrorType::InvalidBody => format!(in alloc; "InvalidBody")?,
+            ErrorType::ReadError => format!(in alloc; "ReadError")?,
+            ErrorType::WriteError => format!(in alloc; "WriteError")?,
+            ErrorType::ReadTimedout => format!(in alloc; "ReadTimedout")?,
+            ErrorType::WriteTimedout => format!(in alloc; "WriteTimedout")?,
+            ErrorType::PrematureBodyEnd => format!(in alloc; "PrematureBodyEnd")?,
+            ErrorType::ConnectError(fault) => format!(in alloc; "ConnectError {}", fault.name())?,
+            ErrorType::UnexpectedTask(task) => format!(in alloc; "UnexpectedTask {}", task.name())?,
+            ErrorType::ModuleFailed(number) => format!(in alloc; "ModuleFailed {number}")?,
+            ErrorType::TaskFailed(number) => format!(in alloc; "TaskFailed {number}")?,
+            ErrorType::Duplicate => format!(in alloc; "Duplicate")?,
+            ErrorType::NoMemory => format!(in alloc; "NoMemory")?,
+        };
+        Ok(text)
     }
 }
 
@@ -176,10 +179,10 @@ impl From<ErrorType> for Error {
 }
 
 impl From<AllocError> for Error {
-    ghost use Rattle.std.specs.Prelude.{◌≡◌, false};
-    ghost use Rattle.h1_error.specs.declared.error.ErrorType.TheVariants.{NoMemory};
+    ghost use Rattle.std.specs.Prelude.{◌≡◌};
+    ghost use Rattle.h1_error.specs.Memory.{no_memory};
 
-    ghost from_gives = { λ _ error. error ≡ record { kind = NoMemory; retry = false } };
+    ghost from_gives = { λ _ error. error ≡ no_memory };
 
     fn from(_refused: AllocError) -> Error {
         Error::from(ErrorType::NoMemory)
@@ -187,22 +190,12 @@ impl From<AllocError> for Error {
 }
 
 impl<T: Drop> From<AllocFailed<T>> for Error {
-    ghost use Rattle.std.specs.Prelude.{◌≡◌, false};
-    ghost use Rattle.h1_error.specs.declared.error.ErrorType.TheVariants.{NoMemory};
+    ghost use Rattle.std.specs.Prelude.{◌≡◌};
+    ghost use Rattle.h1_error.specs.Memory.{no_memory};
 
-    ghost from_gives = { λ _ error. error ≡ record { kind = NoMemory; retry = false } };
+    ghost from_gives = { λ _ error. error ≡ no_memory };
 
     fn from(_refused: AllocFailed<T>) -> Error {
         Error::from(ErrorType::NoMemory)
     }
 }
-
-impl fmt::Display for Error {
-    ghost output = { λ error. Some (text_of error.kind) };
-
-    fn fmt<W: fmt::Write>(&self, f: &mut fmt::Formatter<W>) -> fmt::Result {
-        self.kind.fmt(f)
-    }
-}
-
-impl std::error::Error for Error {}

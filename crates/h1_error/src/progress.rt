@@ -8,7 +8,7 @@ pub enum End {
     Finished,
     /// The last reply closes the connection (RFC 9112, section 9.6).
     NotKept,
-    /// Bytes came behind the last request, and pipelining is off.
+    /// Bytes came after the last request, and pipelining is off.
     Overread,
     /// The connection failed.
     Failed(Error),
@@ -23,7 +23,7 @@ pub enum Waiting {
     Write,
     /// The application isn't ready.
     App,
-    /// The poll made as many link calls as one poll may.
+    /// As many link calls moved bytes as may in one poll.
     Budget,
 }
 

@@ -7,7 +7,7 @@ use Rattle.std.specs.List.{starts_with}
 abbrev pub is_word_byte : ℕ → Bool
 is_word_byte b = is_ascii_alphanumeric b || b == 95
 
--- the place behind one or more such bytes and one space, where `at` of them are behind
+-- the place after one or more such bytes and one space, where `at` of them are before
 abbrev pub start_from : ℕ → List ℕ → Option ℕ
 start_from at [] = None
 start_from at (b ∷ bytes) =
@@ -32,13 +32,13 @@ is_mark bytes = starts_with nat_eq bytes (codes " HTTP/") && begins_with_digit (
 abbrev pub later_mark : Option ℕ → ℕ → List ℕ → Option ℕ
 later_mark found at left = if is_mark left then Some at else found
 
--- the last place on the line at which a mark stands, where `at` bytes are behind
+-- the last place on the line at which a mark stands, where `at` bytes are before
 abbrev pub last_mark : Option ℕ → ℕ → List ℕ → Option ℕ
 last_mark found at [] = found
 last_mark found at (b ∷ bytes) =
     if b == 10 then found else last_mark (later_mark found at (b ∷ bytes)) (at + 1) bytes
 
--- how many bytes in front are the target, which has one byte or more
+-- how many bytes at the start are the target, which has one byte or more
 abbrev pub target_len : List ℕ → Option ℕ
 target_len [] = None
 target_len (b ∷ bytes) = if b == 10 then None else last_mark None 1 bytes

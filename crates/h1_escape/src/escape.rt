@@ -1,67 +1,69 @@
 //! The escape of an illegal request line (RFC 9112, section 3.2; RFC 3986, section 2.1).
-ghost use Rattle.std.specs.Prelude.{◌≡◌, ◌<◌, ◌++◌, false, option_map, IfOk, IfErr, OnOk};
-ghost use Rattle.h1_error.specs.declared.error.ErrorType.TheVariants.{NoMemory};
-ghost use Rattle.h1_escape.specs.Escape.{esc, escaped, escaped_byte, has_illegal, hex_digit, is_illegal};
+ghost use Rattle.std.specs.Prelude.{◌≡◌, ◌-◌, ◌^◌, ◌++◌, false, count_by, length, min, option_map, IfOk, IfErr};
+ghost use Rattle.h1_error.specs.Memory.{no_memory};
+ghost use Rattle.h1_escape.specs.Escape.{esc, escaped, is_illegal};
 
 use crate::target::{target_len, target_start};
 use h1_error::Error;
+use percent_encoding::{AsciiSet, CONTROLS, ascii_set, percent_encode};
 use std::alloc::{AllocError, Global};
+
+/// The bytes of ASCII that no target may have. Those outside of ASCII are escaped by any set.
+const ILLEGAL: AsciiSet = ascii_set!(CONTROLS.add(b' ').add(b'"').add(b'<').add(b'>'));
 
 /// The head with the illegal bytes of its target escaped, or `None` where the first line has no
 /// method, target and version, or where no byte of the target is illegal.
 pub fn escape_head(alloc: Global, head: &[u8]) -> Result<Option<Vec<u8>>, Error>
     ensures ok { IfOk result (λ found. option_map (λ v. v.items) found ≡ esc head.now) }
-    ensures err { IfErr result (λ error. error ≡ record { kind = NoMemory; retry = false }) }
+    ensures err { IfErr result (λ error. error ≡ no_memory) }
 {
     let Some(start) = target_start(head) else {
         return Ok(None);
     };
-    let Some(len) = target_len(&head[start..]) else {
+    let line = &head[start..];
+    let Some(len) = target_len(line) else {
         return Ok(None);
     };
-    let target = &head[start..start + len];
-    if !has_illegal(target) {
+    let target = &line[..len];
+    if illegal_count(target) == 0 {
         return Ok(None);
     }
-    let mut out = Vec::new(alloc);
-    out.extend_from_slice(&head[..start])?;
-    push_escaped(&mut out, target)?;
-    out.extend_from_slice(&head[start + len..])?;
-    Ok(Some(out))
+    let escaped = with_target_escaped(alloc, &head[..start], target, &head[start + len..])?;
+    Ok(Some(escaped))
 }
 
-/// Appends the bytes, each illegal one as `%` and two hexadecimal digits in upper case.
-fn push_escaped(out: &mut Vec<u8>, bytes: &[u8]) -> Result<(), AllocError>
-    ensures { OnOk result (out.new.items ≡ out.old.items ++ escaped bytes.now) }
+/// The three parts of a head in one, with the illegal bytes of the target escaped.
+fn with_target_escaped(
+    alloc: Global,
+    front: &[u8],
+    target: &[u8],
+    rest: &[u8],
+) -> Result<Vec<u8>, AllocError>
+    ensures { IfOk result (λ head. head.items ≡ front.now ++ escaped target.now ++ rest.now) }
 {
-    for byte in bytes {
-        push_byte(out, *byte)?;
+    let mut head = Vec::with_capacity(alloc, escaped_len(front, target, rest))?;
+    head.extend_from_slice(front)?;
+    for piece in percent_encode(target, ILLEGAL) {
+        head.extend_from_slice(piece.as_bytes())?;
     }
-    Ok(())
+    head.extend_from_slice(rest)?;
+    Ok(head)
 }
 
-fn push_byte(out: &mut Vec<u8>, byte: u8) -> Result<(), AllocError>
-    ensures { OnOk result (out.new.items ≡ out.old.items ++ escaped_byte byte) }
+/// The length of the three parts with the illegal bytes of the target escaped: an escape has two
+/// bytes more than the byte that it stands for.
+fn escaped_len(front: &[u8], target: &[u8], rest: &[u8]) -> usize
+    ensures { result ≡ min (length (front.now ++ escaped target.now ++ rest.now)) (2 ^ 64 - 1) }
 {
-    if is_illegal(byte) {
-        out.push(b'%')?;
-        out.push(hex_digit(byte / 16))?;
-        out.push(hex_digit(byte % 16))?;
-    } else {
-        out.push(byte)?;
-    }
-    Ok(())
+    let more = illegal_count(target).saturating_mul(2);
+    let len = front.len().saturating_add(target.len());
+    len.saturating_add(rest.len()).saturating_add(more)
 }
 
-fn has_illegal(bytes: &[u8]) -> bool
-    ensures { result ≡ has_illegal bytes.now }
+fn illegal_count(bytes: &[u8]) -> usize
+    ensures { result ≡ count_by is_illegal bytes.now }
 {
-    for byte in bytes {
-        if is_illegal(*byte) {
-            return true;
-        }
-    }
-    false
+    bytes.iter().filter(|byte| is_illegal(**byte)).count()
 }
 
 /// Whether no target may have the byte: a control byte, a space, `"`, `<`, `>`, or one outside of
@@ -69,16 +71,5 @@ fn has_illegal(bytes: &[u8]) -> bool
 fn is_illegal(byte: u8) -> bool
     ensures { result ≡ is_illegal byte }
 {
-    byte <= b' ' || byte == b'"' || byte == b'<' || byte == b'>' || byte >= 127
-}
-
-fn hex_digit(value: u8) -> u8
-    requires { value < 16 }
-    ensures { result ≡ hex_digit value }
-{
-    if value < 10 {
-        b'0' + value
-    } else {
-        b'A' + (value - 10)
-    }
+    ILLEGAL.should_percent_encode(byte)
 }

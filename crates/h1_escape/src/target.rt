@@ -2,7 +2,7 @@
 ghost use Rattle.std.specs.Prelude.{◌≡◌, ◌≤◌, ℕ, IfSome, length};
 ghost use Rattle.h1_escape.specs.Target.{begins_with_digit, is_mark, is_word_byte, later_mark, target_len, target_start};
 
-/// The place behind a method of letters, digits and `_` and one space, where the head begins so.
+/// The place after a method of letters, digits and `_` and one space, where the head begins so.
 pub fn target_start(head: &[u8]) -> Option<usize>
     ensures exact { result ≡ target_start head.now }
     ensures within { IfSome result (λ start. start ≤ length head.now) }

@@ -12,7 +12,7 @@ drop_here : (lines : List Line) (place : ℕ) (line : Line) → place < length l
 drop_here lines place line within is =
     drop_more lines place line within ∙ ap (λ first. first ∷ drop (place + 1) lines) (sym is)
 
--- a line of the name behind lines of other names
+-- a line of the name after lines of other names
 pub first_here : (name : List ℕ) (lines : List Line) (place : ℕ) (line : Line)
     → place < length lines
     → line ≡ get_or lines place line → is_named name line ≡ true
@@ -35,7 +35,7 @@ first_here name lines place line within is named has gives puts =
           ∙ ap (λ rest. take place lines ++ with_line name value rest) here ∙ rw named refl;
     }
 
--- a write at the place behind which the rest was changed
+-- a write at the place after which the rest was changed
 pub put_here : (lines rest : List Line) (place : ℕ) (line : Line) → place < length lines
     → set (take (place + 1) lines ++ rest) place line ≡ take place lines ++ line ∷ rest
 put_here lines rest place line within =

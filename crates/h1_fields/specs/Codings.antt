@@ -28,7 +28,7 @@ is_chunked_last lines = ends_chunked false (codings lines)
 abbrev pub has_coding_line : List Line → Bool
 has_coding_line lines = has_line (codes "Transfer-Encoding") lines
 
--- the connection is to be closed behind this message
+-- the connection is to be closed after this message
 abbrev pub lists_close : List Line → Bool
 lists_close lines = lists_named (codes "Connection") (codes "close") lines
 
@@ -36,7 +36,7 @@ lists_close lines = lists_named (codes "Connection") (codes "close") lines
 abbrev pub lists_keep_alive : List Line → Bool
 lists_keep_alive lines = lists_named (codes "Connection") (codes "keep-alive") lines
 
--- the same in other words: some codings, and `chunked` behind them
+-- the same in other words: some codings, and `chunked` after them
 pub record EndsInChunked (codings : List (List ℕ)) : Type 0 where
   pub before : List (List ℕ)
   pub last : List ℕ

@@ -7,7 +7,7 @@ use Rattle.h1_fields.specs.declared.content_length.ContentLength.TheVariants as 
 use Rattle.h1_fields.specs.Lines.{Line}
 use Rattle.h1_fields.specs.ListParts.{parts_of}
 
--- the number that the digits write behind those of n, below 2 ^ 64
+-- the number that the digits write after those of n, below 2 ^ 64
 abbrev pub number_from : ℕ → List ℕ → Option ℕ
 number_from n [] = Some n
 number_from n (b ∷ bytes) =
@@ -27,7 +27,7 @@ with_number stated.Absent (Some n) = stated.Number n
 with_number (stated.Number m) None = stated.Bad
 with_number (stated.Number m) (Some n) = if m == n then stated.Number m else stated.Bad
 
--- what is known behind these parts
+-- what is known after these parts
 abbrev pub agreed : ContentLength → List (List ℕ) → ContentLength
 agreed found [] = found
 agreed found (part ∷ parts) = agreed (with_number found (number part)) parts

@@ -1,4 +1,3 @@
-pub mod Memory
 pub mod Names
 pub mod Lines
 pub mod ListParts

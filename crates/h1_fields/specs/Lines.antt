@@ -44,7 +44,7 @@ with_line name value (line ∷ lines) =
     if is_named name line then (name, value) ∷ without name lines
     else line ∷ with_line name value lines
 
--- field-line CRLF, with one space behind the colon
+-- field-line CRLF, with one space after the colon
 abbrev pub print_line : Line → List ℕ
 print_line line = line.0 ++ codes ": " ++ line.1 ++ (13 ∷ 10 ∷ [])
 

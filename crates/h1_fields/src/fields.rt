@@ -1,6 +1,6 @@
 //! The field lines of a message (RFC 9110, section 5).
 ghost use Rattle.std.specs.Prelude.{◌≡◌, ◌≤◌, ◌==◌, ◌∷◌, ◌++◌, [], length, option_map, drop, take, IfOk, OnOk, OnErr, IsOkUnless, MatchOption};
-ghost use Rattle.h1_fields.specs.Memory.{no_memory};
+ghost use Rattle.h1_error.specs.Memory.{no_memory};
 ghost use Rattle.h1_fields.specs.Lines.{is_named, has_line, values_of, first_value, without, with_line};
 ghost use Rattle.h1_fields.specs.Search.{HasNone, IsFirstAt};
 

@@ -56,7 +56,7 @@ impl<'a> Iterator for PartsIter<'a> {
     }
 }
 
-/// The bytes before the first comma, and those behind it where there is one.
+/// The bytes before the first comma, and those after it where there is one.
 fn first_piece(value: &[u8]) -> (&[u8], Option<&[u8]>)
     ensures { slice_split is_comma value.now
         ≡ result.0.now ∷ pieces_behind (option_map (λ behind. behind.now) result.1) }

@@ -6,17 +6,17 @@ use Rattle.httparse.specs.Grammar.{is_token, is_token_byte}
 use Rattle.h1_error.specs.declared.error.Error.{Error}
 use Rattle.h1_error.specs.declared.error.ErrorType.TheVariants.{NoMemory}
 use Rattle.h1_head.specs.Faults.{line_fault, RefusedFor}
-use Rattle.h1_app.specs.declared.application.Reply.{Reply}
-use Rattle.h1_app.specs.declared.transcript.Entry.{Entry}
+use Rattle.h1_transcript.specs.declared.reply.Reply.{Reply}
+use Rattle.h1_transcript.specs.declared.transcript.Entry.{Entry}
 use Rattle.futures.specs.declared.task.Poll.TheVariants.{Ready}
 use Rattle.h1_head.specs.Views.{RequestView}
 use Rattle.h1_server.specs.SessionView.{SessionView}
 use Rattle.h1_server.specs.declared.settings.Settings.{Settings}
-use Rattle.h1_app.specs.Application.{GivesReply, given_by, payload_of}
-use Rattle.h1_app.specs.Exchange.{IsAllowed}
+use Rattle.h1_application.specs.Application.{GivesReply, given_by, payload_of}
+use Rattle.h1_transcript.specs.Exchange.{IsAllowed}
 use Rattle.h1_greeting.specs.Greeting.{Greeting, greeting}
 
--- the line that states the length is refused only for want of memory
+-- the line that states the length is refused only where memory ran out
 name_is : is_token (codes "content-length") ≡ true
 unfolding is_token_byte
 name_is = refl

@@ -12,17 +12,17 @@ use Rattle.h1_link.specs.Gate.{IsClosed, gate_from}
 use Rattle.h1_link.specs.MemPlan.{SamePlan}
 use Rattle.h1_link.specs.MemRule.{Rule}
 use Rattle.h1_link.specs.MemState.{MemState, new_mem_state}
-use Rattle.h1_app.specs.Agrees.{Agrees}
+use Rattle.h1_transcript.specs.Agrees.{Agrees}
 use Rattle.h1_app.specs.Causes.{Cause, PendedNew, PendedOn, PendedBy}
-use Rattle.h1_app.specs.Since.{Since}
+use Rattle.h1_app.specs.Accounted.{Accounted}
 use Rattle.h1_app.specs.View.{View, entries}
-use Rattle.h1_app.specs.declared.transcript.Entry.{Entry}
+use Rattle.h1_transcript.specs.declared.transcript.Entry.{Entry}
 use Rattle.h1_app.specs.declared.exchange.Stage.{Stage}
 use Rattle.h1_app.specs.declared.exchange.Stage.TheVariants as stage
 use Rattle.h1_greeting.specs.Greeting.{Greeting}
 use Rattle.h1_greeting.specs.Polled.{Polled}
 
--- the link ends behind what is ahead, and takes all: neither was set since a call waited
+-- the link ends after what is ahead, and takes all: neither was set since a call waited
 pub record NeverWaits (link : MemState) : Type 0 where
   pub end_at : IsSome link.end_at
   pub gate : link.gate ≡ Open
@@ -35,7 +35,7 @@ pub record IsServed {C A J : Type 0} (given : List ℕ) (polls : ℕ) (served : 
   pub put : served.session.link.put ≡ given
   pub ready : NeverWaits served.session.link
   pub limit : served.limit ≡ None
-  pub since : Since (λ link. link.state) new_mem_state.state served.session served.done served.last
+  pub accounted : Accounted (λ link. link.state) new_mem_state.state served.session served.done served.last
   pub agrees : Agrees Greeting None new_mem_state.state served.session.link.state (entries served)
   pub polled : Polled polls served.end served.session.link.state
 
@@ -106,11 +106,11 @@ polled_on before polls from to (Pending waiting.Write) small on was reads writes
 polled_on before polls from to (Pending waiting.App) small on was reads writes cause =
     absurd (no_pending from.done to.done from.stage to.stage cause.1.1)
 
--- what held before a poll holds behind it
+-- what held before a poll holds after it
 pub served_on : {C A J : Type 0} (given : List ℕ) (polls : ℕ) (from to : View MemState C A J) (answer : Progress)
     → IsServed given polls from → polls < 1000 → from.end ≡ None → to.limit ≡ from.limit
     → SamePlan from.session.link to.session.link → Rule to.session.link
-    → Since (λ link. link.state) new_mem_state.state to.session to.done to.last
+    → Accounted (λ link. link.state) new_mem_state.state to.session to.done to.last
     → Agrees Greeting to.limit new_mem_state.state to.session.link.state (entries to)
     → Cause (λ (link : MemState). link.state) (λ _. Unit {0}) (λ _. 0) new_mem_state.state from to answer
     → IsServed given (polls + 1) to
@@ -119,7 +119,7 @@ served_on given polls from to answer was small on limit plan rule since agrees c
       put = plan.put ∙ was.put;
       ready = ready;
       limit = limit ∙ was.limit;
-      since = since;
+      accounted = since;
       agrees = subst (λ l. Agrees Greeting l new_mem_state.state to.session.link.state (entries to)) (limit ∙ was.limit) agrees;
       polled = polled_on new_mem_state.state polls from to answer small on was.polled (no_reads to.session.link ready rule) (no_writes to.session.link ready rule) cause;
     }

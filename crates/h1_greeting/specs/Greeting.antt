@@ -1,8 +1,8 @@
 -- What the application that greets replies.
 use Rattle.std.specs.Prelude.{◌≡◌, [], ◌∷◌, true, codes}
 use Rattle.h1_head.specs.Response.{new_response}
-use Rattle.h1_app.specs.declared.application.Reply.{Reply}
-use Rattle.h1_app.specs.Application.{Given}
+use Rattle.h1_transcript.specs.declared.reply.Reply.{Reply}
+use Rattle.h1_transcript.specs.Given.{Given}
 
 abbrev pub greeting : Reply
 greeting = record { header = record (new_response 200) { fields = (codes "content-length", codes "6") ∷ [] }; body = codes "hello\n" }

@@ -5,9 +5,9 @@ use Rattle.std.proofs.lemmas.Fmt.{decimal_digit}
 use Rattle.h1_fields.specs.Names.{same_name}
 use Rattle.h1_fields.specs.ContentLength.{content_length}
 use Rattle.h1_fields.specs.declared.content_length.ContentLength.TheVariants.{Number}
-use Rattle.h1_app.specs.declared.application.Reply.{Reply}
-use Rattle.h1_app.specs.Application.{IsLawful, IsCounted, LawfulReplies}
-use Rattle.h1_app.specs.EchoLaw.{length_line}
+use Rattle.h1_transcript.specs.declared.reply.Reply.{Reply}
+use Rattle.h1_transcript.specs.Lawful.{IsLawful, IsCounted, LawfulReplies}
+use Rattle.h1_application.specs.LengthLine.{length_line}
 use Rattle.h1_greeting.specs.Greeting.{Greeting, greeting}
 
 length_name : same_name (codes "Content-Length") (codes "content-length") ≡ true

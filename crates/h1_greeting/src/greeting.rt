@@ -3,7 +3,7 @@ ghost use Rattle.std.specs.Prelude.{◌≡◌, [], IfOk, IfErr, IfSome, None, So
 ghost use Rattle.std.specs.List.{All};
 ghost use Rattle.h1_error.specs.declared.error.ErrorType.TheVariants.{NoMemory};
 ghost use Rattle.h1_link.specs.MemState.{new_mem_state};
-ghost use Rattle.h1_app.specs.Agrees.{Agrees};
+ghost use Rattle.h1_transcript.specs.Agrees.{Agrees};
 ghost use Rattle.h1_app.specs.View.{entries};
 ghost use Rattle.h1_greeting.specs.Greeting.{Greeting, greeting};
 ghost use Rattle.h1_greeting.specs.Polled.{Polled};

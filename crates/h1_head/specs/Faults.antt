@@ -6,13 +6,13 @@ use Rattle.h1_error.specs.declared.error.ErrorType.TheVariants.{InvalidHTTPHeade
 use Rattle.h1_error.specs.declared.head_fault.HeadFault.{HeadFault}
 use Rattle.h1_error.specs.declared.head_fault.HeadFault.TheVariants.{BadMethod, BadName, BadValue, BadStatus}
 use Rattle.httparse.specs.Grammar.{is_token}
-use Rattle.h1_fields.specs.Memory.{no_memory}
+use Rattle.h1_error.specs.Memory.{no_memory}
 
 -- the error that says that a head is refused
 abbrev pub refusal : HeadFault → Error
 refusal fault = record { kind = InvalidHTTPHeader fault; retry = false }
 
--- the answer where there is a fault is that fault, and else only want of memory is an error
+-- the answer where there is a fault is that fault, and else only out of memory is an error
 abbrev pub RefusedFor : {T : Type 0} → Option HeadFault → Result T Error → Type 0
 RefusedFor None result = IsOkUnless result no_memory
 RefusedFor (Some fault) result = result ≡ Err (refusal fault)

@@ -57,7 +57,7 @@ is_http_1 version = is version.0
     is H2 = false
     is H3 = false
 
--- HTTP/1.0 or HTTP/1.1, by the digit behind the dot
+-- HTTP/1.0 or HTTP/1.1, by the digit after the dot
 abbrev pub minor_version : ℕ → Version
 minor_version zero = HTTP_10
 minor_version (suc n) = HTTP_11

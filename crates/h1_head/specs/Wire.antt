@@ -21,7 +21,7 @@ head_bytes view = print_status_line view ++ print_lines view.fields ++ (13 ∷ 1
 abbrev pub keep_option : Bool → List ℕ
 keep_option keep = if keep then codes "keep-alive" else codes "close"
 
--- the head of a final response as it is written: with Date, and behind it Connection
+-- the head of a final response as it is written: with Date, and after it Connection
 abbrev pub reply_head : ResponseView → List ℕ → Bool → ResponseView
 reply_head view date keep =
     let dated = with_line (codes "Date") date view.fields in

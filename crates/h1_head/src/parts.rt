@@ -1,7 +1,7 @@
 //! Heads made from the parts of other types (RFC 9112, section 3.2).
 ghost use Rattle.std.specs.Prelude.{◌≡◌, IfOk, IsOkUnless, option_map, unwrap_or, []};
 ghost use Rattle.http_uri.specs.Uri.{uri_authority};
-ghost use Rattle.h1_fields.specs.Memory.{no_memory};
+ghost use Rattle.h1_error.specs.Memory.{no_memory};
 ghost use Rattle.h1_head.specs.Parts.{lines_of, target_of};
 
 use h1_error::Error;

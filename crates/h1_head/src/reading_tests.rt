@@ -234,7 +234,7 @@ fn is_unread_in_front(alloc: Global, head: &[u8]) -> Result<bool, Error> {
     Ok(true)
 }
 
-/// A head, and the next one behind it.
+/// A head, and the next one after it.
 fn followed(alloc: Global, head: &[u8]) -> Result<Vec<u8>, Error> {
     let mut all = Vec::new(alloc);
     all.extend_from_slice(head)?;

@@ -1,7 +1,7 @@
 //! The head of a request (RFC 9112, section 3).
 ghost use Rattle.std.specs.Prelude.{◌≡◌, ◌++◌, ◌∷◌, [], IsTrue, IfOk, OnOk, OnErr, IsOkUnless, option_map};
 ghost use Rattle.httparse.specs.Grammar.{IsToken, is_token};
-ghost use Rattle.h1_fields.specs.Memory.{no_memory};
+ghost use Rattle.h1_error.specs.Memory.{no_memory};
 ghost use Rattle.h1_fields.specs.Lines.{has_line, first_value, values_of, with_line, without};
 ghost use Rattle.h1_head.specs.Faults.{RefusedFor, method_fault, line_fault};
 ghost use Rattle.h1_head.specs.Request.{new_request, request_read, end_stream_of};

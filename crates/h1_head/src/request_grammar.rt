@@ -1,7 +1,7 @@
 //! The head of a request by the grammar (RFC 9112, sections 2.2, 3 and 5).
 ghost use Rattle.std.specs.Prelude.{◌≡◌, length, map, All, IfOk, IsOkUnless, MatchOption};
 ghost use Rattle.httparse.specs.Spans.{IsHeaderWithin, header_bytes, IsRequestOf, IsRequestWithin};
-ghost use Rattle.h1_fields.specs.Memory.{no_memory};
+ghost use Rattle.h1_error.specs.Memory.{no_memory};
 ghost use Rattle.h1_head.specs.RequestGrammar.{HasNoHead, IsHead};
 ghost use Rattle.h1_head.specs.RequestSpans.{request_at};
 

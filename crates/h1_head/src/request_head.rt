@@ -1,10 +1,10 @@
 //! The head of a request, read from the front of a stream (RFC 9112, sections 2 to 6).
 //!
 //! What came so far goes in, and what is known of the head comes out. The answer depends on nothing
-//! but these bytes, and an accepted or refused head stays so whatever comes behind it.
+//! but these bytes, and an accepted or refused head stays so whatever comes after it.
 ghost use Rattle.std.specs.Prelude.{IfOk, IsOkUnless, MatchOption};
 ghost use Rattle.h1_cut.specs.Search.{HasLooked};
-ghost use Rattle.h1_fields.specs.Memory.{no_memory};
+ghost use Rattle.h1_error.specs.Memory.{no_memory};
 ghost use Rattle.h1_head.specs.RequestHead.{IsStepOf};
 ghost use Rattle.h1_head.specs.RequestGrammar.{IsNoHead};
 ghost use Rattle.h1_head.specs.RequestVerdict.{IsSaidBy, IsSettlingOf, IsVerdictOn};

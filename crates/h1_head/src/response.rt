@@ -1,7 +1,7 @@
 //! The head of a response (RFC 9112, section 4).
 ghost use Rattle.std.specs.Prelude.{◌≡◌, ◌++◌, ◌∷◌, [], MatchOption, IfOk, OnOk, OnErr, IsOkUnless, option_map, decimal, codes};
 ghost use Rattle.http.specs.StatusCode.{IsStatusCode, code_digits, reason_phrase};
-ghost use Rattle.h1_fields.specs.Memory.{no_memory};
+ghost use Rattle.h1_error.specs.Memory.{no_memory};
 ghost use Rattle.h1_fields.specs.Lines.{has_line, first_value, values_of, with_line, without, print_lines};
 ghost use Rattle.h1_head.specs.Faults.{RefusedFor, refusal, status_fault, line_fault, phrase_fault};
 ghost use Rattle.h1_head.specs.Response.{new_response, reason_of};

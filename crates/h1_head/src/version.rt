@@ -49,7 +49,7 @@ pub(crate) fn name_of(version: Version) -> Option<&'static str>
     }
 }
 
-/// HTTP/1.0 or HTTP/1.1, by the digit behind the dot.
+/// HTTP/1.0 or HTTP/1.1, by the digit after the dot.
 pub(crate) fn with_minor(minor: u8) -> Version
     ensures { result ≡ minor_version minor }
 {

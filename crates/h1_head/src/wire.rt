@@ -1,6 +1,6 @@
 //! The bytes of heads (RFC 9112, sections 2.1, 3 and 4).
 ghost use Rattle.std.specs.Prelude.{◌≡◌, ◌++◌, [], unwrap_or, IsTrue, IsSomeAnd, IfOk, OnOk, OnErr, IsOkUnless, MatchOption};
-ghost use Rattle.h1_fields.specs.Memory.{no_memory};
+ghost use Rattle.h1_error.specs.Memory.{no_memory};
 ghost use Rattle.h1_fields.specs.Lines.{print_line, print_lines};
 ghost use Rattle.h1_head.specs.Versions.{is_http_1, version_name};
 ghost use Rattle.h1_head.specs.Response.{reason_of};
@@ -12,7 +12,7 @@ use bytes::BytesMut;
 use h1_error::Error;
 use http::Version;
 
-/// Appends the status line, the field lines and the empty line behind them.
+/// Appends the status line, the field lines and the empty line after them.
 pub fn push_response_head(header: &ResponseHeader, out: &mut Vec<u8>) -> Result<(), Error>
     requires { IsTrue (is_http_1 header.now.version) }
     ensures ok { OnOk result (out.new.items ≡ out.old.items ++ head_bytes header.now) }
@@ -24,7 +24,7 @@ pub fn push_response_head(header: &ResponseHeader, out: &mut Vec<u8>) -> Result<
     Ok(())
 }
 
-/// The bytes of the head of a final reply: with Date, and behind it Connection.
+/// The bytes of the head of a final reply: with Date, and after it Connection.
 pub fn reply_bytes(header: &ResponseHeader, date: &[u8; 29], keep: bool) -> Result<Vec<u8>, Error>
     requires { IsTrue (is_http_1 header.now.version) }
     ensures ok { IfOk result

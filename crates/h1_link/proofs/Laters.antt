@@ -12,12 +12,12 @@ use Rattle.h1_link.specs.declared.link.WriteStep.TheVariants as write
 use Rattle.h1_link.specs.declared.link.FlushStep.{FlushStep}
 use Rattle.h1_link.specs.declared.link.FlushStep.TheVariants as flush
 
--- nothing more behind known bytes leaves them
+-- nothing more after known bytes leaves them
 pub append_known-nil : (known : Option (List ℕ)) → append_known known [] ≡ known
 append_known-nil None = refl
 append_known-nil (Some bytes) = ap Some (append-nil bytes)
 
--- two pieces behind known bytes are one
+-- two pieces after known bytes are one
 pub append_known-on : (known : Option (List ℕ)) (a b : List ℕ)
     → append_known (append_known known a) b ≡ append_known known (a ++ b)
 append_known-on None a b = refl
@@ -40,6 +40,7 @@ later_itself s = record {
   written = grew_itself s.written;
   ended = λ h. h;
   flushed = omega arith;
+  shut = λ h. h;
   counts = omega arith;
 }
 
@@ -49,6 +50,7 @@ later_on a b c first second = record {
   written = grew_on _ _ _ first.written second.written;
   ended = λ h. second.ended (first.ended h);
   flushed = omega arith;
+  shut = λ h. second.shut (first.shut h);
   counts = omega arith;
 }
 
@@ -63,6 +65,7 @@ later_keeps old new kept = record {
   written = grew_same _ _ kept.written;
   ended = λ h. rw kept.ended h;
   flushed = omega arith;
+  shut = kept.shut;
   counts = kept.counts;
 }
 
@@ -72,6 +75,7 @@ keeps_itself s = record {
   written = refl;
   ended = refl;
   flushed = refl;
+  shut = λ h. h;
   counts = omega arith;
 }
 
@@ -81,18 +85,20 @@ keeps_on a b c first second = record {
   written = second.written ∙ first.written;
   ended = second.ended ∙ first.ended;
   flushed = second.flushed ∙ first.flushed;
+  shut = λ h. second.shut (first.shut h);
   counts = omega arith;
 }
 
 -- a state with the same bytes, whose counts didn't fall
 counted : (old new : LinkState) → new.given ≡ old.given → new.written ≡ old.written
-    → (IsTrue old.ended → IsTrue new.ended) → old.flushed ≤ new.flushed → NoCountFalls old new
-    → Later old new
-counted old new given written ended flushed counts = record {
+    → (IsTrue old.ended → IsTrue new.ended) → old.flushed ≤ new.flushed
+    → (IsTrue old.shut → IsTrue new.shut) → NoCountFalls old new → Later old new
+counted old new given written ended flushed shut counts = record {
   given = grew_same _ _ given;
   written = grew_same _ _ written;
   ended = ended;
   flushed = flushed;
+  shut = shut;
   counts = counts;
 }
 
@@ -103,12 +109,13 @@ later_read s buffer (read.Got n) = record {
   written = grew_itself s.written;
   ended = λ h. h;
   flushed = omega arith;
+  shut = λ h. h;
   counts = omega arith;
 }
-later_read s buffer read.End = counted _ _ refl refl (λ _. refl) (omega arith) (omega arith)
-later_read s buffer read.NotReady = counted _ _ refl refl (λ h. h) (omega arith) (omega arith)
-later_read s buffer read.Failed = counted _ _ refl refl (λ h. h) (omega arith) (omega arith)
-later_read s buffer read.NoMemory = counted _ _ refl refl (λ h. h) (omega arith) (omega arith)
+later_read s buffer read.End = counted _ _ refl refl (λ _. refl) (omega arith) (λ h. h) (omega arith)
+later_read s buffer read.NotReady = counted _ _ refl refl (λ h. h) (omega arith) (λ h. h) (omega arith)
+later_read s buffer read.Failed = counted _ _ refl refl (λ h. h) (omega arith) (λ h. h) (omega arith)
+later_read s buffer read.NoMemory = counted _ _ refl refl (λ h. h) (omega arith) (λ h. h) (omega arith)
 
 later_no_byte : (s : LinkState) (piece : List ℕ) → Later s (after_no_byte s piece)
 later_no_byte s piece =
@@ -117,8 +124,8 @@ later_no_byte s piece =
       others = raised s.others 1;
     } in
     elim (eqb (length piece) 0) as (λ empty. Later s (faulty empty)) [
-      | true ↦ counted _ _ refl refl (λ h. h) (omega arith) (omega arith)
-      | false ↦ counted _ _ refl refl (λ h. h) (omega arith) (omega arith)
+      | true ↦ counted _ _ refl refl (λ h. h) (omega arith) (λ h. h) (omega arith)
+      | false ↦ counted _ _ refl refl (λ h. h) (omega arith) (λ h. h) (omega arith)
     ]
 
 later_bytes : (s : LinkState) (bytes : List ℕ) (n : ℕ) → Later s (after_bytes s bytes n)
@@ -127,6 +134,7 @@ later_bytes s bytes n = record {
   written = (bytes, refl);
   ended = λ h. h;
   flushed = omega arith;
+  shut = λ h. h;
   counts = omega arith;
 }
 
@@ -138,17 +146,17 @@ later_write s piece (write.Took n) =
       | true ↦ later_no_byte s piece
       | false ↦ later_bytes s (take n piece) n
     ]
-later_write s piece write.NotReady = counted _ _ refl refl (λ h. h) (omega arith) (omega arith)
-later_write s piece write.Failed = counted _ _ refl refl (λ h. h) (omega arith) (omega arith)
-later_write s piece write.NoMemory = counted _ _ refl refl (λ h. h) (omega arith) (omega arith)
+later_write s piece write.NotReady = counted _ _ refl refl (λ h. h) (omega arith) (λ h. h) (omega arith)
+later_write s piece write.Failed = counted _ _ refl refl (λ h. h) (omega arith) (λ h. h) (omega arith)
+later_write s piece write.NoMemory = counted _ _ refl refl (λ h. h) (omega arith) (λ h. h) (omega arith)
 
 pub later_flush : (s : LinkState) (answer : FlushStep) → Later s (after_flush s answer)
-later_flush s flush.Done = counted _ _ refl refl (λ h. h) (omega arith) (omega arith)
-later_flush s flush.NotReady = counted _ _ refl refl (λ h. h) (omega arith) (omega arith)
-later_flush s flush.Failed = counted _ _ refl refl (λ h. h) (omega arith) (omega arith)
+later_flush s flush.Done = counted _ _ refl refl (λ h. h) (omega arith) (λ h. h) (omega arith)
+later_flush s flush.NotReady = counted _ _ refl refl (λ h. h) (omega arith) (λ h. h) (omega arith)
+later_flush s flush.Failed = counted _ _ refl refl (λ h. h) (omega arith) (λ h. h) (omega arith)
 
 pub later_shutdown : (s : LinkState) → Later s (after_shutdown s)
-later_shutdown s = counted _ _ refl refl (λ h. h) (omega arith) (omega arith)
+later_shutdown s = counted _ _ refl refl (λ h. h) (omega arith) (λ _. refl) (omega arith)
 
 -- each call is one call
 pub calls_read : (s : LinkState) (buffer : List ℕ) (answer : ReadStep)
@@ -182,20 +190,20 @@ calls_shutdown s = omega arith
 -- a rise stays along later states
 pub rose_read_waits : (by : ℕ) (a b c d : LinkState) → Later a b
     → RoseBy by b.read_waits c.read_waits → Later c d → RoseBy by a.read_waits d.read_waits
-rose_read_waits by a b c d before rise behind = omega arith
+rose_read_waits by a b c d before rise after = omega arith
 
 pub rose_write_waits : (by : ℕ) (a b c d : LinkState) → Later a b
     → RoseBy by b.write_waits c.write_waits → Later c d → RoseBy by a.write_waits d.write_waits
-rose_write_waits by a b c d before rise behind = omega arith
+rose_write_waits by a b c d before rise after = omega arith
 
 pub rose_read_faults : (by : ℕ) (a b c d : LinkState) → Later a b
     → RoseBy by b.read_faults c.read_faults → Later c d → RoseBy by a.read_faults d.read_faults
-rose_read_faults by a b c d before rise behind = omega arith
+rose_read_faults by a b c d before rise after = omega arith
 
 pub rose_write_faults : (by : ℕ) (a b c d : LinkState) → Later a b
     → RoseBy by b.write_faults c.write_faults → Later c d → RoseBy by a.write_faults d.write_faults
-rose_write_faults by a b c d before rise behind = omega arith
+rose_write_faults by a b c d before rise after = omega arith
 
 pub rose_moves : (by : ℕ) (a b c d : LinkState) → Later a b
     → RoseBy by b.moves c.moves → Later c d → RoseBy by a.moves d.moves
-rose_moves by a b c d before rise behind = omega arith
+rose_moves by a b c d before rise after = omega arith

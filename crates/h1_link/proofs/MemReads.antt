@@ -3,7 +3,7 @@ use Rattle.std.proofs.Common.{◌≡◌, ℕ, ◌+◌, ◌-◌, ◌≤◌, List,
 use Rattle.std.proofs.lemmas.List.{take_at, length-take}
 use Rattle.std.proofs.Math.Seq.{take-add}
 
--- what a read copied stands behind what was given before
+-- what a read copied stands after what was given before
 pub take_read : (next n : ℕ) (put got rest : List ℕ) → next + n ≤ length put
     → got ≡ take (next + n - next) (drop next put)
     → take next put ++ take n (got ++ rest) ≡ take (next + n) put

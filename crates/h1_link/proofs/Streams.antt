@@ -56,7 +56,7 @@ sink_faults : (s : SinkState) (faults : ℕ) → s.faults ≤ faults
 sink_faults s faults more = record { taken = grew_itself s.taken; faults = more }
 
 sink_took : (s : SinkState) (bytes : List ℕ)
-    → LaterSink s (record s { taken = append_known s.taken bytes })
+    → LaterSink s (record s { taken = append_known s.taken bytes; flushed = false })
 sink_took s bytes = record { taken = (bytes, refl); faults = omega arith }
 
 -- no byte taken raises the faults or leaves them
@@ -69,7 +69,10 @@ pub later_sink_write : (s : SinkState) (piece : List ℕ) (answer : SinkStep)
 later_sink_write s piece (sink.Took n) =
     let faults : ℕ = cond (eqb (length piece) 0) s.faults (raised s.faults 1) in
     let none : SinkState = record s { faults = faults } in
-    let some : SinkState = record s { taken = append_known s.taken (take n piece) } in
+    let some : SinkState = record s {
+      taken = append_known s.taken (take n piece);
+      flushed = false;
+    } in
     elim (eqb n 0) as (λ empty. LaterSink s (cond empty none some)) [
       | true ↦ sink_faults s _ (no_byte_faults s.faults (eqb (length piece) 0))
       | false ↦ sink_took s (take n piece)
@@ -78,5 +81,5 @@ later_sink_write s piece sink.Failed = sink_faults s _ (omega arith)
 later_sink_write s piece sink.NoMemory = later_sink_itself s
 
 pub later_sink_flush : (s : SinkState) (done : Bool) → LaterSink s (after_sink_flush s done)
-later_sink_flush s true = later_sink_itself s
+later_sink_flush s true = record { taken = grew_itself s.taken; faults = omega arith }
 later_sink_flush s false = sink_faults s _ (omega arith)

@@ -3,7 +3,7 @@ use Rattle.std.specs.Prelude.{◌≡◌, ℕ, ◌+◌, ◌≤◌, List, Option, 
 use Rattle.std.specs.Io.KnownBytes.{append_known}
 use Rattle.h1_link.specs.LinkState.{LinkState}
 
--- told bytes stay in front, and more may stand behind them; untold bytes stay untold
+-- told bytes stay, and more may follow them; untold bytes stay untold
 abbrev pub Grew : Option (List ℕ) → Option (List ℕ) → Type 0
 Grew old new = (more : List ℕ) × (new ≡ append_known old more)
 
@@ -18,20 +18,23 @@ pub record NoCountFalls (old new : LinkState) : Type 0 where
   pub moves : old.moves ≤ new.moves
   pub others : old.others ≤ new.others
 
--- bytes are only added, no count falls, and an end stays
+-- bytes are only added, no count falls, an end stays, and a link that was shut stays so
 pub record Later (old new : LinkState) : Type 0 where
   pub given : Grew old.given new.given
   pub written : Grew old.written new.written
   pub ended : IsTrue old.ended → IsTrue new.ended
   pub flushed : old.flushed ≤ new.flushed
+  pub shut : IsTrue old.shut → IsTrue new.shut
   pub counts : NoCountFalls old new
 
--- no byte moved, nothing was flushed and no end was met, and no count falls
+-- no byte moved, nothing was flushed and no end was met; no count falls, and the link may have been
+-- shut
 pub record KeepsBytes (old new : LinkState) : Type 0 where
   pub given : new.given ≡ old.given
   pub written : new.written ≡ old.written
   pub ended : new.ended ≡ old.ended
   pub flushed : new.flushed ≡ old.flushed
+  pub shut : IsTrue old.shut → IsTrue new.shut
   pub counts : NoCountFalls old new
 
 -- one call at most was made: it moved a byte, or it is among the others

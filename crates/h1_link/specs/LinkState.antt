@@ -18,11 +18,15 @@ pub record LinkState : Type 0 where
   -- how many bytes its reads handed out and its writes took
   pub bytes_in : ℕ
   pub bytes_out : ℕ
-  -- the calls that moved a byte, and all others
+  -- the calls that moved a byte: a read that gave bytes, or a write that took some
   pub moves : ℕ
+  -- all other calls: a read or a write that waited, failed, met the end, had no memory or took no
+  -- byte, each flush and each shutdown
   pub others : ℕ
   -- `bytes_out` when a flush was last done, 0 before
   pub flushed : ℕ
+  -- the link was shut down for both sides
+  pub shut : Bool
 
 -- a link that tells no bytes, before its first call
 abbrev pub untold_state : LinkState
@@ -39,4 +43,5 @@ untold_state = record {
   moves = 0;
   others = 0;
   flushed = 0;
+  shut = false;
 }

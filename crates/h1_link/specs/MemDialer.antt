@@ -23,13 +23,13 @@ abbrev pub AllFresh : {L : Type 0} → (L → LinkState) → List (DialStep L) �
 AllFresh state [] = Unit {0}
 AllFresh state (step ∷ steps) = HandsOutFresh state step × AllFresh state steps
 
--- one step more behind fresh ones
+-- one step more after fresh ones
 pub AllFresh-push : {L : Type 0} (state : L → LinkState) (steps : List (DialStep L)) (step : DialStep L)
     → AllFresh state steps → HandsOutFresh state step → AllFresh state (steps ++ step ∷ [])
 AllFresh-push state [] step all one = (one, tt)
 AllFresh-push state (x ∷ steps) step all one = (all.0, AllFresh-push state steps step all.1 one)
 
--- the first planned step, or Failed behind the last
+-- the first planned step, or Failed after the last
 abbrev pub dial_answer : {L : Type 0} → List (DialStep L) → DialStep L
 dial_answer [] = Failed
 dial_answer (step ∷ steps) = step

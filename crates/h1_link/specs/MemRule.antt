@@ -18,7 +18,7 @@ pub record Rule (link : MemState) : Type 0 where
   pub flushed : link.state.flushed ≤ link.state.bytes_out
   -- the end was said at a moment before this one
   pub said : IfSome link.end_at (λ at. at ≤ length link.put)
-  -- the end comes only where it was said, behind what had been put ahead
+  -- the end comes only where it was said, after what had been put ahead
   pub ended : IsTrue link.state.ended → EndReached link.end_at link.state.bytes_in
   -- what was noted of the counts was noted before
   pub noted_reads : link.reads_noted ≤ link.state.read_waits

@@ -24,11 +24,9 @@ pub record MemState : Type 0 where
   pub writes_noted : ℕ
   -- the next write fails
   pub write_fault : Bool
-  -- the link was shut down
-  pub shut : Bool
 
-abbrev pub link_state_of : Inlet → Outlet → Counts → LinkState
-link_state_of inlet outlet counts = record {
+abbrev pub link_state_of : Inlet → Outlet → Counts → Bool → LinkState
+link_state_of inlet outlet counts shut = record {
   given = Some (take inlet.next inlet.put.items);
   written = Some outlet.written.items;
   ended = inlet.ended;
@@ -41,11 +39,12 @@ link_state_of inlet outlet counts = record {
   moves = counts.moves;
   others = counts.others;
   flushed = outlet.flushed;
+  shut = shut;
 }
 
 abbrev pub mem_state_of : Inlet → Outlet → Counts → Bool → MemState
 mem_state_of inlet outlet counts shut = record {
-  state = link_state_of inlet outlet counts;
+  state = link_state_of inlet outlet counts shut;
   put = inlet.put.items;
   end_at = inlet.end_at;
   reads_noted = inlet.noted;
@@ -53,7 +52,6 @@ mem_state_of inlet outlet counts shut = record {
   gate = outlet.gate;
   writes_noted = outlet.noted;
   write_fault = outlet.fault;
-  shut = shut;
 }
 
 -- a link with nothing ahead, nothing written and nothing planned
@@ -72,6 +70,7 @@ new_mem_state = record {
     moves = 0;
     others = 0;
     flushed = 0;
+    shut = false;
   };
   put = [];
   end_at = None;
@@ -80,5 +79,4 @@ new_mem_state = record {
   gate = Open;
   writes_noted = 0;
   write_fault = false;
-  shut = false;
 }

@@ -9,6 +9,8 @@ use Rattle.h1_link.specs.declared.sink.SinkStep.TheVariants.{Took, Failed, NoMem
 pub record SinkState : Type 0 where
   -- the bytes that its writes took, where the sink tells them
   pub taken : Option (List ℕ)
+  -- all that was taken was flushed: a flush was done since a write last took a byte, or none did
+  pub flushed : Bool
   -- the writes and flushes that failed
   pub faults : ℕ
 
@@ -23,13 +25,13 @@ abbrev pub after_sink_write : SinkState → List ℕ → SinkStep → SinkState
 after_sink_write s piece (Took n) =
     if n == 0
     then record s { faults = (if length piece == 0 then s.faults else raised s.faults 1) }
-    else record s { taken = append_known s.taken (take n piece) }
+    else record s { taken = append_known s.taken (take n piece); flushed = false }
 after_sink_write s piece Failed = record s { faults = raised s.faults 1 }
 after_sink_write s piece NoMemory = s
 
 -- a flush, which says whether it was done
 abbrev pub after_sink_flush : SinkState → Bool → SinkState
-after_sink_flush s true = s
+after_sink_flush s true = record s { flushed = true }
 after_sink_flush s false = record s { faults = raised s.faults 1 }
 
 -- bytes are only added

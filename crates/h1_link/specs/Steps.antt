@@ -87,6 +87,6 @@ after_flush s flush.Failed = record s {
   others = raised s.others 1;
 }
 
--- a shutdown
+-- a shutdown, the only call that shuts the link
 abbrev pub after_shutdown : LinkState → LinkState
-after_shutdown s = record s { others = raised s.others 1 }
+after_shutdown s = record s { shut = true; others = raised s.others 1 }

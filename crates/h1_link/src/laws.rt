@@ -7,7 +7,7 @@ ghost use Rattle.h1_link.specs.declared.link.ReadStep.{ReadStep};
 ghost use Rattle.h1_link.specs.declared.link.WriteStep.{WriteStep};
 ghost use Rattle.h1_link.specs.declared.link.FlushStep.{FlushStep};
 
-/// Every call only adds bytes and raises counts, and an end stays.
+/// Every call only adds bytes and raises counts, and an end and a shutdown stay.
 pub fn calls_only_add()
     ensures read { (s : LinkState) (buffer : List ℕ) (step : ReadStep)
         → Later s (after_read s buffer step) }

@@ -19,7 +19,7 @@ mod system_clock;
 mod tcp;
 
 pub use acceptor::Acceptor;
-pub use clock::{Clock, YEAR_10000};
+pub use clock::Clock;
 pub use dialer::{DialStep, Dialer};
 pub use laws::{calls_add_up, calls_only_add, later_states_go_on};
 pub use link::{FlushStep, Link, ReadStep, WriteStep};

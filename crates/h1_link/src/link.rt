@@ -46,7 +46,10 @@ pub enum FlushStep {
 /// A two-way stream of bytes that never blocks.
 ///
 /// Contracts see a link by its `state`: the bytes that it gave and took, where it tells them, and
-/// counts that never fall. What the link's owner has set, as bytes put ahead of a link in memory,
+/// counts that never fall. Each call adds one to `moves` where it moved a byte, and else one to
+/// `others`; faults and waits are counted besides. A shutdown is marked, and the mark stays.
+///
+/// What the link's owner has set, as bytes put ahead of a link in memory,
 /// every call of the trait leaves as it is; `same_plan` says so of two moments.
 pub trait Link {
     ghost state: { Self → LinkState };

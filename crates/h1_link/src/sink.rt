@@ -13,7 +13,8 @@ pub enum SinkStep {
     NoMemory,
 }
 
-/// A sink of bytes, which may block. Contracts see it by its `state`.
+/// A sink of bytes, which may block. Contracts see it by its `state`: the bytes that it took, where
+/// it tells them, whether all of them were flushed, and how many calls failed.
 pub trait Sink {
     ghost state: { Self → SinkState };
 

@@ -1,5 +1,5 @@
 //! The runtime's standard input and output.
-ghost use Rattle.std.specs.Prelude.{◌≡◌, None, false};
+ghost use Rattle.std.specs.Prelude.{◌≡◌, None, true, false};
 
 use crate::memory::raise;
 use crate::sink::{Sink, SinkStep};
@@ -65,6 +65,7 @@ impl<R: Input> Source for StdSource<R> {
 #[derive(Drop)]
 pub struct StdSink<R: Print + Drop> {
     rt: R,
+    flushed: bool,
     faults: u64,
 }
 
@@ -74,15 +75,19 @@ impl<R: Print + Drop> Model for StdSink<R> {
 
     ghost Value = { SinkState };
 
-    ghost view = { λ s. record { taken = None; faults = s.faults } };
+    ghost view = { λ s. record { taken = None; flushed = s.flushed; faults = s.faults } };
 }
 
 impl<R: Print + Drop> StdSink<R> {
     /// The standard output of this runtime.
     pub fn new(rt: R) -> Self
-        ensures { result ≡ record { taken = None; faults = 0 } }
+        ensures { result ≡ record { taken = None; flushed = true; faults = 0 } }
     {
-        StdSink { rt, faults: 0 }
+        StdSink {
+            rt,
+            flushed: true,
+            faults: 0,
+        }
     }
 }
 
@@ -95,7 +100,11 @@ impl<R: Print + Drop> Sink for StdSink<R> {
                 self.faults = raise(self.faults);
                 SinkStep::Failed
             }
-            Ok(count) => SinkStep::Took(count),
+            Ok(0) => SinkStep::Took(0),
+            Ok(count) => {
+                self.flushed = false;
+                SinkStep::Took(count)
+            }
             Err(_) => {
                 self.faults = raise(self.faults);
                 SinkStep::Failed
@@ -105,6 +114,7 @@ impl<R: Print + Drop> Sink for StdSink<R> {
 
     fn flush(&mut self) -> bool {
         // The runtime keeps no written byte back.
+        self.flushed = true;
         true
     }
 }

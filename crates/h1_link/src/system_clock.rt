@@ -1,7 +1,8 @@
 //! The runtime's clock.
 ghost use Rattle.std.specs.Prelude.{◌≡◌, ℕ, ◌<◌, ◌≤◌};
 
-use crate::clock::{Clock, YEAR_10000};
+use crate::clock::Clock;
+use h1_error::YEAR_10000;
 use std::marker::Model;
 use std::time;
 
@@ -15,7 +16,7 @@ pub struct SystemClock<R: time::Clock + Drop> {
 
 impl<R: time::Clock + Drop> Model for SystemClock<R> {
     ghost use Rattle.std.specs.Prelude.{ℕ, ◌<◌};
-    ghost use Rattle.h1_link.specs.declared.clock.TheConstants.{YEAR_10000};
+    ghost use Rattle.h1_error.specs.declared.moment.TheConstants.{YEAR_10000};
 
     ghost Value = { ℕ };
 

@@ -68,13 +68,16 @@ fn a_source_gives_its_bytes_and_ends(rt: HostRuntime) -> Result<(), Fail> {
 #[test]
 fn a_sink_keeps_what_it_took(rt: HostRuntime) {
     let mut sink = MemSink::new(rt.alloc());
+    assert!(rt; sink.is_flushed());
     assert_eq!(rt; sink.write(b"finished"), SinkStep::Took(8));
     sink.fail_next();
     assert_eq!(rt; sink.write(b"\n"), SinkStep::Failed);
     assert_eq!(rt; sink.write(b"\n"), SinkStep::Took(1));
     sink.fail_next();
     assert!(rt; !sink.flush());
+    assert!(rt; !sink.is_flushed());
     assert!(rt; sink.flush());
+    assert!(rt; sink.is_flushed());
     assert_eq!(rt; sink.written(), b"finished\n".as_slice());
 }
 
@@ -120,7 +123,7 @@ fn connected<L: Drop>(step: DialStep<L>) -> Option<L> {
 }
 
 #[test]
-fn a_dialer_answers_what_was_planned_and_fails_behind_it(rt: HostRuntime) -> Result<(), Fail> {
+fn a_dialer_answers_what_was_planned_and_fails_after_it(rt: HostRuntime) -> Result<(), Fail> {
     let mut dialer = MemDialer::new(rt.alloc());
     dialer.plan(DialStep::NotReady)?;
     dialer.plan(DialStep::Connected(MemLink::new(rt.alloc())))?;

@@ -11,21 +11,21 @@ use Rattle.h1_head.proofs.RequestHeadLemmas.{HeadAt-unique}
 use Rattle.h1_body.specs.Body.{Body, whole, payload_of}
 use Rattle.h1_body.specs.Framing.{framing}
 use Rattle.h1_body.specs.Reader.{body}
-use Rattle.h1_app.specs.declared.application.Reply.{Reply}
-use Rattle.h1_app.specs.declared.transcript.Entry.{Entry}
-use Rattle.h1_app.specs.declared.transcript.How.{How}
-use Rattle.h1_app.specs.declared.transcript.How.TheVariants.{Open, Whole, Failed}
-use Rattle.h1_app.specs.Behind.{StoodAs, ReadBehind, WroteBehind, DoneBehind}
-use Rattle.h1_app.specs.Echo.{EchoGives, echo_reply}
-use Rattle.h1_app.specs.Exchange.{render, render_parts, given_to, IsAllowed}
-use Rattle.h1_app.proofs.CompleteLemmas.{no_head}
+use Rattle.h1_transcript.specs.declared.reply.Reply.{Reply}
+use Rattle.h1_transcript.specs.declared.transcript.Entry.{Entry}
+use Rattle.h1_transcript.specs.declared.transcript.How.{How}
+use Rattle.h1_transcript.specs.declared.transcript.How.TheVariants.{Open, Whole, Failed}
+use Rattle.h1_transcript.specs.Behind.{StoodAs, ReadBehind, WroteBehind, DoneBehind}
+use Rattle.h1_echo.specs.Echo.{EchoGives, echo_reply}
+use Rattle.h1_transcript.specs.Exchange.{render, render_parts, given_to, IsAllowed}
+use Rattle.h1_transcript.proofs.CompleteLemmas.{no_head}
 use Rattle.h1_serve.specs.ExchangeText.{request_line, field_lines, body_line, exchange_lines, exchanges_lines}
 
 -- a reply's header that was taken up has this second
 abbrev pub IsDatedBy : ℕ → Entry → Type 0
 IsDatedBy secs e = IfSome e.sent_head (λ header. e.date ≡ secs)
 
--- the bytes are the requests of these exchanges, which ended, and nothing behind them
+-- the bytes are the requests of these exchanges, which ended, and nothing after them
 pub record AreEnded (secs : ℕ) (since : List ℕ) (flushed : ℕ → Type 0) (total : ℕ) (done : List Entry) : Type 0 where
   pub read : ReadBehind since done []
   pub allowed : AllByRecursion (IsAllowed EchoGives) done
@@ -108,7 +108,7 @@ same_payload e = ap payload_of e
 same_use : {front other : List ℕ} {i k : ℕ} → whole front i ≡ whole other k → i ≡ k
 same_use e = cc
 
--- the first exchanges of the same bytes are alike, and the same bytes are left behind them
+-- the first exchanges of the same bytes are alike, and the same bytes are left after them
 record Firsts (since : List ℕ) (e f : Entry) (more later : List Entry) (x : ReadBehind since (e ∷ more) []) (y : ReadBehind since (f ∷ later) []) : Type 0 where
   head : e.head ≡ f.head
   payload : e.body ≡ f.body

@@ -12,7 +12,7 @@ use Rattle.h1_words.specs.declared.words.Task.TheVariants as task
 use Rattle.h1_serve.specs.declared.status.Status.{Status}
 use Rattle.h1_serve.specs.declared.status.Status.TheVariants as status
 use Rattle.h1_serve.specs.Input.{Gave}
-use Rattle.h1_serve.specs.Output.{Took, usage_line}
+use Rattle.h1_serve.specs.Output.{Wrote, usage_line}
 use Rattle.h1_serve.specs.Status.{Reported, Refused, CauseBy, ScriptCause, WordsCause, GaveScript, Ends, number_of}
 
 done_by : (found : Option Task) (source source' : SourceState) (sink sink' : SinkState) (answer : Status)
@@ -28,7 +28,7 @@ done_by found source source' sink sink' status.Memory e cause = absurd (omega ar
 
 words_by : (found : Option Task) (source source' : SourceState) (sink sink' : SinkState) (answer : Status)
     → 2 ≡ number_of answer → CauseBy found source source' sink sink' answer
-    → (found ≡ None) × Took sink sink' usage_line
+    → (found ≡ None) × Wrote sink sink' usage_line
 words_by None source source' sink sink' status.Words e cause = (refl, cause.1)
 words_by (Some task.Script) source source' sink sink' status.Words e cause = absurd cause
 words_by found source source' sink sink' status.Done e cause = absurd (omega arith)
@@ -121,7 +121,7 @@ pub zero_is_done : (found : Option Task) (source source' : SourceState) (sink si
 zero_is_done found source source' sink sink' ends = done_by found source source' sink sink' ends.0 ends.1 ends.2
 
 pub two_is_words : (found : Option Task) (source source' : SourceState) (sink sink' : SinkState)
-    → Ends found source source' sink sink' 2 → (found ≡ None) × Took sink sink' usage_line
+    → Ends found source source' sink sink' 2 → (found ≡ None) × Wrote sink sink' usage_line
 two_is_words found source source' sink sink' ends = words_by found source source' sink sink' ends.0 ends.1 ends.2
 
 pub three_is_script : (found : Option Task) (source source' : SourceState) (sink sink' : SinkState)

@@ -11,14 +11,14 @@ use Rattle.h1_head.specs.Views.{ResponseView}
 use Rattle.h1_words.specs.Script.{ScriptOutcome, script_of, commands}
 use Rattle.h1_words.specs.declared.command.Command.{Command}
 use Rattle.h1_words.specs.declared.command.Command.TheVariants as command
-use Rattle.h1_app.specs.declared.transcript.Entry.{Entry}
-use Rattle.h1_app.specs.Behind.{ReadBehind, WroteBehind, FlushedBy}
-use Rattle.h1_app.specs.Causes.{EndCause, ReadAll}
-use Rattle.h1_app.specs.Echo.{EchoGives}
-use Rattle.h1_app.specs.Exchange.{IsAllowed}
-use Rattle.h1_app.specs.Growth.{DatedAt, IsBegun, Extends}
-use Rattle.h1_app.specs.Stream.{empty}
-use Rattle.h1_app.proofs.CompleteLemmas.{told_of}
+use Rattle.h1_transcript.specs.declared.transcript.Entry.{Entry}
+use Rattle.h1_transcript.specs.Behind.{ReadBehind, WroteBehind, FlushedBy}
+use Rattle.h1_transcript.specs.Ends.{EndCause, ReadAll}
+use Rattle.h1_echo.specs.Echo.{EchoGives}
+use Rattle.h1_transcript.specs.Exchange.{IsAllowed}
+use Rattle.h1_transcript.specs.Growth.{DatedAt, IsBegun, Extends}
+use Rattle.h1_transcript.specs.Stream.{empty}
+use Rattle.h1_transcript.proofs.CompleteLemmas.{told_of}
 use Rattle.h1_serve.specs.State.{State, new_link, start_with, transcript}
 use Rattle.h1_serve.specs.PollLine.{AnswerCause, Polls, poll_line}
 use Rattle.h1_serve.specs.ExchangeText.{exchanges_lines, wrote_line}
@@ -87,7 +87,7 @@ finished_so moment polled s t answer (Some reason) at holds cause again is =
     let was : s.end ≡ Some end.Finished = ap (λ (s : State). s.end) (sym again.1) ∙ is in
     subst Ended (sym again.1) (holds.finished was).cause
 
--- it holds behind a poll
+-- it holds after a poll
 polled_holds : (moment : ℕ) (polled : List ℕ) (s t : State) (answer : Progress) → Holds moment polled s
     → Polls moment s answer t → Holds moment t.put t
 polled_holds moment polled s t answer holds polls = record {
@@ -213,7 +213,7 @@ same_lines : (s t : State) (one other : List ℕ) → exchanges_lines (transcrip
 same_lines s t one other lines written =
     ap (λ xs. xs ++ wrote_line one) lines ∙ ap (λ xs. exchanges_lines (transcript t) ++ wrote_line xs) written
 
--- behind the polls two texts of the same commands are the same
+-- after the polls two texts of the same commands are the same
 texts_alike : (moment : ℕ) (asked : List Command) (text other : List ℕ) (x : IsTextOf asked text) (y : IsTextOf asked other)
     → ArePolledAt moment asked → x.last.end ≡ Some end.Finished → y.last.end ≡ Some end.Finished
     → (told : List ℕ) × IsBehindPolls moment text told × IsBehindPolls moment other told

@@ -4,8 +4,8 @@ use Rattle.std.proofs.lemmas.List.{drop_all}
 use Rattle.std.specs.Prelude.{Result, Ok, Err, OnOk}
 use Rattle.h1_link.specs.LinkState.{LinkState}
 use Rattle.h1_link.specs.MemState.{MemState}
-use Rattle.h1_app.specs.declared.transcript.Entry.{Entry}
-use Rattle.h1_app.specs.Since.{Since}
+use Rattle.h1_transcript.specs.declared.transcript.Entry.{Entry}
+use Rattle.h1_app.specs.Accounted.{Accounted}
 use Rattle.h1_words.specs.Script.{place_after}
 use Rattle.h1_words.specs.declared.command.Command.{Command}
 use Rattle.h1_words.specs.declared.command.Command.TheVariants as command
@@ -100,7 +100,7 @@ still_open false end_at put more e ends = ends
 gives_once : (place : Place) (old : Scripted) (new : Served) (bytes text : List ℕ)
     → new ≡ record old.connection { session = record old.connection.session { link = new.session.link } }
     → new.session.link ≡ record old.connection.session.link { put = old.connection.session.link.put ++ bytes; reads_noted = old.connection.session.link.state.read_waits }
-    → Since link_state new_link new.session new.done new.last
+    → Accounted link_state new_link new.session new.done new.last
     → MayStand place (command.Give bytes) → IsRunning place old.connection
     → ObeysOnce place old (command.Give bytes) text (record old { connection = new }) text
 gives_once place old new bytes text rest link since may running =
@@ -111,7 +111,7 @@ gives_once place old new bytes text rest link since may running =
       text_is = sym (append-nil text);
       obeys = (refl, ap (λ (c : Served). state_of (record old { connection = c })) (rest ∙ ap served link));
       running = record {
-        since = since;
+        accounted = since;
         link = rw link (record {
           gate = running.link.gate;
           writes_noted = running.link.writes_noted;
@@ -122,11 +122,11 @@ gives_once place old new bytes text rest link since may running =
       };
     }
 
--- the end is said behind all that was put ahead
+-- the end is said after all that was put ahead
 ends_once : (place : Place) (old : Scripted) (new : Served) (text : List ℕ)
     → new ≡ record old.connection { session = record old.connection.session { link = new.session.link } }
     → new.session.link ≡ record old.connection.session.link { end_at = Some (unwrap_or old.connection.session.link.end_at (length old.connection.session.link.put)); reads_noted = old.connection.session.link.state.read_waits }
-    → Since link_state new_link new.session new.done new.last
+    → Accounted link_state new_link new.session new.done new.last
     → MayStand place command.End → IsRunning place old.connection
     → ObeysOnce place old command.End text (record old { connection = new }) text
 ends_once place old new text rest link since may running =
@@ -137,7 +137,7 @@ ends_once place old new text rest link since may running =
       text_is = sym (append-nil text);
       obeys = (refl, ap (λ (c : Served). state_of (record old { connection = c })) (rest ∙ ap served link));
       running = record {
-        since = since;
+        accounted = since;
         link = rw link (record {
           gate = running.link.gate;
           writes_noted = running.link.writes_noted;
@@ -159,25 +159,25 @@ pub gives_line : (place : Place) (old : Scripted) (new : Served) (asked : Comman
     → asked ≡ command.Give bytes
     → new ≡ record old.connection { session = record old.connection.session { link = new.session.link } }
     → new.session.link ≡ record old.connection.session.link { put = old.connection.session.link.put ++ bytes; reads_noted = old.connection.session.link.state.read_waits }
-    → ((before : LinkState) → Since link_state before old.connection.session old.connection.done old.connection.last → Since link_state before new.session new.done new.last)
+    → ((before : LinkState) → Accounted link_state before old.connection.session old.connection.done old.connection.last → Accounted link_state before new.session new.done new.last)
     → MayStand place asked → IsRunning place old.connection
     → ObeysOnce place old asked text (record old { connection = new }) text
 gives_line place old new asked bytes text is rest link since may running =
     let Stands : Command → Type 0 = MayStand place in
     let Goal : Command → Type 0 = λ asked. ObeysOnce place old asked text (record old { connection = new }) text in
-    subst Goal (sym is) (gives_once place old new bytes text rest link (since new_link running.since) (subst Stands is may) running)
+    subst Goal (sym is) (gives_once place old new bytes text rest link (since new_link running.accounted) (subst Stands is may) running)
 
 pub ends_line : (place : Place) (old : Scripted) (new : Served) (asked : Command) (text : List ℕ)
     → asked ≡ command.End
     → new ≡ record old.connection { session = record old.connection.session { link = new.session.link } }
     → new.session.link ≡ record old.connection.session.link { end_at = Some (unwrap_or old.connection.session.link.end_at (length old.connection.session.link.put)); reads_noted = old.connection.session.link.state.read_waits }
-    → ((before : LinkState) → Since link_state before old.connection.session old.connection.done old.connection.last → Since link_state before new.session new.done new.last)
+    → ((before : LinkState) → Accounted link_state before old.connection.session old.connection.done old.connection.last → Accounted link_state before new.session new.done new.last)
     → MayStand place asked → IsRunning place old.connection
     → ObeysOnce place old asked text (record old { connection = new }) text
 ends_line place old new asked text is rest link since may running =
     let Stands : Command → Type 0 = MayStand place in
     let Goal : Command → Type 0 = λ asked. ObeysOnce place old asked text (record old { connection = new }) text in
-    subst Goal (sym is) (ends_once place old new text rest link (since new_link running.since) (subst Stands is may) running)
+    subst Goal (sym is) (ends_once place old new text rest link (since new_link running.accounted) (subst Stands is may) running)
 
 -- later polls are told that the server shuts down
 shuts_once : (place : Place) (old : Scripted) (text : List ℕ) → IsRunning place old.connection
@@ -202,7 +202,7 @@ limits_once place old count text running = record {
   line = [];
   text_is = sym (append-nil text);
   obeys = (refl, refl);
-  running = record { since = running.since; link = running.link };
+  running = record { accounted = running.accounted; link = running.link };
 }
 
 pub limits_line : (place : Place) (old : Scripted) (asked : Command) (count : ℕ) (text : List ℕ) → asked ≡ command.Limit count

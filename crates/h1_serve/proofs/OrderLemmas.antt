@@ -115,7 +115,7 @@ never_faulty : (number : ℕ) (lines : List (List ℕ)) (cs : List Command)
 never_faulty number lines cs e =
     let stopped : outcome_of (reading_behind (stopped_at number) lines) ≡ faulty_at number = ap outcome_of (stays_stopped number lines) in cc
 
--- the commands go on in order behind these
+-- the commands go on in order after these
 GoesOn : Place → List Command → List Command → Type 0
 GoesOn place before cs = (more : List Command) × (cs ≡ before ++ more) × AreInOrder place more
 

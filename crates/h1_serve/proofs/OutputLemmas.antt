@@ -13,7 +13,7 @@ use Rattle.h1_serve.specs.Output.{Took}
 left_from : (text : List ℕ) (at : ℕ) → take (length text - at) (drop at text) ≡ drop at text
 left_from text at = take_all (length text - at) (drop at text) (omega (arith, length-drop at text))
 
--- a write of a part of what is left is behind what was taken
+-- a write of a part of what is left is after what was taken
 pub took_more : (before now after : SinkState) (text : List ℕ) (at n : ℕ)
     → Took before now (take at text) → (n ≡ 0 → ⊥)
     → after ≡ after_sink_write now (take (length text - at) (drop at text)) (step.Took n)

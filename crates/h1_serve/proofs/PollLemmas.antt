@@ -16,13 +16,13 @@ use Rattle.h1_link.specs.declared.memory.gate.Gate.TheVariants.{Open, Room, Bloc
 use Rattle.h1_app.specs.declared.exchange.Stage.{Stage}
 use Rattle.h1_app.specs.declared.exchange.Stage.TheVariants as stage
 use Rattle.h1_app.specs.View.{entries}
-use Rattle.h1_app.specs.Waits.{replies}
-use Rattle.h1_app.specs.declared.echo.EchoJob.{EchoJob}
-use Rattle.h1_app.specs.Since.{Since}
-use Rattle.h1_app.specs.Agrees.{Agrees}
-use Rattle.h1_app.specs.Growth.{Extends}
+use Rattle.h1_transcript.specs.Entries.{replies}
+use Rattle.h1_echo.specs.declared.echo.EchoJob.{EchoJob}
+use Rattle.h1_app.specs.Accounted.{Accounted}
+use Rattle.h1_transcript.specs.Agrees.{Agrees}
+use Rattle.h1_transcript.specs.Growth.{Extends}
 use Rattle.h1_app.specs.Causes.{Cause, WaitCause, PendedNew, PendedOn, PendedBy}
-use Rattle.h1_app.specs.Echo.{EchoGives}
+use Rattle.h1_echo.specs.Echo.{EchoGives}
 use Rattle.h1_words.specs.declared.command.Command.TheVariants as command
 use Rattle.h1_words.specs.declared.place.Place.{Place}
 use Rattle.h1_serve.specs.declared.scripted.Scripted.{Scripted}
@@ -150,11 +150,11 @@ pub record Polled (begins : EchoJob → Type 0) (moment : ℕ) (old : Scripted) 
   pub plan : SamePlan old.connection.session.link new.connection.session.link
   pub limit : new.connection.limit ≡ old.connection.limit
   pub shut : new.shutdown ≡ old.shutdown
-  pub since : Since link_state new_link new.connection.session new.connection.done new.connection.last
+  pub accounted : Accounted link_state new_link new.connection.session new.connection.done new.connection.last
   pub agrees : Agrees EchoGives new.connection.limit new_link new.connection.session.link.state (entries new.connection)
   pub extends : Extends moment old.shutdown old.connection.session.link.state new.connection.session.link.state (entries old.connection) (entries new.connection)
-  pub most : new.connection.session.link.state.moves ≤ old.connection.session.link.state.moves + 64
-  pub few : new.connection.session.link.state.read_waits + replies (entries old.connection)
+  pub moves : new.connection.session.link.state.moves ≤ old.connection.session.link.state.moves + 64
+  pub reads_not_ready : new.connection.session.link.state.read_waits + replies (entries old.connection)
       ≤ old.connection.session.link.state.read_waits + replies (entries new.connection) + 1
   pub ended : IfSome old.connection.end (λ reason. (answer ≡ progress.Ready reason) × (new.connection ≡ old.connection))
   pub cause : IfNone old.connection.end (Cause link_state begins (λ _. 0) new_link old.connection new.connection answer)
@@ -187,8 +187,8 @@ polls begins place moment old new answer running polled before behind answered =
       ended = met_end place.ended to link behind;
       waits = waited from to polled.plan before behind;
       faultless = faultless;
-      most = polled.most;
-      few = polled.few;
+      moves = polled.moves;
+      reads_not_ready = polled.reads_not_ready;
       again = if_some old.connection.end _ _ (λ reason same. (same.0, same_state old new polled.shut same.1)) polled.ended;
       cause = if_none old.connection.end _ _ (answer_cause begins old new answer faultless answered) polled.cause;
     }
@@ -204,7 +204,7 @@ polls_once begins place old new moment answer text behind_text running polled be
   text_is = is;
   obeys = (answer, refl, polls begins place moment old new answer running polled before behind answered);
   running = record {
-    since = polled.since;
+    accounted = polled.accounted;
     link = stays_scripted place.ended old.connection.session.link new.connection.session.link running.link polled.plan;
   };
 }

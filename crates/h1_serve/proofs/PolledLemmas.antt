@@ -3,7 +3,7 @@ use Rattle.std.proofs.Common.{◌≡◌, ℕ, ◌+◌, ◌*◌, ◌≤◌, List,
 use Rattle.std.specs.Io.KnownBytes.{append_known}
 use Rattle.h1_link.specs.LinkState.{LinkState}
 use Rattle.h1_link.specs.Later.{Grew}
-use Rattle.h1_app.specs.Causes.{ToldGrowth}
+use Rattle.h1_transcript.specs.Told.{ToldGrowth}
 use Rattle.h1_serve.specs.Polled.{Tells, AreSpent, state_behind}
 
 -- told bytes stay told

@@ -9,13 +9,13 @@ use Rattle.h1_serve.specs.declared.status.Status.TheVariants as status
 use Rattle.h1_serve.specs.declared.output.Written.{Written}
 use Rattle.h1_serve.specs.declared.output.Written.TheVariants as written
 use Rattle.h1_serve.specs.Input.{ReadsScript}
-use Rattle.h1_serve.specs.Output.{Took, WriteCause, fault_line}
+use Rattle.h1_serve.specs.Output.{Wrote, WriteCause, fault_line}
 use Rattle.h1_serve.specs.Report.{IsTextOf}
 use Rattle.h1_serve.specs.Status.{ScriptCause, status_after}
 use Rattle.h1_serve.proofs.OrderLemmas.{script_within}
 
 written_cause : (source source' : SourceState) (sink sink' : SinkState) (whole : Status) (text : List ℕ) (done : Written)
-    → WriteCause sink sink' text done → (Took sink sink' text → ScriptCause source source' sink sink' whole)
+    → WriteCause sink sink' text done → (Wrote sink sink' text → ScriptCause source source' sink sink' whole)
     → ScriptCause source source' sink sink' (status_after whole done)
 written_cause source source' sink sink' whole text written.Whole cause goes = goes cause
 written_cause source source' sink sink' whole text written.Failed cause goes = cause
@@ -35,12 +35,12 @@ pub reported : (source source' : SourceState) (sink sink' : SinkState) (script :
     → ScriptCause source source' sink sink' answer
 reported source source' sink sink' script asked text done answer read is is_text cause after =
     let Caused : Status → Type 0 = ScriptCause source source' sink sink' in
-    subst Caused (sym after) (written_cause source source' sink sink' status.Done text done cause (λ took. record {
+    subst Caused (sym after) (written_cause source source' sink sink' status.Done text done cause (λ wrote. record {
       script = script;
       text = text;
       gave = read.gave;
       ended = read_out source source' script asked read is;
-      took = took;
+      wrote = wrote;
       report = record { asked = asked; read = is; is_text = is_text };
     }))
 
@@ -51,10 +51,10 @@ pub refused : (source source' : SourceState) (sink sink' : SinkState) (script : 
     → ScriptCause source source' sink sink' answer
 refused source source' sink sink' script number text done answer read is line cause after =
     let Caused : Status → Type 0 = ScriptCause source source' sink sink' in
-    subst Caused (sym after) (written_cause source source' sink sink' status.Script text done cause (λ took. record {
+    subst Caused (sym after) (written_cause source source' sink sink' status.Script text done cause (λ wrote. record {
       script = script;
       number = number;
       read = read;
       faulty = is;
-      took = subst (Took sink sink') line took;
+      wrote = subst (Wrote sink sink') line wrote;
     }))

@@ -20,7 +20,7 @@ pub record IsFinished (moment : ℕ) (script text : List ℕ) : Type 0 where
   pub polled : ArePolledAt moment report.asked
   pub finished : report.is_text.last.end ≡ Some end.Finished
 
--- the text is the lines of polls at this moment, and these behind them
+-- the text is the lines of polls at this moment, and these after them
 abbrev pub IsBehindPolls : ℕ → List ℕ → List ℕ → Type 0
 IsBehindPolls moment text told =
     (answers : List Progress) × (text ≡ flat_map (poll_line moment) answers ++ told)

@@ -27,7 +27,7 @@ ReadsPiece before now front bytes most piece.More =
 ReadsPiece before now front bytes most piece.End =
     (bytes ≡ front) × Gave before now [] × (now.ended ≡ true)
 
--- why a script isn't read; want of memory has no other cause
+-- why a script isn't read; out of memory has no other cause
 abbrev pub InputCause : SourceState → SourceState → InputFault → Type 0
 InputCause before now fault.Failed = Rose before.faults now.faults
 InputCause before now fault.NoMemory = Unit {0}

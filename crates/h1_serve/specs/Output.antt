@@ -1,5 +1,5 @@
 -- What a run writes to its sink.
-use Rattle.std.specs.Prelude.{◌≡◌, ℕ, List, ◌∷◌, [], ◌++◌, codes}
+use Rattle.std.specs.Prelude.{◌≡◌, ℕ, List, ◌∷◌, [], ◌++◌, true, codes}
 use Rattle.std.specs.Io.KnownBytes.{append_known}
 use Rattle.std.specs.Fmt.{decimal}
 use Rattle.h1_link.specs.Counts.{Rose}
@@ -12,9 +12,14 @@ pub record Took (before now : SinkState) (text : List ℕ) : Type 0 where
   pub taken : now.taken ≡ append_known before.taken text
   pub faults : now.faults ≡ before.faults
 
--- what writing a text comes to; want of memory has no other cause
+-- between two moments the sink took this text, and all that it took was flushed
+pub record Wrote (before now : SinkState) (text : List ℕ) : Type 0 where
+  pub took : Took before now text
+  pub flushed : now.flushed ≡ true
+
+-- what writing a text comes to; out of memory has no other cause
 abbrev pub WriteCause : SinkState → SinkState → List ℕ → Written → Type 0
-WriteCause before now text written.Whole = Took before now text
+WriteCause before now text written.Whole = Wrote before now text
 WriteCause before now text written.Failed = Rose before.faults now.faults
 WriteCause before now text written.NoMemory = Unit {0}
 

@@ -1,4 +1,4 @@
--- One poll of a script's connection: the states before and behind it, and its answer.
+-- One poll of a script's connection: the states before and after it, and its answer.
 use Rattle.std.specs.Prelude.{◌≡◌, ◌≢◌, ℕ, ◌+◌, ◌<◌, ◌≤◌, List, [], ◌∷◌, ◌++◌, take, true, false, Some, None, IsTrue, IfSome, IfNone, codes}
 use Rattle.std.specs.Fmt.{decimal}
 use Rattle.h1_error.specs.declared.error.ErrorType.TheVariants.{NoMemory}
@@ -12,11 +12,12 @@ use Rattle.h1_link.specs.LinkState.{LinkState}
 use Rattle.h1_link.specs.Counts.{Rose, RoseBy}
 use Rattle.h1_link.specs.Later.{Later}
 use Rattle.h1_words.specs.Report.{answer_text}
-use Rattle.h1_app.specs.Agrees.{Agrees}
-use Rattle.h1_app.specs.Growth.{Extends}
-use Rattle.h1_app.specs.Causes.{EndCause, LacksSo, ToldGrowth}
-use Rattle.h1_app.specs.Echo.{EchoGives}
-use Rattle.h1_app.specs.Waits.{replies}
+use Rattle.h1_transcript.specs.Agrees.{Agrees}
+use Rattle.h1_transcript.specs.Growth.{Extends}
+use Rattle.h1_transcript.specs.Ends.{EndCause, LacksSo}
+use Rattle.h1_transcript.specs.Told.{ToldGrowth}
+use Rattle.h1_echo.specs.Echo.{EchoGives}
+use Rattle.h1_transcript.specs.Entries.{replies}
 use Rattle.h1_serve.specs.State.{State, new_link, transcript}
 
 -- no call of the link failed, and no write or flush was not ready
@@ -34,14 +35,14 @@ PendsFor s t waiting.App = ⊥
 PendsFor s t waiting.Budget = RoseBy 64 s.link.moves t.link.moves
     × ToldGrowth s.link.given t.link.given s.link.written t.link.written 64
 
--- a connection that ended for want of memory is not reported
+-- a connection that ended where memory ran out is not reported
 abbrev pub HasMemory : End → Type 0
 HasMemory end.Finished = Unit {0}
 HasMemory end.NotKept = Unit {0}
 HasMemory end.Overread = Unit {0}
 HasMemory (end.Failed error) = error.kind ≢ NoMemory
 
--- the answer is no want of memory
+-- the answer isn't out of memory
 abbrev pub IsAnswered : Progress → Type 0
 IsAnswered (progress.Pending what) = Unit {0}
 IsAnswered (progress.Ready reason) = HasMemory reason
@@ -64,15 +65,15 @@ pub record Polls (moment : ℕ) (s : State) (answer : Progress) (t : State) : Ty
   pub agrees : Agrees EchoGives t.limit new_link t.link (transcript t)
   pub extends : Extends moment s.shut s.link t.link (transcript s) (transcript t)
   pub given : t.link.given ≡ Some (take t.link.bytes_in t.put)
-  -- the end was met only where it was said, behind all that was put ahead
+  -- the end was met only where it was said, after all that was put ahead
   pub ended : IsTrue t.link.ended → (t.said ≡ true) × (t.link.given ≡ Some t.put)
   -- a read was not ready only where all that was put ahead was given, and no end was said
   pub waits : s.link.read_waits < t.link.read_waits → (t.link.given ≡ Some t.put) × (t.said ≡ false)
   pub faultless : NothingFailed t.link
-  pub most : t.link.moves ≤ s.link.moves + 64
+  pub moves : t.link.moves ≤ s.link.moves + 64
   -- at most one read was not ready for each reply that was made, and one more
-  pub few : t.link.read_waits + replies (transcript s) ≤ s.link.read_waits + replies (transcript t) + 1
-  -- behind an end nothing more comes
+  pub reads_not_ready : t.link.read_waits + replies (transcript s) ≤ s.link.read_waits + replies (transcript t) + 1
+  -- after an end nothing more comes
   pub again : IfSome s.end (λ reason. (answer ≡ progress.Ready reason) × (t ≡ s))
   pub cause : IfNone s.end (AnswerCause s t answer)
 

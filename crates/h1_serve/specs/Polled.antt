@@ -1,8 +1,8 @@
--- Polls of a connection, one behind the other, that each waited for their budget.
+-- Polls of a connection, one after the other, that each waited for their budget.
 use Rattle.std.specs.Prelude.{◌≡◌, ℕ, List, [], ◌∷◌, Some}
 use Rattle.h1_link.specs.LinkState.{LinkState}
 use Rattle.h1_link.specs.Later.{Later}
-use Rattle.h1_app.specs.Causes.{ToldGrowth}
+use Rattle.h1_transcript.specs.Told.{ToldGrowth}
 
 -- the link tells its bytes: these were given and these written
 abbrev pub Tells : LinkState → List ℕ → List ℕ → Type 0
@@ -14,7 +14,7 @@ AreSpent old [] = Unit {0}
 AreSpent old (now ∷ more) =
     Later old now × ToldGrowth old.given now.given old.written now.written 64 × AreSpent now more
 
--- the link's state behind the last poll
+-- the link's state after the last poll
 abbrev pub state_behind : LinkState → List LinkState → LinkState
 state_behind old [] = old
 state_behind old (now ∷ more) = state_behind now more

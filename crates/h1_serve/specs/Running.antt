@@ -9,7 +9,7 @@ use Rattle.h1_words.specs.declared.command.Command.TheVariants as command
 use Rattle.h1_words.specs.declared.place.Place.{Place}
 use Rattle.h1_words.specs.Script.{place_after}
 use Rattle.h1_app.specs.View.{View}
-use Rattle.h1_app.specs.Since.{Since}
+use Rattle.h1_app.specs.Accounted.{Accounted}
 use Rattle.h1_serve.specs.State.{link_state}
 
 -- a poll is before the year 10000
@@ -20,7 +20,7 @@ IsInTime command.Shutdown = Unit {0}
 IsInTime (command.Limit count) = Unit {0}
 IsInTime (command.Poll moment) = moment ≤ LAST_MOMENT
 
--- a command that may stand behind what stands before it
+-- a command that may stand after what stands before it
 abbrev pub MayStand : Place → Command → Type 0
 MayStand place (command.Give bytes) = place.ended ≡ false
 MayStand place command.End = place.ended ≡ false
@@ -35,7 +35,7 @@ AreInOrder place (c ∷ more) = IsInTime c × MayStand place c × AreInOrder (pl
 abbrev pub first_place : Place
 first_place = record { ended = false; limited = false; polled = false; last_poll = 0 }
 
--- the end was said behind all that was put ahead, or it was not said
+-- the end was said after all that was put ahead, or it was not said
 abbrev pub EndsAt : Bool → Option ℕ → ℕ → Type 0
 EndsAt false end_at put = end_at ≡ None
 EndsAt true end_at put = end_at ≡ Some put
@@ -49,5 +49,5 @@ pub record IsScripted (ended : Bool) (link : MemState) : Type 0 where
   pub end_at : EndsAt ended link.end_at (length link.put)
 
 pub record IsRunning {C A J : Type 0} (place : Place) (view : View MemState C A J) : Type 0 where
-  pub since : Since link_state new_mem_state.state view.session view.done view.last
+  pub accounted : Accounted link_state new_mem_state.state view.session view.done view.last
   pub link : IsScripted place.ended view.session.link

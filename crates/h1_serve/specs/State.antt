@@ -3,9 +3,9 @@ use Rattle.std.specs.Prelude.{ℕ, List, [], ◌++◌, Bool, false, Option, None
 use Rattle.h1_error.specs.declared.progress.End.{End}
 use Rattle.h1_link.specs.LinkState.{LinkState}
 use Rattle.h1_link.specs.MemState.{MemState, new_mem_state}
-use Rattle.h1_app.specs.declared.transcript.Entry.{Entry}
-use Rattle.h1_app.specs.declared.echo.EchoApp.{EchoApp}
-use Rattle.h1_app.specs.declared.echo.EchoJob.{EchoJob}
+use Rattle.h1_transcript.specs.declared.transcript.Entry.{Entry}
+use Rattle.h1_echo.specs.declared.echo.EchoApp.{EchoApp}
+use Rattle.h1_echo.specs.declared.echo.EchoJob.{EchoJob}
 use Rattle.h1_app.specs.View.{View}
 use Rattle.h1_serve.specs.declared.scripted.Scripted.{Scripted}
 
@@ -15,7 +15,7 @@ pub record State : Type 0 where
   pub last : Option Entry
   -- what the link gave and took
   pub link : LinkState
-  -- the bytes that were put ahead, and whether the end was said behind them
+  -- the bytes that were put ahead, and whether the end was said after them
   pub put : List ℕ
   pub said : Bool
   -- how many requests more than the first may be served, and whether the server shuts down

@@ -11,26 +11,26 @@ use Rattle.h1_serve.specs.declared.status.Status.TheVariants as status
 use Rattle.h1_serve.specs.declared.output.Written.{Written}
 use Rattle.h1_serve.specs.declared.output.Written.TheVariants as written
 use Rattle.h1_serve.specs.Input.{Gave, ReadsScript}
-use Rattle.h1_serve.specs.Output.{Took, usage_line, fault_line}
+use Rattle.h1_serve.specs.Output.{Wrote, usage_line, fault_line}
 use Rattle.h1_serve.specs.Report.{Report}
 
--- The source was read to its end, and the sink took a report of what it gave.
+-- The source was read to its end, and the sink took a report of what it gave and flushed it.
 pub record Reported (source_before source_now : SourceState) (sink_before sink_now : SinkState) : Type 0 where
   pub script : List ℕ
   pub text : List ℕ
   pub gave : Gave source_before source_now script
   pub ended : source_now.ended ≡ true
-  pub took : Took sink_before sink_now text
+  pub wrote : Wrote sink_before sink_now text
   pub report : Report script text
 
 -- A line of the script is outside of the grammar, or it is too long; the sink took the line's number
--- and no other text.
+-- and no other text, and flushed it.
 pub record Refused (source_before source_now : SourceState) (sink_before sink_now : SinkState) : Type 0 where
   pub script : List ℕ
   pub number : ℕ
   pub read : ReadsScript source_before source_now script
   pub faulty : script_of script ≡ faulty_at number
-  pub took : Took sink_before sink_now (fault_line number)
+  pub wrote : Wrote sink_before sink_now (fault_line number)
 
 -- the cause of each status of the task `script`
 abbrev pub ScriptCause : SourceState → SourceState → SinkState → SinkState → Status → Type 0
@@ -43,7 +43,7 @@ ScriptCause source source' sink sink' status.Memory = Unit {0}
 
 -- the cause of each status where the words are no task
 abbrev pub WordsCause : SourceState → SourceState → SinkState → SinkState → Status → Type 0
-WordsCause source source' sink sink' status.Words = (source' ≡ source) × Took sink sink' usage_line
+WordsCause source source' sink sink' status.Words = (source' ≡ source) × Wrote sink sink' usage_line
 WordsCause source source' sink sink' status.Sink = (source' ≡ source) × Rose sink.faults sink'.faults
 WordsCause source source' sink sink' status.Memory = source' ≡ source
 WordsCause source source' sink sink' status.Done = ⊥
@@ -69,7 +69,7 @@ abbrev pub Ends : Option Task → SourceState → SourceState → SinkState → 
 Ends found source source' sink sink' number =
     (status : Status) × (number ≡ number_of status) × CauseBy found source source' sink sink' status
 
--- the status once a text was written, which is this one where all of it was taken
+-- the status once a text was written, which is this one where all of it was taken and flushed
 abbrev pub status_after : Status → Written → Status
 status_after whole written.Whole = whole
 status_after whole written.Failed = status.Sink

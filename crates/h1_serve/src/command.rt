@@ -95,7 +95,7 @@ fn run_script<S: Source, K: Sink>(alloc: Global, source: &mut S, sink: &mut K) -
     }
 }
 
-/// The status once a text was written; it is `whole` where all of it was taken.
+/// The status once a text was written; it is `whole` where all of it was taken and flushed.
 fn status_of(written: Written, whole: Status) -> Status
     ensures { result ≡ status_after whole written }
 {

@@ -1,6 +1,6 @@
 //! The lines of a report that tell what was read and written.
 ghost use Rattle.std.specs.Prelude.{◌≡◌, ◌++◌, OnOk, IfOk, Some};
-ghost use Rattle.h1_app.specs.View.{transcript_entries};
+ghost use Rattle.h1_transcript.specs.Entries.{transcript_entries};
 ghost use Rattle.h1_serve.specs.ExchangeText.{version_text, request_line, field_line, field_lines, body_line, exchange_lines, exchanges_lines, wrote_line};
 
 use h1_app::{Entry, Transcript};

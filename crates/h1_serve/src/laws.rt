@@ -10,7 +10,7 @@ ghost use Rattle.h1_words.specs.declared.words.Task.{Task};
 ghost use Rattle.h1_words.specs.declared.words.Task.TheVariants as task;
 ghost use Rattle.h1_words.specs.Script.{script_of, commands, faulty_at};
 ghost use Rattle.h1_serve.specs.Finished.{IsFinished, IsBehindPolls};
-ghost use Rattle.h1_serve.specs.Output.{Took, usage_line};
+ghost use Rattle.h1_serve.specs.Output.{Wrote, usage_line};
 ghost use Rattle.h1_serve.specs.Polled.{Tells, AreSpent, state_behind};
 ghost use Rattle.h1_serve.specs.Status.{Ends, Reported, Refused, GaveScript};
 
@@ -20,7 +20,7 @@ pub fn statuses_have_causes()
         → Ends found source source' sink sink' 0
         → (found ≡ Some task.Script) × Reported source source' sink sink' }
     ensures words { (found : Option Task) (source source' : SourceState) (sink sink' : SinkState)
-        → Ends found source source' sink sink' 2 → (found ≡ None) × Took sink sink' usage_line }
+        → Ends found source source' sink sink' 2 → (found ≡ None) × Wrote sink sink' usage_line }
     ensures script { (found : Option Task) (source source' : SourceState) (sink sink' : SinkState)
         → Ends found source source' sink sink' 3
         → (found ≡ Some task.Script) × Refused source source' sink sink' }
@@ -31,7 +31,7 @@ pub fn statuses_have_causes()
         → Ends found source source' sink sink' 5 → Rose sink.faults sink'.faults }
 
     // The words alone leave 2, and a script outside of its grammar leaves 3, but for a fault of the
-    // source or the sink and for want of memory.
+    // source or the sink and where memory ran out.
     ensures no_task { (source source' : SourceState) (sink sink' : SinkState) (number : ℕ)
         → Ends None source source' sink sink' number
         → (number ≡ 2) ⊎ ((number ≡ 5) × Rose sink.faults sink'.faults) ⊎ (number ≡ 6) }
@@ -56,7 +56,7 @@ pub fn finished_reports_are_alike()
 {}
 
 /// Polls that each waited for their budget moved at least 64 bytes each, on a link that tells its
-/// bytes; `polls` are the link's states behind them. `Connection::poll` gives each step: its clause
+/// bytes; `polls` are the link's states after them. `Connection::poll` gives each step: its clause
 /// `later`, and by its clause `cause` the `ToldGrowth` that `WaitCause` has for each poll that waits
 /// for its budget. Where neither the link nor the application makes a poll wait, every poll but the
 /// last waits for its budget (`only_the_budget_is_awaited` in h1_app). So valid input then takes at

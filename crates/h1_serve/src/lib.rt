@@ -3,7 +3,7 @@
 //!
 //! [`run`] gets the words of the command line, a source and a sink. The script is read whole and
 //! judged before it runs. Each exit status has its cause, and a report relates each poll's answer to
-//! the connection's states before and behind it.
+//! the connection's states before and after it.
 #![tactic(auto)]
 
 mod command;

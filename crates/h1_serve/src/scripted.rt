@@ -4,7 +4,7 @@ ghost use Rattle.h1_words.specs.declared.command.Command.TheVariants as command;
 ghost use Rattle.h1_words.specs.declared.place.Place.{Place};
 ghost use Rattle.h1_words.specs.Script.{place_after};
 ghost use Rattle.h1_link.specs.LinkState.{LinkState};
-ghost use Rattle.h1_app.specs.Since.{Since};
+ghost use Rattle.h1_app.specs.Accounted.{Accounted};
 ghost use Rattle.h1_app.specs.View.{limit_of};
 ghost use Rattle.h1_serve.specs.State.{state_of, link_state, start_with};
 ghost use Rattle.h1_serve.specs.PollLine.{IsAnswered, poll_line};
@@ -122,7 +122,7 @@ fn obey(
 fn give(connection: &mut Served, bytes: &[u8]) -> Result<(), Error>
     ensures link { OnOk result (connection.new.session.link ≡ record connection.old.session.link { put = connection.old.session.link.put ++ bytes.now; reads_noted = connection.old.session.link.state.read_waits }) }
     ensures rest { connection.new ≡ record connection.old { session = record connection.old.session { link = connection.new.session.link } } }
-    ensures since { (before : LinkState) → Since link_state before connection.old.session connection.old.done connection.old.last → Since link_state before connection.new.session connection.new.done connection.new.last }
+    ensures accounted { (before : LinkState) → Accounted link_state before connection.old.session connection.old.done connection.old.last → Accounted link_state before connection.new.session connection.new.done connection.new.last }
 {
     connection.with_link(|link| link.give(bytes))
 }
@@ -130,12 +130,12 @@ fn give(connection: &mut Served, bytes: &[u8]) -> Result<(), Error>
 fn say_end(connection: &mut Served)
     ensures link { connection.new.session.link ≡ record connection.old.session.link { end_at = Some (unwrap_or connection.old.session.link.end_at (length connection.old.session.link.put)); reads_noted = connection.old.session.link.state.read_waits } }
     ensures rest { connection.new ≡ record connection.old { session = record connection.old.session { link = connection.new.session.link } } }
-    ensures since { (before : LinkState) → Since link_state before connection.old.session connection.old.done connection.old.last → Since link_state before connection.new.session connection.new.done connection.new.last }
+    ensures accounted { (before : LinkState) → Accounted link_state before connection.old.session connection.old.done connection.old.last → Accounted link_state before connection.new.session connection.new.done connection.new.last }
 {
     connection.with_link(|link| link.end())
 }
 
-/// Polls once. Want of memory is no answer.
+/// Polls once. Out of memory is no answer.
 fn poll(alloc: Global, scripted: &mut Scripted, moment: u64, text: &mut Text) -> Result<(), Error>
     requires { moment ≤ LAST_MOMENT }
     ensures { OnOk result ((place : Place) → IsRunning place scripted.old.connection

@@ -44,6 +44,7 @@ fn a_request_is_reported_and_the_status_is_0(rt: HostRuntime) -> Result<(), Fail
     let status = status_of(&rt, rt.alloc(), &["script"], &mut source, &mut sink)?;
     assert_eq!(rt; status, 0);
     assert_eq!(rt; sink.written(), REPORT);
+    assert!(rt; sink.is_flushed());
     Ok(())
 }
 
@@ -95,7 +96,7 @@ fn repeated(alloc: Global, bytes: &[u8], count: usize) -> Result<Vec<u8>, Error>
     Ok(all)
 }
 
-/// A connection that was given these bytes in pieces of this size, with a poll behind each, and then
+/// A connection that was given these bytes in pieces of this size, with a poll after each, and then
 /// the end.
 fn served_in_pieces(
     alloc: Global,
@@ -139,7 +140,7 @@ fn a_pipeline_is_served_whole_in_pieces_of_any_size(rt: HostRuntime) -> Result<(
     Ok(())
 }
 
-/// A script that gives one request whose field `x` has so many bytes, with this text behind them, and
+/// A script that gives one request whose field `x` has so many bytes, with this text after them, and
 /// then polls so often.
 fn long_head(alloc: Global, count: usize, behind: &[u8], polls: usize) -> Result<Vec<u8>, Error> {
     let mut script = repeated(alloc, b"give GET /a HTTP/1.1\\r\\nx: ", 1)?;

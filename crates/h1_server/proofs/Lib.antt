@@ -1,7 +1,4 @@
-pub mod MovedLemmas
-pub mod TakeLemmas
-pub mod BodyLemmas
-pub mod SessionLemmas
-pub mod DeliveryLemmas
+pub mod HoldsLemmas
+pub mod HeadLemmas
 pub mod ReplyLemmas
 pub mod ReuseLemmas

@@ -14,13 +14,14 @@ use Rattle.h1_head.specs.Date.{IsDateAt}
 use Rattle.h1_body.specs.Writer.{begun}
 use Rattle.h1_server.specs.Persistence.{keep_flag}
 use Rattle.h1_body.specs.Framing.{out}
-use Rattle.h1_server.specs.ReplyFraming.{flushes_head}
+use Rattle.h1_transfer.specs.ReplyFraming.{flushes_head}
 use Rattle.h1_server.specs.SessionView.{SessionView}
-use Rattle.h1_server.specs.Writes.{Writes, IsSameReply, IsDone, IsWaiting, IsRefused}
+use Rattle.h1_server.specs.Writes.{Writes}
+use Rattle.h1_transfer.specs.Writes.{IsSameMessage, IsDone, IsWaiting, IsRefused}
 use Rattle.h1_server.specs.declared.request.Request.{Request}
-use Rattle.h1_server.specs.declared.reply.ReplyState.{ReplyState}
-use Rattle.h1_server.specs.declared.reply.Step.{Step}
-use Rattle.h1_server.specs.declared.reply.Step.TheVariants.{Free, Head}
+use Rattle.h1_transfer.specs.declared.outgoing.Outgoing.{Outgoing}
+use Rattle.h1_transfer.specs.declared.outgoing.Step.{Step}
+use Rattle.h1_transfer.specs.declared.outgoing.Step.TheVariants.{Free, Head}
 
 -- a header is handed in exactly where no write is in progress, and only its own call goes on
 abbrev pub IsHeaderStep : Option ResponseView → Step → Type 0
@@ -28,7 +29,7 @@ IsHeaderStep (Some header) step = step ≡ Free
 IsHeaderStep None step = step ≡ Head
 
 -- a header's bytes are taken up with the date and the flag of this call, and its framing begins
-pub record TakesHeader (old new : ReplyState) (request : Request) (flag : Bool) (header : ResponseView) (now : ℕ) (taking : List ℕ) : Type 0 where
+pub record TakesHeader (old new : Outgoing) (request : Request) (flag : Bool) (header : ResponseView) (now : ℕ) (taking : List ℕ) : Type 0 where
   pub version : is_http_1 header.version ≡ true
   pub date : List ℕ
   pub is_date : IsDateAt (now / 1000) date
@@ -38,21 +39,21 @@ pub record TakesHeader (old new : ReplyState) (request : Request) (flag : Bool) 
   pub writer : new.writer ≡ begun (out request.header.method header)
 
 -- what a header call takes up: the header that is handed in, and nothing where the call goes on
-abbrev pub HeaderTaking : ReplyState → ReplyState → Request → Bool → ℕ → List ℕ → Option ResponseView → Type 0
-HeaderTaking old new request flag now taking None = (taking ≡ []) × IsSameReply old new
+abbrev pub HeaderTaking : Outgoing → Outgoing → Request → Bool → ℕ → List ℕ → Option ResponseView → Type 0
+HeaderTaking old new request flag now taking None = (taking ≡ []) × IsSameMessage old new
 HeaderTaking old new request flag now taking (Some header) =
     TakesHeader old new request flag header now taking
 
 -- the head is flushed where its framing asks for it
-abbrev pub IsHeadFlushed : LinkState → ReplyState → Type 0
+abbrev pub IsHeadFlushed : LinkState → Outgoing → Type 0
 IsHeadFlushed now reply = IsTrue (flushes_head reply.writer.framing) → now.bytes_out ≤ now.flushed
 
 -- bytes are owed, or the flush that the framing asks for
-abbrev pub OwesHead : ReplyState → Type 0
+abbrev pub OwesHead : Outgoing → Type 0
 OwesHead reply = flushes_head reply.writer.framing ≡ false → 0 < length reply.owed
 
 -- the answer of a call that writes a header
-abbrev pub HeaderAnswer : LinkState → LinkState → ReplyState → ℕ → Poll (Result (Unit {0}) Error) → Type 0
+abbrev pub HeaderAnswer : LinkState → LinkState → Outgoing → ℕ → Poll (Result (Unit {0}) Error) → Type 0
 HeaderAnswer before now new left (Ready (Ok done)) = IsDone new × IsHeadFlushed now new
 HeaderAnswer before now new left Pending = IsWaiting before now new Head left × OwesHead new
 HeaderAnswer before now new left (Ready (Err error)) =
@@ -82,7 +83,7 @@ pub record KeepsHeader {L C : Type 0} (old new : SessionView L C) (header : Opti
   pub cause : HeaderRefusal kept error.kind
   pub retry : error.retry ≡ false
 
--- a header that is handed in behind a final one is passed over
+-- a header that is handed in after a final one is passed over
 pub record PassesHeader {L C : Type 0} (old new : SessionView L C) (kept : Option ResponseView) (outcome : Poll (Result (Unit {0}) Error)) : Type 0 where
   pub same : new ≡ old
   pub out : kept ≡ None

@@ -1,8 +1,8 @@
--- When a connection persists behind a reply (RFC 9112, section 9.3).
+-- When a connection persists after a reply (RFC 9112, section 9.3).
 use Rattle.std.specs.Prelude.{ℕ, nat_lt, Bool, true, false, ◌&&◌, ◌||◌, not, Option, Some, None, is_none, []}
 use Rattle.h1_body.specs.Body.{Body, whole, unfinished, broken}
 use Rattle.h1_body.specs.Reader.{reads}
-use Rattle.h1_server.specs.declared.body.BodyState.{BodyState}
+use Rattle.h1_transfer.specs.declared.body.BodyState.{BodyState}
 use Rattle.h1_server.specs.declared.settings.Settings.{Settings}
 
 -- the body was read to its end
@@ -21,7 +21,7 @@ has_reuses None = true
 has_reuses (Some left) = nat_lt 0 left
 
 -- The flag of a final header: the request wishes it, keep-alive is not off, requests are left, and
--- the request's body is whole, or it may still be read behind the reply.
+-- the request's body is whole, or it may still be read after the reply.
 abbrev pub keep_flag : Bool → Settings → BodyState → Bool
 keep_flag wish settings body =
     wish && not settings.keep_off && has_reuses settings.reuses

@@ -11,10 +11,15 @@ use Rattle.h1_head.specs.RequestHead.{HeadAt, RefusedAt, NotYetAt}
 use Rattle.h1_head.specs.RequestGrammar.{IsReadAs}
 use Rattle.h1_head.specs.Wish.{wish}
 use Rattle.h1_body.specs.Reader.{body, reads}
-use Rattle.h1_server.specs.Moved.{Received}
+use Rattle.h1_transfer.specs.BodyAnswers.{error_of}
+use Rattle.h1_transfer.specs.Moved.{Received}
+use Rattle.h1_transfer.specs.Payload.{refused_for_good}
+use Rattle.h1_transfer.specs.declared.reading_head.HeadRead.{HeadRead}
+use Rattle.h1_transfer.specs.declared.reading_head.HeadRead.TheVariants as h
 use Rattle.h1_body.specs.Framing.{framing}
 use Rattle.h1_server.specs.Keepalive.{keepalive_set, wished}
-use Rattle.h1_server.specs.SessionView.{SessionView, allowance}
+use Rattle.h1_server.specs.SessionView.{SessionView}
+use Rattle.h1_transfer.specs.Budget.{allowance}
 use Rattle.h1_server.specs.declared.request.Request.{Request}
 use Rattle.h1_server.specs.declared.request.ReadRequest.{ReadRequest}
 use Rattle.h1_server.specs.declared.request.ReadRequest.TheVariants as read
@@ -28,7 +33,7 @@ pub record IsRequestOf (bytes : List ℕ) (used : ℕ) (request : Request) : Typ
   pub framed : request.framing ≡ framing request.header
   pub wishes : request.wish ≡ wish request.header request.both
 
--- a head was read: its bytes are used, and the body behind it is still to be read
+-- a head was read: its bytes are used, and the body after it is still to be read
 pub record BeginsRequest {L C : Type 0} (old new : SessionView L C) (bytes : List ℕ) (request : Request) (n : ℕ) : Type 0 where
   pub used : ℕ
   pub is : IsRequestOf bytes used request
@@ -54,12 +59,25 @@ HeadRefusal before now bytes kind.ReadError = Rose before.read_faults now.read_f
 HeadRefusal before now bytes kind.NoMemory = Unit {0}
 HeadRefusal before now bytes _ = ⊥
 
--- every refusal but want of memory is answered again
-abbrev pub refused_for_good : Error → Option Error
-refused_for_good error = kept_refusal error error.kind where
-  kept_refusal : Error → ErrorType → Option Error
-  kept_refusal error kind.NoMemory = None
-  kept_refusal error _ = Some error
+-- a refusal for good
+abbrev pub Refuses : Option Error → ErrorType → Poll (Result ReadRequest Error) → Type 0
+Refuses new kind result = (new ≡ Some (error_of kind)) × (result ≡ Ready (Err (error_of kind)))
+
+-- What a call answers that read no head, and what it keeps as the refusal of later calls.
+abbrev pub StopsFor : Option Error → Option Error → HeadRead Request → Poll (Result ReadRequest Error) → Type 0
+StopsFor old new (h.Whole request n) result = ⊥
+StopsFor old new (h.Refused fault) result = Refuses new (kind.InvalidHTTPHeader fault) result
+StopsFor old new h.Closed result = (new ≡ old) × (result ≡ Ready (Ok (read.None Closed)))
+StopsFor old new h.Cut result = Refuses new kind.ConnectionClosed result
+StopsFor old new h.NotReady result = (new ≡ old) × (result ≡ Pending)
+StopsFor old new h.Spent result = (new ≡ old) × (result ≡ Pending)
+StopsFor old new h.Failed result = Refuses new kind.ReadError result
+StopsFor old new h.NoMemory result = (new ≡ old) × (result ≡ Ready (Err (error_of kind.NoMemory)))
+
+-- no head is whole
+abbrev pub IsHeadless : HeadRead Request → Type 0
+IsHeadless (h.Whole request n) = ⊥
+IsHeadless _ = Unit {0}
 
 abbrev pub HeadAnswer : {L C : Type 0} → (L → LinkState) → SessionView L C → SessionView L C → List ℕ → ℕ → Poll (Result ReadRequest Error) → Type 0
 HeadAnswer state old new bytes left (Ready (Ok (read.Head n))) =
@@ -80,11 +98,12 @@ pub record ReadsRequest {L C : Type 0} (state : L → LinkState) (old new : Sess
   -- the bytes that are received and not used, before the head is taken
   pub bytes : List ℕ
   pub left : ℕ
+  -- what was received before is parsed before any read
+  pub parsed : left < allowance old.budget → NotYetAt old.received
   pub received : Received (state old.link) (state new.link) old.received bytes (allowance old.budget) left
   pub budget : new.budget ≡ option_map (λ _. left) old.budget
-  pub reply : new.reply ≡ old.reply
-  pub reusable : new.reusable ≡ old.reusable
-  pub context : new.context ≡ old.context
+  -- the reply, the mark of a link that is reusable and the context stay
+  pub rest : new ≡ record new { reply = old.reply; reusable = old.reusable; context = old.context }
   -- a read was not ready at most once
   pub few : (state new.link).read_waits ≤ (state old.link).read_waits + 1
   pub answer : HeadAnswer state old new bytes left outcome

@@ -1,25 +1,21 @@
 -- Whether the link of a session serves the next request, and what is left for it (RFC 9112,
 -- sections 9.3 and 9.3.2).
-use Rattle.std.specs.Prelude.{◌≡◌, ◌==◌, ℕ, ◌+◌, ◌-◌, ◌≤◌, ◌⊎◌, List, [], ◌∷◌, Bool, true, false, ◌&&◌, ◌||◌, not, Option, Some, None, is_none, is_some, option_map, Result, Ok, Err}
+use Rattle.std.specs.Prelude.{◌≡◌, ◌==◌, ℕ, ◌-◌, List, [], ◌∷◌, Bool, true, false, ◌&&◌, ◌||◌, not, Option, Some, None, is_none, is_some, Result, Ok, Err}
 use Rattle.futures.specs.declared.task.Poll.{Poll}
 use Rattle.futures.specs.declared.task.Poll.TheVariants.{Ready, Pending}
 use Rattle.h1_error.specs.declared.error.Error.{Error}
 use Rattle.h1_link.specs.LinkState.{LinkState}
-use Rattle.h1_link.specs.Counts.{Rose}
 use Rattle.h1_link.specs.Steps.{after_shutdown}
-use Rattle.h1_body.specs.Body.{whole}
 use Rattle.h1_body.specs.Reader.{reads}
-use Rattle.h1_body.specs.Writer.{ends_with_link}
+use Rattle.h1_body.specs.Writer.{ends_with_link, is_finished, is_short}
 use Rattle.h1_body.specs.declared.framing.Framing.{Framing}
 use Rattle.h1_body.specs.declared.framing.Framing.TheVariants.{Counted, Chunked, UntilClose}
-use Rattle.h1_server.specs.Decoding.{ReadsBody, Lacks}
-use Rattle.h1_server.specs.Payload.{BodyRefusal}
+use Rattle.h1_server.specs.Payload.{DrainsBody}
 use Rattle.h1_server.specs.Persistence.{has_reuses, is_whole}
-use Rattle.h1_server.specs.Requests.{refused_for_good}
-use Rattle.h1_server.specs.SessionView.{SessionView, allowance}
-use Rattle.h1_server.specs.declared.body.BodyState.{BodyState}
-use Rattle.h1_server.specs.declared.reply.ReplyState.{ReplyState}
-use Rattle.h1_server.specs.declared.reply.Step.TheVariants.{Free}
+use Rattle.h1_server.specs.SessionView.{SessionView}
+use Rattle.h1_transfer.specs.Fresh.{IsNoBody, no_reply}
+use Rattle.h1_transfer.specs.declared.body.BodyState.{BodyState}
+use Rattle.h1_transfer.specs.declared.outgoing.Outgoing.{Outgoing}
 use Rattle.h1_server.specs.declared.request.Request.{Request}
 use Rattle.h1_server.specs.declared.settings.Settings.{Settings}
 
@@ -29,14 +25,22 @@ grants None = true
 grants (Some request) = request.wish
 
 -- a final header that was taken up let the connection go on, and its body doesn't end with the link
-abbrev pub stays_open : ReplyState → Bool
+abbrev pub stays_open : Outgoing → Bool
 stays_open reply = not reply.headed || (reply.keep && not (ends_with_link reply.writer.framing))
 
--- The connection persists behind this request: keep-alive is not off, requests are left, the request
+-- The connection persists after this request: keep-alive is not off, requests are left, the request
 -- wishes it, its body didn't fail, and neither did the reply say otherwise.
 abbrev pub keeps_alive : {L C : Type 0} → SessionView L C → Bool
 keeps_alive session = not session.settings.keep_off && has_reuses session.settings.reuses
     && grants session.request && is_none session.body.refused && stays_open session.reply
+
+-- a final reply was written to its end, with all bytes that it states, and no write was refused
+abbrev pub is_replied : Outgoing → Bool
+is_replied reply = reply.headed && is_none reply.refused && is_finished reply.writer && not (is_short reply.writer)
+
+-- the connection persists, and the reply to this request is whole: the next one may be read
+abbrev pub may_go_on : {L C : Type 0} → SessionView L C → Bool
+may_go_on session = keeps_alive session && is_replied session.reply
 
 -- the request's body was read to its end, or can't be read on
 abbrev pub is_body_done : BodyState → Bool
@@ -48,36 +52,11 @@ is_empty_framing (Counted n) = n == 0
 is_empty_framing Chunked = false
 is_empty_framing UntilClose = false
 
--- when each answer of a drain comes
-abbrev pub DrainAnswer : {L C : Type 0} → (L → LinkState) → SessionView L C → SessionView L C → ℕ → Poll (Result (Unit {0}) Error) → Type 0
-DrainAnswer state old new left (Ready (Ok done)) = (reads new.body.reader [] ≡ whole [] 0) × (new.body.refused ≡ None)
-    × ((state new.link).read_waits ≡ (state old.link).read_waits)
-DrainAnswer state old new left (Ready (Err error)) =
-    (new.body.refused ≡ refused_for_good error) × BodyRefusal state old new error.kind × (error.retry ≡ false)
-DrainAnswer state old new left Pending = Lacks new.body.reader new.received × (new.body.refused ≡ None)
-    × (Rose (state old.link).read_waits (state new.link).read_waits ⊎ (left ≡ 0))
-
--- one call that reads the rest of the body
-pub record DrainsBody {L C : Type 0} (state : L → LinkState) (old new : SessionView L C) (outcome : Poll (Result (Unit {0}) Error)) : Type 0 where
-  pub payload : List ℕ
-  pub left : ℕ
-  pub reads : ReadsBody (state old.link) (state new.link) old.received new.received old.body.reader new.body.reader old.body.kept new.body.kept (allowance old.budget) left payload
-  pub budget : new.budget ≡ option_map (λ _. left) old.budget
-  pub request : new.request ≡ old.request
-  pub refused : new.refused ≡ old.refused
-  pub reply : new.reply ≡ old.reply
-  pub settings : new.settings ≡ old.settings
-  pub reusable : new.reusable ≡ old.reusable
-  pub context : new.context ≡ old.context
-  pub waits : new.body.waits ≡ old.body.waits
-  pub few : (state new.link).read_waits ≤ (state old.link).read_waits + 1
-  pub answer : DrainAnswer state old new left outcome
-
 abbrev pub is_nothing : List ℕ → Bool
 is_nothing [] = true
 is_nothing (b ∷ bytes) = false
 
--- with pipelining off, nothing may stand behind the request
+-- with pipelining off, nothing may stand after the request
 abbrev pub may_follow : Bool → List ℕ → Bool
 may_follow pipelining received = pipelining || is_nothing received
 
@@ -96,7 +75,7 @@ ReusesBy state old new result false =
     (result ≡ Ready (Ok false)) × (state new.link ≡ after_shutdown (state old.link))
     × (new ≡ record old { link = new.link; reusable = false })
 
--- what stands in front of the next request, where there is anything
+-- what stands before the next request, where there is anything
 abbrev pub prefix_of : List ℕ → Option (List ℕ)
 prefix_of [] = None
 prefix_of (b ∷ bytes) = Some (b ∷ bytes)
@@ -113,13 +92,5 @@ next_settings settings = record settings { closing = true; reuses = one_less set
 -- The session awaits the next request on the same link: what was received and not used is in front,
 -- and of the request before nothing is left.
 pub record AwaitsNext {L C : Type 0} (old new : SessionView L C) : Type 0 where
-  pub link : new.link ≡ old.link
-  pub received : new.received ≡ old.received
-  pub request : new.request ≡ None
-  pub refused : new.refused ≡ None
-  pub body : (new.body.kept ≡ None) × (new.body.refused ≡ None) × (new.body.waits ≡ false)
-  pub reply : (new.reply.owed ≡ []) × (new.reply.step ≡ Free) × (new.reply.headed ≡ false) × (new.reply.refused ≡ None) × (new.reply.sent ≡ 0)
-  pub settings : new.settings ≡ next_settings old.settings
-  pub budget : new.budget ≡ old.budget
-  pub reusable : new.reusable ≡ false
-  pub context : new.context ≡ old.context
+  pub body : IsNoBody new.body
+  pub rest : new ≡ record old { request = None; refused = None; body = new.body; reply = no_reply; settings = next_settings old.settings; reusable = false }

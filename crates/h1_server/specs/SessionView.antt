@@ -2,9 +2,10 @@
 use Rattle.std.specs.Prelude.{◌≡◌, ℕ, List, [], Bool, Option, Some, None, true, false}
 use Rattle.h1_error.specs.declared.error.Error.{Error}
 use Rattle.h1_server.specs.declared.request.Request.{Request}
-use Rattle.h1_server.specs.declared.body.BodyState.{BodyState}
-use Rattle.h1_server.specs.declared.reply.ReplyState.{ReplyState}
-use Rattle.h1_server.specs.declared.reply.Step.TheVariants.{Free}
+use Rattle.h1_transfer.specs.TransferView.{Holds}
+use Rattle.h1_transfer.specs.declared.body.BodyState.{BodyState}
+use Rattle.h1_transfer.specs.declared.outgoing.Outgoing.{Outgoing}
+use Rattle.h1_transfer.specs.Fresh.{IsNoBody, no_reply}
 use Rattle.h1_server.specs.declared.settings.Settings.{Settings}
 use Rattle.h1_cut.specs.Search.{HasLooked}
 use Rattle.h1_cut.specs.declared.search.HeadSearch.{HeadSearch}
@@ -18,7 +19,7 @@ pub record SessionView (L C : Type 0) : Type 0 where
   -- the refusal that each later read of a head answers
   pub refused : Option Error
   pub body : BodyState
-  pub reply : ReplyState
+  pub reply : Outgoing
   pub settings : Settings
   pub budget : Option ℕ
   -- the link may serve the next request
@@ -26,14 +27,12 @@ pub record SessionView (L C : Type 0) : Type 0 where
   -- what the caller keeps with the connection
   pub context : Option C
 
--- how many link calls of this call may move bytes
-abbrev pub allowance : Option ℕ → ℕ
-allowance None = 64
-allowance (Some left) = left
-
--- nothing is owed while no write is in progress, unless a write was refused
-pub record Settled (reply : ReplyState) : Type 0 where
-  pub free : reply.step ≡ Free → reply.refused ≡ None → reply.owed ≡ []
+-- how a session holds its transfer
+abbrev pub session : {L C : Type 0} → Holds L (SessionView L C)
+session = record {
+  transfer = λ s. record { link = s.link; received = s.received; body = s.body; outgoing = s.reply; budget = s.budget };
+  put = λ s t. record s { link = t.link; received = t.received; body = t.body; reply = t.outgoing; budget = t.budget };
+}
 
 -- until a head is read, the search for its end has looked at a front of what is received
 abbrev pub IsSearched : Option Request → HeadSearch → List ℕ → Type 0
@@ -46,9 +45,9 @@ pub record IsNewSession {L C : Type 0} (start : L) (view : SessionView L C) : Ty
   pub received : view.received ≡ []
   pub request : view.request ≡ None
   pub refused : view.refused ≡ None
-  pub body : (view.body.kept ≡ None) × (view.body.refused ≡ None) × (view.body.waits ≡ false)
-  pub reply : (view.reply.owed ≡ []) × (view.reply.step ≡ Free) × (view.reply.headed ≡ false) × (view.reply.refused ≡ None) × (view.reply.sent ≡ 0)
-  pub settings : (view.settings.keep_off ≡ true) × (view.settings.keepalive ≡ 0) × (view.settings.closing ≡ true) × (view.settings.pipelining ≡ false) × (view.settings.reuses ≡ None)
+  pub body : IsNoBody view.body
+  pub reply : view.reply ≡ no_reply
+  pub settings : view.settings ≡ record { keep_off = true; keepalive = 0; closing = true; pipelining = false; reuses = None }
   pub budget : view.budget ≡ None
   pub reusable : view.reusable ≡ false
   pub context : view.context ≡ None

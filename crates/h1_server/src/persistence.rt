@@ -1,4 +1,4 @@
-//! When a connection persists behind a reply (RFC 9112, section 9.3).
+//! When a connection persists after a reply (RFC 9112, section 9.3).
 ghost use Rattle.std.specs.Prelude.{◌≡◌, []};
 ghost use Rattle.h1_body.specs.Reader.{reads};
 ghost use Rattle.h1_server.specs.Persistence.{keep_flag, has_reuses, is_body_whole, is_whole};

@@ -1,69 +1,26 @@
 //! Reading a request's head off the link (RFC 9112, sections 2.2 and 3).
-ghost use Rattle.std.specs.Prelude.{◌≡◌, ◌<◌, ◌≤◌, ◌+◌, ◌-◌};
-ghost use Rattle.h1_server.specs.Moved.{Received};
-ghost use Rattle.h1_server.specs.Reading.{HeadCause};
-ghost use Rattle.h1_server.specs.Calls.{CallsFew, is_whole_head};
-ghost use Rattle.h1_cut.specs.Search.{HasLooked};
-ghost use Rattle.h1_head.specs.declared.limits.TheConstants.{MAX_HEADER_SIZE};
+ghost use Rattle.h1_head.specs.RequestHead.{RefusedAt, NotYetAt};
+ghost use Rattle.h1_server.specs.Requests.{IsRequestOf};
 
-use crate::receiving::{Filled, fill};
-use bytes::BytesMut;
-use h1_error::HeadFault;
-use h1_head::{HeadSearch, HeadStep, RequestHead, search_request_head};
-use h1_link::Link;
+use crate::Request;
+use crate::request::request_of;
+use h1_error::Error;
+use h1_head::{HeadSearch, HeadStep, search_request_head};
+use h1_transfer::{Found, Head};
 use std::alloc::Global;
 
-/// What reading a head came to.
-#[derive(Drop)]
-pub(crate) enum HeadRead {
-    /// The head, and how many of the received bytes it takes.
-    Whole(RequestHead, usize),
-    Refused(HeadFault),
-    /// The link ended, and no byte was received.
-    Closed,
-    /// The link ended inside a head.
-    Cut,
-    NotReady,
-    /// No further link call may move bytes.
-    Spent,
-    Failed,
-    NoMemory,
-}
+impl Head for Request {
+    ghost is_at = { IsRequestOf };
 
-/// Reads until a head is whole, is refused or can't go on. What is received already is judged
-/// before the first read.
-pub(crate) fn read_head<L: Link>(
-    alloc: Global,
-    link: &mut L,
-    received: &mut BytesMut,
-    search: &mut HeadSearch,
-    budget: &mut u32,
-) -> HeadRead
-    requires { HasLooked MAX_HEADER_SIZE search.old received.old.items }
-    ensures received { Received (L.state link.old) (L.state link.new) received.old.items received.new.items budget.old budget.new }
-    ensures cause { HeadCause (L.state link.old) (L.state link.new) received.new.items budget.new result }
-    ensures looked { HasLooked MAX_HEADER_SIZE search.new received.new.items }
-    ensures few { (L.state link.new).read_waits ≤ (L.state link.old).read_waits + 1 }
-    ensures calls { CallsFew (L.state link.old) (L.state link.new) (is_whole_head result) }
-    ensures plan { L.same_plan link.old link.new }
-{
-    'reads: loop {
-        match search_request_head(alloc, search, received.as_slice()) {
-            Ok(HeadStep::Whole(head, used)) => return HeadRead::Whole(head, used),
-            Ok(HeadStep::Refused(fault)) => return HeadRead::Refused(fault),
-            Ok(HeadStep::NotYet) => {}
-            Err(_) => return HeadRead::NoMemory,
-        }
-        if *budget == 0 {
-            return HeadRead::Spent;
-        }
-        match fill(link, received) {
-            Filled::Got => *budget -= 1,
-            Filled::End if received.is_empty() => return HeadRead::Closed,
-            Filled::End => return HeadRead::Cut,
-            Filled::NotReady => return HeadRead::NotReady,
-            Filled::Failed => return HeadRead::Failed,
-            Filled::NoMemory => return HeadRead::NoMemory,
+    ghost refuses = { RefusedAt };
+
+    ghost lacks = { NotYetAt };
+
+    fn search(alloc: Global, search: &mut HeadSearch, bytes: &[u8]) -> Result<Found<Self>, Error> {
+        match search_request_head(alloc, search, bytes)? {
+            HeadStep::Whole(head, used) => Ok(Found::Whole(request_of(head), used)),
+            HeadStep::Refused(fault) => Ok(Found::Refused(fault)),
+            HeadStep::NotYet => Ok(Found::NotYet),
         }
     }
 }

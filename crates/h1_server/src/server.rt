@@ -6,16 +6,16 @@ ghost use Rattle.std.specs.Fn.{FnOnceTakesAtMut, FnOnceReturnsAtMut};
 ghost use Rattle.h1_server.specs.Keepalive.{keepalive_set, keepalive_timeout};
 
 use crate::persistence::is_at_end;
+use crate::request_state::RequestState;
 use crate::settings::with_keepalive;
-use crate::{BodyState, ReplyState, Request, Settings, Step};
-use bytes::BytesMut;
+use crate::{Request, Settings, Step};
 use h1_body::BodyBytes;
 use h1_error::Error;
-use h1_head::{HeadSearch, RequestHeader};
+use h1_head::RequestHeader;
 use h1_link::Link;
+use h1_transfer::Transfer;
 use std::alloc::Global;
 use std::marker::Model;
-use std::mem;
 
 mod keeping;
 mod replies;
@@ -25,34 +25,26 @@ mod reusing;
 /// A server's session over a link, for one request and its reply at a time.
 #[derive(Drop)]
 pub struct HttpSession<L: Link + Drop, C: Drop> {
-    alloc: Global,
-    link: L,
-    received: BytesMut,
-    /// The search for the end of the head among the received bytes, until a head is read.
-    search: HeadSearch,
-    request: Option<Request>,
-    refused: Option<Error>,
-    body: BodyState,
-    reply: ReplyState,
+    transfer: Transfer<L>,
+    asked: RequestState,
     settings: Settings,
-    budget: Option<u32>,
     reusable: bool,
     context: Option<C>,
 }
 
 impl<L: Link + Drop, C: Drop> Model for HttpSession<L, C> {
-    ghost use Rattle.h1_server.specs.SessionView.{SessionView, Settled, IsSearched};
+    ghost use Rattle.h1_server.specs.SessionView.{SessionView, IsSearched};
 
     ghost Value = { SessionView L C };
 
-    ghost view = { λ s. record { link = s.link; received = s.received.items; request = s.request; refused = s.refused; body = s.body; reply = s.reply; settings = s.settings; budget = s.budget; reusable = s.reusable; context = s.context } };
+    ghost view = { λ s. record { link = s.transfer.link; received = s.transfer.received; request = s.asked.request; refused = s.asked.refused; body = s.transfer.body; reply = s.transfer.outgoing; settings = s.settings; budget = s.transfer.budget; reusable = s.reusable; context = s.context } };
 
-    ghost invariant = { λ s. record { settled : Settled s.reply; searched : IsSearched s.request s.search s.received.items } };
+    ghost invariant = { λ s. IsSearched s.asked.request s.asked.search s.transfer.received };
 }
 
 impl<L: Link + Drop, C: Drop> HttpSession<L, C> {
     ghost use Rattle.h1_server.specs.SessionView.{IsNewSession};
-    ghost use Rattle.h1_server.specs.declared.reply.Step.TheVariants.{Free};
+    ghost use Rattle.h1_transfer.specs.declared.outgoing.Step.TheVariants.{Free};
     ghost use Rattle.h1_server.specs.Persistence.{is_whole};
     ghost use Rattle.h1_body.specs.Reader.{reads};
 
@@ -61,16 +53,9 @@ impl<L: Link + Drop, C: Drop> HttpSession<L, C> {
         ensures { IsOkAnd result (IsNewSession link) }
     {
         Ok(HttpSession {
-            alloc,
-            link,
-            received: BytesMut::new(alloc),
-            search: HeadSearch::new(),
-            request: None,
-            refused: None,
-            body: BodyState::new(),
-            reply: ReplyState::new(),
+            transfer: Transfer::new(alloc, link),
+            asked: RequestState::new(),
             settings: Settings::new(),
-            budget: None,
             reusable: false,
             context: None,
         })
@@ -80,14 +65,14 @@ impl<L: Link + Drop, C: Drop> HttpSession<L, C> {
     pub fn has_request(&self) -> bool
         ensures { result ≡ is_some self.now.request }
     {
-        self.request.is_some()
+        self.asked.request.is_some()
     }
 
     /// The request, once its head was read.
     pub fn request(&self) -> Option<&Request>
         ensures { MatchOption result (self.now.request ≡ None) (λ request. self.now.request ≡ Some request.now) }
     {
-        self.request.as_ref()
+        self.asked.request.as_ref()
     }
 
     /// The head of the request.
@@ -95,7 +80,7 @@ impl<L: Link + Drop, C: Drop> HttpSession<L, C> {
         requires { IsSome self.now.request }
         ensures { IfSome self.now.request (λ request. result.now ≡ request.header) }
     {
-        match &self.request {
+        match &self.asked.request {
             Some(request) => &request.header,
             None => unreachable!(),
         }
@@ -105,7 +90,7 @@ impl<L: Link + Drop, C: Drop> HttpSession<L, C> {
     pub fn is_free(&self) -> bool
         ensures { IsTrue result ↔ (self.now.reply.step ≡ Free) }
     {
-        self.reply.step == Step::Free
+        self.transfer.outgoing().step == Step::Free
     }
 
     /// Turns keep-alive off, or sets the deadline of the next head in seconds, of which 0 is none. A
@@ -127,7 +112,7 @@ impl<L: Link + Drop, C: Drop> HttpSession<L, C> {
         }
     }
 
-    /// Whether bytes behind the request begin the next one.
+    /// Whether bytes after the request begin the next one.
     pub fn pipelining_enabled(&self) -> bool
         ensures { result ≡ self.now.settings.pipelining }
     {
@@ -145,21 +130,21 @@ impl<L: Link + Drop, C: Drop> HttpSession<L, C> {
     pub fn set_poll_budget(&mut self, budget: Option<u32>)
         ensures { self.new ≡ record self.old { budget = budget } }
     {
-        self.budget = budget;
+        self.transfer.set_budget(budget);
     }
 
     pub fn poll_budget(&self) -> Option<u32>
         ensures { result ≡ self.now.budget }
     {
-        self.budget
+        self.transfer.budget()
     }
 
-    /// From here on all payload that is read is kept behind these bytes, and a body whose reading
-    /// wanted memory has failed.
+    /// From here on all payload that is read is kept after these bytes, and a body whose reading
+    /// was out of memory has failed.
     pub fn keep_payload(&mut self, kept: BodyBytes)
         ensures { self.new ≡ record self.old { body = record self.old.body { kept = Some kept } } }
     {
-        self.body.kept = Some(kept);
+        self.transfer.keep_payload(kept);
     }
 
     /// Hands out the payload that was kept, and keeps none from here on.
@@ -167,7 +152,7 @@ impl<L: Link + Drop, C: Drop> HttpSession<L, C> {
         ensures taken { result ≡ self.old.body.kept }
         ensures rest { self.new ≡ record self.old { body = record self.old.body { kept = None } } }
     {
-        self.body.kept.take()
+        self.transfer.take_payload()
     }
 
     /// Whether a read of the body was pending since this was last asked.
@@ -175,28 +160,28 @@ impl<L: Link + Drop, C: Drop> HttpSession<L, C> {
         ensures asked { result ≡ self.old.body.waits }
         ensures rest { self.new ≡ record self.old { body = record self.old.body { waits = false } } }
     {
-        mem::replace(&mut self.body.waits, false)
+        self.transfer.take_waits()
     }
 
     /// Whether a final header was taken up.
     pub fn is_headed(&self) -> bool
         ensures { result ≡ self.now.reply.headed }
     {
-        self.reply.headed
+        self.transfer.outgoing().headed
     }
 
     /// The flag of the final header that was taken up.
     pub fn reply_keeps(&self) -> bool
         ensures { result ≡ self.now.reply.keep }
     {
-        self.reply.keep
+        self.transfer.outgoing().keep
     }
 
     /// How many bytes of the reply were written; it stops at 2^64 - 1.
     pub fn written_bytes(&self) -> u64
         ensures { result ≡ self.now.reply.sent }
     {
-        self.reply.sent
+        self.transfer.outgoing().sent
     }
 
     /// What is set on the session.
@@ -210,14 +195,14 @@ impl<L: Link + Drop, C: Drop> HttpSession<L, C> {
     pub fn body_error(&self) -> Option<Error>
         ensures { result ≡ self.now.body.refused }
     {
-        self.body.refused
+        self.transfer.body().refused
     }
 
     /// Whether the request's body was read to its end.
     pub fn is_body_read(&self) -> bool
         ensures { result ≡ is_whole (reads self.now.body.reader []) }
     {
-        is_at_end(&self.body.reader)
+        is_at_end(&self.transfer.body().reader)
     }
 
     /// Closes the link for both sides.
@@ -226,19 +211,19 @@ impl<L: Link + Drop, C: Drop> HttpSession<L, C> {
         ensures rest { self.new ≡ record self.old { link = self.new.link } }
         ensures plan { L.same_plan self.old.link self.new.link }
     {
-        self.link.shutdown();
+        self.transfer.shutdown();
     }
 
     pub fn into_inner(self) -> L
         ensures { result ≡ self.link }
     {
-        self.link
+        self.transfer.into_link()
     }
 
     pub fn link(&self) -> &L
         ensures { result.now ≡ self.now.link }
     {
-        &self.link
+        self.transfer.link()
     }
 
     /// Calls a function on the link, which may move none of its bytes.
@@ -249,13 +234,6 @@ impl<L: Link + Drop, C: Drop> HttpSession<L, C> {
         ensures rest { self.new ≡ record self.old { link = self.new.link } }
         ensures keeps { KeepsBytes (L.state self.old.link) (L.state self.new.link) }
     {
-        call_on(&mut self.link, f)
+        self.transfer.with_link(f)
     }
-}
-
-fn call_on<L, T, F: FnOnce(&mut L) -> T>(link: &mut L, f: F) -> T
-    requires { FnOnceTakesAtMut F.FnOnce f link.old }
-    ensures { FnOnceReturnsAtMut F.FnOnce f link.old result link.new }
-{
-    f(link)
 }

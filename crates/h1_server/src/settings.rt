@@ -12,9 +12,9 @@ pub struct Settings {
     pub keepalive: u64,
     /// A header that is taken up before the request's body ends closes the connection.
     pub closing: bool,
-    /// Bytes behind the request begin the next one.
+    /// Bytes after the request begin the next one.
     pub pipelining: bool,
-    /// How many requests more may be served behind this one; None is no limit.
+    /// How many requests more may be served after this one; None is no limit.
     pub reuses: Option<u32>,
 }
 
@@ -64,7 +64,7 @@ pub fn one_less(reuses: Option<u32>) -> Option<u32>
 }
 
 impl Settings {
-    /// Keep-alive is off, a reply in front of the request's end closes, and nothing is pipelined.
+    /// Keep-alive is off, a reply before the request's end closes, and nothing is pipelined.
     pub(crate) fn new() -> Self
         ensures { result ≡ record { keep_off = true; keepalive = 0; closing = true; pipelining = false; reuses = None } }
     {

@@ -15,7 +15,7 @@ const NOW: u64 = 784_111_777_000;
 
 const REQUEST: &[u8] = b"POST /a HTTP/1.1\r\nHost: a\r\nContent-Length: 3\r\n\r\nabc";
 
-/// A request with a body, and behind it one without.
+/// A request with a body, and after it one without.
 const PIPELINED: &[u8] =
     b"POST /a HTTP/1.1\r\nHost: a\r\nContent-Length: 3\r\n\r\nabcGET /b HTTP/1.1\r\n\r\n";
 

@@ -183,7 +183,7 @@ cut_front m front more h =
     subst P (sym same) (faults_agree (line_at m front) front more
     (omega (arith, count_of_front is_line_feed m front)))
 
--- bytes behind a front that is too long change nothing
+-- bytes after a front that is too long change nothing
 pub long_scripts_agree : (front more : List ℕ) → MAX_SCRIPT < length front →
     script_of (front ++ more) ≡ script_of front
 long_scripts_agree front more h =

@@ -5,7 +5,7 @@ use Rattle.std.proofs.lemmas.List.Splits.{slice_split_first}
 use Rattle.std.proofs.lemmas.Bool.Decides.{nat_tests}
 use Rattle.h1_words.specs.Script.{is_line_feed, lines_of, stopped_at, reading_behind}
 
--- one element in front of a list in which none passes the test
+-- one element before a list in which none passes the test
 one_part_more : (b : Bool) (k n : ℕ) (x : ℕ) (xs : List ℕ) (parts : List (List ℕ)) →
     ltb (cond (not b) (1 + k) 0) (suc n) ≡ false → (ltb k n ≡ false → parts ≡ xs ∷ []) →
     cond b ([] ∷ parts) (onto_first x parts) ≡ (x ∷ xs) ∷ []
@@ -44,7 +44,7 @@ lines_with_feed bytes i h =
     let P : ℕ → Type 0 = λ k. lines_of bytes ≡ take k bytes ∷ lines_of (drop (k + 1) bytes) in
     subst P found.0 (slice_split_first is_line_feed bytes 0 found.1)
 
--- behind a fault nothing is read
+-- after a fault nothing is read
 pub stays_stopped : (number : ℕ) (lines : List (List ℕ)) →
     reading_behind (stopped_at number) lines ≡ stopped_at number
 stays_stopped number [] = refl

@@ -6,7 +6,7 @@ use Rattle.std.specs.Str.Parse.{AllDigits, digits_value_after}
 use Rattle.h1_words.specs.Number.{number_from, number_up_to, IsNumber}
 use Rattle.h1_words.specs.declared.number.TheConstants.{MAX_DIGITS}
 
--- behind those of n these digits write the number
+-- after those of n these digits write the number
 record Writes (most n : ℕ) (digits : List ℕ) (number : ℕ) : Type 0 where
   each : AllDigits 10 digits
   value : digits_value_after 10 n digits ≡ number

@@ -15,7 +15,7 @@ use Rattle.h1_words.specs.declared.unescape.Unescaping.TheVariants.{Start, Byte}
 abbrev IsPlain : Unescaping → Type 0
 IsPlain state = ((b : ℕ) → unescape state b ≡ unescape_plain b) × (may_end state ≡ true)
 
--- behind a state and some bytes, a text reads as one byte more
+-- after a state and some bytes, a text reads as one byte more
 abbrev ReadsAs : Unescaping → List ℕ → List ℕ → ℕ → Type 0
 ReadsAs state front text b = (rest : List ℕ) →
     bytes_from state front (text ++ rest) ≡ bytes_from (Byte b) (front ++ b ∷ []) rest

@@ -27,7 +27,7 @@ text_of_bytes bytes = flat_map escape bytes
 abbrev pub unescape_plain : ℕ → Unescaping
 unescape_plain b = if b == 92 then Backslash else (if is_printable b then Byte b else Broken)
 
--- the byte behind `\`
+-- the byte after `\`
 abbrev pub unescape_backslash : ℕ → Unescaping
 unescape_backslash b =
     if b == 114 then Byte 13

@@ -8,7 +8,7 @@ use Rattle.h1_words.specs.declared.command.TheConstants.{LAST_MOMENT, MAX_LIMIT}
 use Rattle.h1_words.specs.declared.command.Command.{Command}
 use Rattle.h1_words.specs.declared.command.Command.TheVariants.{Give, End, Shutdown, Limit, Poll}
 
--- what stands behind these words at the front of a line
+-- what stands after these words at the front of a line
 abbrev pub behind_words : List ℕ → List ℕ → Option (List ℕ)
 behind_words words line =
     if bytes_eq (take (length words) line) words then Some (drop (length words) line) else None

@@ -1,4 +1,3 @@
-pub mod Memory
 pub mod ByteText
 pub mod Report
 pub mod Number

@@ -11,7 +11,7 @@ with_digit most n b =
     then Some (n * 10 + digit_value b)
     else None
 
--- the number that digits write behind those of n
+-- the number that digits write after those of n
 abbrev pub number_from : ℕ → Option ℕ → List ℕ → Option ℕ
 number_from most None digits = None
 number_from most (Some n) [] = Some n

@@ -11,7 +11,7 @@ use Rattle.h1_error.specs.declared.progress.Progress.{Progress}
 use Rattle.h1_error.specs.declared.progress.Progress.TheVariants as progress
 use Rattle.h1_words.specs.ByteText.{text_of_bytes}
 
--- the number of the bytes, and behind one space the bytes, where there are any
+-- the number of the bytes, and after one space the bytes, where there are any
 abbrev pub counted_text : List ℕ → List ℕ
 counted_text [] = decimal 0
 counted_text (b ∷ bytes) = decimal (length (b ∷ bytes)) ++ codes " " ++ text_of_bytes (b ∷ bytes)

@@ -12,7 +12,7 @@ use Rattle.h1_words.specs.declared.script.ScriptFault.TheVariants as fault
 abbrev pub is_line_feed : ℕ → Bool
 is_line_feed b = b == 10
 
--- the parts before, between and behind the LFs, where an empty part is no line or an empty one
+-- the parts before, between and after the LFs, where an empty part is no line or an empty one
 abbrev pub lines_of : List ℕ → List (List ℕ)
 lines_of bytes = slice_split is_line_feed bytes
 
@@ -26,7 +26,7 @@ pub data ScriptOutcome : Type 0 where
   commands : List Command → ScriptOutcome
   faulty_at : ℕ → ScriptOutcome
 
--- `give` doesn't stand behind `end`, `end` stands once, `shutdown` anywhere, `limit` once and only
+-- `give` doesn't stand after `end`, `end` stands once, `shutdown` anywhere, `limit` once and only
 -- before the first poll, and no poll is before an earlier one
 abbrev pub may_follow : Place → Command → Bool
 may_follow place (Give bytes) = not place.ended
@@ -35,7 +35,7 @@ may_follow place Shutdown = true
 may_follow place (Limit count) = not place.polled && not place.limited
 may_follow place (Poll moment) = nat_le place.last_poll moment
 
--- what stands before the line behind the command
+-- what stands before the line after the command
 abbrev pub place_after : Place → Command → Place
 place_after place (Give bytes) = place
 place_after place End = record place { ended = true }
@@ -72,7 +72,7 @@ abbrev pub outcome_of : Reading → ScriptOutcome
 outcome_of (at_line place before number) = commands before
 outcome_of (stopped_at number) = faulty_at number
 
--- the number of the line that holds the byte behind the first `place` bytes
+-- the number of the line that holds the byte after the first `place` bytes
 abbrev pub line_at : ℕ → List ℕ → ℕ
 line_at place bytes = count_by is_line_feed (take place bytes) + 1
 
@@ -100,7 +100,7 @@ outcome_of_lines bytes = outcome_of (reading_behind first_line (lines_of bytes))
 abbrev pub script_of : List ℕ → ScriptOutcome
 script_of bytes = within_limit bytes (outcome_of_lines bytes)
 
--- an answer that tells what a script means; want of memory tells nothing
+-- an answer that tells what a script means; out of memory tells nothing
 abbrev pub Tells : ScriptOutcome → Result (List Command) ScriptFault → Type 0
 Tells outcome (Ok script) = outcome ≡ commands script
 Tells outcome (Err (fault.Line number)) = outcome ≡ faulty_at number

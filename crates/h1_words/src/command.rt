@@ -19,7 +19,7 @@ pub const MAX_LIMIT: u32 = u32::MAX;
 pub enum Command {
     /// These bytes are ahead on the link.
     Give(Text),
-    /// The link ends behind what is ahead.
+    /// The link ends after what is ahead.
     End,
     /// The server shuts down: later polls are told so.
     Shutdown,

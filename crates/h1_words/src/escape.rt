@@ -3,7 +3,7 @@ ghost use Rattle.std.specs.Prelude.{◌≡◌, ◌<◌, ◌++◌, OnOk, OnErr, I
 ghost use Rattle.std.specs.Char.{digit_char};
 ghost use Rattle.h1_words.specs.ByteText.{is_printable, escape, text_of_bytes};
 ghost use Rattle.h1_words.specs.Report.{counted_text};
-ghost use Rattle.h1_words.specs.Memory.{no_memory};
+ghost use Rattle.h1_error.specs.Memory.{no_memory};
 
 use crate::Text;
 use h1_error::Error;
@@ -21,7 +21,7 @@ impl Text {
         self.push(text.as_slice())
     }
 
-    /// Adds the number of the bytes, and behind a space the bytes as printable text, where there
+    /// Adds the number of the bytes, and after a space the bytes as printable text, where there
     /// are any.
     pub fn push_counted(&mut self, alloc: Global, bytes: &[u8]) -> Result<(), Error>
         ensures ok { OnOk result (self.new ≡ self.old ++ counted_text bytes.now) }

@@ -2,7 +2,7 @@
 ghost use Rattle.std.specs.Prelude.{◌≡◌, ◌++◌, OnOk, OnErr, IfErr, IfOk, string_bytes};
 ghost use Rattle.h1_words.specs.Report.{waiting_text, end_text, answer_text};
 ghost use Rattle.h1_error.specs.Text.{text_of};
-ghost use Rattle.h1_words.specs.Memory.{no_memory};
+ghost use Rattle.h1_error.specs.Memory.{no_memory};
 
 use crate::Text;
 use h1_error::{End, Error, ErrorType, Progress, Waiting};

@@ -75,7 +75,7 @@ pub fn parse_script(alloc: Global, bytes: &[u8]) -> Result<Script, ScriptFault>
     }
 }
 
-/// The number of the line that holds the byte behind the first `place` bytes.
+/// The number of the line that holds the byte after the first `place` bytes.
 fn line_at(place: usize, bytes: &[u8]) -> u64
     requires { place < length bytes.now }
     ensures { result ≡ line_at place bytes.now }

@@ -1,7 +1,7 @@
 //! Bytes that grow at their end.
 ghost use Rattle.std.specs.Prelude.{◌≡◌, [], ◌++◌, OnOk, OnErr, IfErr, IfOk};
 ghost use Rattle.std.specs.Fmt.{decimal};
-ghost use Rattle.h1_words.specs.Memory.{no_memory};
+ghost use Rattle.h1_error.specs.Memory.{no_memory};
 
 use h1_error::Error;
 use std::alloc::Global;

@@ -16,9 +16,9 @@ pub enum Unescaping {
     Byte(u8),
     /// The last byte is the `\` of an escape.
     Backslash,
-    /// The last byte is the `x` behind it.
+    /// The last byte is the `x` after it.
     Hex,
-    /// The last byte is this one, in the place of the first digit behind `\x`.
+    /// The last byte is this one, in the place of the first digit after `\x`.
     HexDigit(u8),
     /// No text begins so.
     Broken,

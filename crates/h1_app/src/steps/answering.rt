@@ -1,19 +1,18 @@
 //! The application runs, until it has replied.
-ghost use Rattle.std.specs.Prelude.{◌≡◌, List, ◌+◌, Bool, ◌<◌, ◌≤◌, IsSome, IfSome, None, Some, option_to_list};
-ghost use Rattle.h1_link.specs.LinkState.{LinkState};
-ghost use Rattle.h1_app.specs.Exchange.{IsAllowed};
-ghost use Rattle.h1_app.specs.declared.transcript.Entry.{Entry};
-ghost use Rattle.h1_app.specs.Since.{Since};
+ghost use Rattle.std.specs.Prelude.{◌≡◌, ◌+◌, Bool, ◌<◌, ◌≤◌, IsSome, None, Some};
+ghost use Rattle.h1_error.specs.declared.moment.TheConstants.{YEAR_10000};
+ghost use Rattle.h1_transcript.specs.declared.transcript.Entry.{Entry};
 ghost use Rattle.h1_head.specs.Views.{RequestView};
 ghost use Rattle.h1_server.specs.declared.settings.Settings.{Settings};
-ghost use Rattle.h1_app.specs.Application.{how_of, IsAskedFor};
-ghost use Rattle.h1_app.specs.Exchange.{given_to};
-ghost use Rattle.h1_app.specs.Sound.{SoundStage, IsKept, IsAnswerStage};
+ghost use Rattle.h1_application.specs.Application.{how_of, IsAskedFor};
+ghost use Rattle.h1_transcript.specs.Exchange.{given_to};
+ghost use Rattle.h1_app.specs.Sound.{IsAnswerStage};
 ghost use Rattle.h1_app.specs.Asking.{AsksAs, RunsOn, GivesAsked, PendsAsked, IsAskedOf, noted};
-ghost use Rattle.h1_app.specs.Turns.{Went, JobFrom, OutcomeCause, ExtendsLast};
-ghost use Rattle.h1_app.specs.Waits.{WaitsFew, OthersFew};
+ghost use Rattle.h1_app.specs.Leaves.{Leaves};
+ghost use Rattle.h1_app.specs.Turn.{outcome_end};
+ghost use Rattle.h1_app.specs.Step.{StepReady, Stepped, Continues};
 
-use crate::exchange::{Outcome, Stage};
+use crate::exchange::{Exchange, Outcome, Stage};
 use crate::{Entry, How, HttpServer, Reply, ServeHttp};
 use futures::task::Poll;
 use h1_body::BodyBytes;
@@ -24,47 +23,32 @@ use std::alloc::Global;
 use std::mem;
 
 /// Lets the application go on. What it reads of the body joins the exchange.
-pub(super) fn answer<L, SV, B, C>(
+pub(super) fn answer<L: Link + Drop, SV: ServeHttp<L, C> + Drop, B: Drop, C: Drop>(
     alloc: Global,
     server: &HttpServer<SV, B>,
-    session: &mut HttpSession<L, C>,
-    last: &mut Option<Entry>,
-    stage: &mut Stage<SV::Job>,
+    exchange: &mut Exchange<L, SV::Job, C>,
     now: u64,
 ) -> Outcome
-where
-    L: Link + Drop,
-    SV: ServeHttp<L, C> + Drop,
-    B: Drop,
-    C: Drop,
-    requires sound { SoundStage (SV.runs server.now.app) session.old last.old stage.old }
-    requires at { IsAnswerStage stage.old }
-    requires allowed { IfSome last.old (IsAllowed (SV.gives server.now.app)) }
-    requires kept { IfSome last.old (IsKept session.old) }
-    requires budget { IsSome session.old.budget }
-    requires moment { now < 253_402_300_800_000 }
-    ensures went { Went L.state session.old session.new }
-    ensures plan { L.same_plan session.old.link session.new.link }
-    ensures since { (before : LinkState) (done : List Entry) → Since L.state before session.old done last.old → Since L.state before session.new done last.new }
-    ensures allowed { IfSome last.new (IsAllowed (SV.gives server.now.app)) }
-    ensures kept { IfSome last.new (IsKept session.new) }
-    ensures extends { (shutdown : Bool) → ExtendsLast now shutdown (L.state session.old.link) (L.state session.new.link) last.old last.new }
-    ensures job { JobFrom SV.begins SV.pends stage.old stage.new }
-    ensures few { WaitsFew (L.state session.old.link) (L.state session.new.link) (option_to_list last.old) (option_to_list last.new) result }
-    ensures others { OthersFew (L.state session.old.link) (L.state session.new.link) stage.old stage.new result }
-    ensures outcome { OutcomeCause L.state SV.pends (SV.runs server.now.app) session.old session.new last.new stage.old stage.new result }
+    requires ready { StepReady (SV.gives server.now.app) (SV.runs server.now.app) now exchange.old }
+    requires at { IsAnswerStage exchange.old.stage }
+    ensures stepped { (shutdown : Bool) → Stepped L.state SV.pends (SV.gives server.now.app) (SV.runs server.now.app) now shutdown
+        exchange.old exchange.new result }
+    ensures continues { Continues L.state L.same_plan SV.begins SV.pends exchange.old exchange.new result }
+    ensures leaves { Leaves (L.state exchange.old.session.link) (L.state exchange.new.session.link) exchange.new.transcript.last (outcome_end result) }
 {
-    let Some(entry) = last else { unreachable!() };
-    let Stage::Answer(job) = stage else {
+    let Some(entry) = &mut exchange.transcript.last else {
         unreachable!()
     };
-    match ask(alloc, &server.app, job, session, entry, now) {
+    let Stage::Answer(job) = &mut exchange.stage else {
+        unreachable!()
+    };
+    match ask(alloc, &server.app, job, &mut exchange.session, entry, now) {
         Asked::Reads => Outcome::Waits(Waiting::Read),
         Asked::Pends => Outcome::Waits(Waiting::App),
         Asked::Failed(error) => Outcome::Ends(End::Failed(error)),
         Asked::Replied(reply) => {
             entry.reply = Some(reply);
-            *stage = Stage::TakeHeader;
+            exchange.stage = Stage::TakeHeader;
             Outcome::Done
         }
     }
@@ -96,7 +80,7 @@ where
     C: Drop,
     requires request { IsSome session.old.request }
     requires budget { IsSome session.old.budget }
-    requires moment { now < 253_402_300_800_000 }
+    requires moment { now < YEAR_10000 }
     ensures asks { AsksAs L.state session.old session.new entry.old entry.new result }
     ensures plan { L.same_plan session.old.link session.new.link }
     ensures runs { (head : RequestView) (began : Settings) → IsAskedFor head session.old

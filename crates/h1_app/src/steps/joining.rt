@@ -1,25 +1,22 @@
 //! An exchange is over: it joins those that ended, and the next one begins on the same link.
 ghost use Rattle.h1_app.specs.Draining.{IsLastOver, JoinsNext};
 
-use crate::Transcript;
-use crate::exchange::{Outcome, Stage};
+use crate::exchange::{Exchange, Outcome, Stage};
 use h1_error::End;
 use h1_link::Link;
-use h1_server::HttpSession;
 
 /// The last exchange joins those that ended, and the next head is awaited.
 pub(crate) fn next_exchange<L: Link + Drop, C: Drop, J: Drop>(
-    session: &mut HttpSession<L, C>,
-    transcript: &mut Transcript,
-    stage: &mut Stage<J>,
+    exchange: &mut Exchange<L, J, C>,
 ) -> Outcome
-    requires { IsLastOver session.old transcript.old.last }
-    ensures { JoinsNext session.old session.new transcript.old transcript.new stage.old stage.new result }
+    requires { IsLastOver exchange.old.session exchange.old.transcript.last }
+    ensures { JoinsNext exchange.old.session exchange.new.session exchange.old.transcript exchange.new.transcript
+        exchange.old.stage exchange.new.stage result }
 {
-    if let Err(error) = transcript.end_last() {
+    if let Err(error) = exchange.transcript.end_last() {
         return Outcome::Ends(End::Failed(error));
     }
-    session.next_request();
-    *stage = Stage::Head;
+    exchange.session.next_request();
+    exchange.stage = Stage::Head;
     Outcome::Done
 }

@@ -1,7 +1,7 @@
 //! Copying the bytes that are ahead.
 ghost use Rattle.std.specs.Prelude.{◌≡◌, ◌+◌, ◌-◌, ◌≤◌, ◌++◌, min, take, length};
 
-/// Copies as many bytes behind the first `next` as there are and fit, and answers how many.
+/// Copies as many bytes after the first `next` as there are and fit, and answers how many.
 pub fn copy_ahead(put: &[u8], next: usize, buf: &mut [u8]) -> usize
     requires { next ≤ length put.now }
     ensures count { result ≡ min (length buf.old) (length put.now - next) }

@@ -2,7 +2,7 @@
 ghost use Rattle.std.specs.Prelude.{◌≡◌, ◌<◌, length, take, IfOk, IfErr, Some, false};
 ghost use Rattle.h1_link.specs.LinkState.{untold_state};
 ghost use Rattle.h1_link.specs.DummyState.{DummyState, DummyRule, SameBytes, dummy_state_of};
-ghost use Rattle.h1_link.specs.DummyState.{bytes_itself, bytes_on};
+ghost use Rattle.h1_link.specs.DummyState.{bytes_itself, bytes_on, dummy_read_answer};
 ghost use Rattle.h1_link.specs.Steps.{FitsRead, FitsWrite, after_read, after_write};
 ghost use Rattle.h1_link.specs.Steps.{after_flush, after_shutdown};
 
@@ -59,7 +59,13 @@ impl Link for DummyIO {
 
     ghost same_plan = { SameBytes };
 
-    fn poll_read(&mut self, buf: &mut [u8]) -> ReadStep {
+    fn poll_read(&mut self, buf: &mut [u8]) -> ReadStep
+        requires { 0 < length buf.old }
+        ensures fits { FitsRead buf.new result }
+        ensures answer { result ≡ dummy_read_answer self.old (length buf.old) }
+        ensures state { self.new.state ≡ after_read self.old.state buf.new result }
+        ensures plan { SameBytes self.old self.new }
+    {
         if self.next == self.bytes.len() {
             self.tally.count_read(buf, ReadStep::NotReady);
             return ReadStep::NotReady;

@@ -39,7 +39,7 @@ impl MemAcceptor {
         }
     }
 
-    /// Hands out this link behind those that are planned.
+    /// Hands out this link after those that are planned.
     pub fn plan(&mut self, link: MemLink) -> Result<(), Error>
         ensures ok { OnOk result (self.new ≡ record self.old {
           planned = self.old.planned ++ link ∷ [];

@@ -12,7 +12,7 @@ use std::alloc::Global;
 use std::collections::VecDeque;
 use std::marker::Model;
 
-/// A dialer in memory, which answers what was planned, in order, and fails behind the last.
+/// A dialer in memory, which answers what was planned, in order, and fails after the last.
 #[derive(Drop)]
 pub struct MemDialer<L: Link + Drop> {
     planned: VecDeque<DialStep<L>>,
@@ -42,7 +42,7 @@ impl<L: Link + Drop> MemDialer<L> {
         }
     }
 
-    /// Answers this step behind those that are planned.
+    /// Answers this step after those that are planned.
     pub fn plan(&mut self, step: DialStep<L>) -> Result<(), Error>
         requires fresh { HandsOutFresh L.state step }
         ensures ok { OnOk result (self.new ≡ record self.old {

@@ -64,7 +64,7 @@ impl MemLink {
         }
     }
 
-    /// Puts these bytes behind those that are ahead.
+    /// Puts these bytes after those that are ahead.
     pub fn give(&mut self, bytes: &[u8]) -> Result<(), Error>
         ensures ok { OnOk result (self.new ≡ record self.old {
           put = self.old.put ++ bytes.now;
@@ -79,7 +79,7 @@ impl MemLink {
         Ok(())
     }
 
-    /// Ends the link behind what is ahead. A second call adds nothing.
+    /// Ends the link after what is ahead. A second call adds nothing.
     pub fn end(&mut self)
         ensures { self.new ≡ record self.old {
           end_at = Some (unwrap_or self.old.end_at (length self.old.put));
@@ -150,7 +150,7 @@ impl MemLink {
 
     /// Whether the link was shut down.
     pub fn is_shut(&self) -> bool
-        ensures { result ≡ self.now.shut }
+        ensures { result ≡ self.now.state.shut }
     {
         self.shut
     }
@@ -251,10 +251,7 @@ impl Link for MemLink {
     }
 
     fn shutdown(&mut self)
-        ensures after { self.new ≡ record self.old {
-          state = after_shutdown self.old.state;
-          shut = true;
-        } }
+        ensures after { self.new ≡ record self.old { state = after_shutdown self.old.state } }
         ensures state { self.new.state ≡ after_shutdown self.old.state }
         ensures plan { SamePlan self.old self.new }
     {

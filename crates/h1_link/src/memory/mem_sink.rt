@@ -12,6 +12,7 @@ use std::marker::Model;
 #[derive(Drop)]
 pub struct MemSink {
     written: Vec<u8>,
+    flushed: bool,
     fault: bool,
     faults: u64,
 }
@@ -19,7 +20,7 @@ pub struct MemSink {
 impl Model for MemSink {
     ghost Value = { MemSinkState };
 
-    ghost view = { λ s. mem_sink_of s.written.items s.faults s.fault };
+    ghost view = { λ s. mem_sink_of s.written.items s.flushed s.faults s.fault };
 }
 
 impl MemSink {
@@ -29,6 +30,7 @@ impl MemSink {
     {
         MemSink {
             written: Vec::new(alloc),
+            flushed: true,
             fault: false,
             faults: 0,
         }
@@ -39,6 +41,13 @@ impl MemSink {
         ensures { self.now.state.taken ≡ Some result.now }
     {
         &self.written
+    }
+
+    /// Whether all that writes took was flushed.
+    pub fn is_flushed(&self) -> bool
+        ensures { result ≡ self.now.state.flushed }
+    {
+        self.flushed
     }
 
     /// Lets the next write or flush fail.
@@ -65,7 +74,12 @@ impl Sink for MemSink {
             return SinkStep::Failed;
         }
         match self.written.extend_from_slice(piece) {
-            Ok(()) => SinkStep::Took(piece.len()),
+            Ok(()) => {
+                if !piece.is_empty() {
+                    self.flushed = false;
+                }
+                SinkStep::Took(piece.len())
+            }
             Err(_) => SinkStep::NoMemory,
         }
     }
@@ -80,6 +94,7 @@ impl Sink for MemSink {
             self.faults = raise(self.faults);
             return false;
         }
+        self.flushed = true;
         true
     }
 }

@@ -1,7 +1,8 @@
 //! A clock that stands where it was set.
 ghost use Rattle.std.specs.Prelude.{◌≡◌, ℕ, ◌<◌, ◌≤◌};
 
-use crate::clock::{Clock, YEAR_10000};
+use crate::clock::Clock;
+use h1_error::YEAR_10000;
 use std::marker::Model;
 
 /// A clock that stands where it was set, in milliseconds since the epoch. Contracts see the moment.
@@ -12,7 +13,7 @@ pub struct SetClock {
 
 impl Model for SetClock {
     ghost use Rattle.std.specs.Prelude.{ℕ, ◌<◌};
-    ghost use Rattle.h1_link.specs.declared.clock.TheConstants.{YEAR_10000};
+    ghost use Rattle.h1_error.specs.declared.moment.TheConstants.{YEAR_10000};
 
     ghost Value = { ℕ };
 

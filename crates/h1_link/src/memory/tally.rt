@@ -15,6 +15,7 @@ pub struct Tally {
     bytes_in: u64,
     bytes_out: u64,
     flushed: u64,
+    shut: bool,
 }
 
 impl Model for Tally {
@@ -36,6 +37,7 @@ impl Model for Tally {
       moves = t.counts.moves;
       others = t.counts.others;
       flushed = t.flushed;
+      shut = t.shut;
     } };
 }
 
@@ -50,6 +52,7 @@ impl Tally {
             bytes_in: 0,
             bytes_out: 0,
             flushed: 0,
+            shut: false,
         }
     }
 
@@ -107,6 +110,7 @@ impl Tally {
     pub fn count_shutdown(&mut self)
         ensures { self.new ≡ after_shutdown self.old }
     {
+        self.shut = true;
         self.counts.count_other();
     }
 }

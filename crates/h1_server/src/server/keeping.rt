@@ -1,11 +1,11 @@
-//! Whether the connection persists behind this request, and what is set for that.
+//! Whether the connection persists after this request, and what is set for that.
 ghost use Rattle.std.specs.Prelude.{◌≡◌, [], is_some, IsSome, IfSome, None};
 ghost use Rattle.h1_server.specs.Reuse.{grants, stays_open, is_empty_framing};
 
 use super::HttpSession;
 use crate::persistence::{has_reuses, is_at_end};
 use crate::settings::{wished, with_keepalive};
-use crate::{ReplyState, Request};
+use crate::{Outgoing, Request};
 use bytes::BytesMut;
 use h1_body::Framing;
 use h1_head::HeadSearch;
@@ -15,15 +15,15 @@ impl<L: Link + Drop, C: Drop> HttpSession<L, C> {
     ghost use Rattle.h1_server.specs.Keepalive.{keepalive_set, wished};
     ghost use Rattle.h1_server.specs.Reuse.{keeps_alive, is_body_done, is_empty_framing, prefix_of};
 
-    /// Whether the connection persists behind this request (RFC 9112, section 9.3).
+    /// Whether the connection persists after this request (RFC 9112, section 9.3).
     pub fn will_keepalive(&self) -> bool
         ensures { result ≡ keeps_alive self.now }
     {
         !self.settings.keep_off
             && has_reuses(self.settings.reuses)
-            && grants(&self.request)
-            && self.body.refused.is_none()
-            && stays_open(&self.reply)
+            && grants(&self.asked.request)
+            && self.transfer.body().refused.is_none()
+            && stays_open(self.transfer.outgoing())
     }
 
     /// Turns keep-alive on without a deadline where the request wishes it, else off.
@@ -31,13 +31,13 @@ impl<L: Link + Drop, C: Drop> HttpSession<L, C> {
         requires { IsSome self.old.request }
         ensures { IfSome self.old.request (λ request. self.new ≡ record self.old { settings = keepalive_set self.old.settings (wished request.wish) }) }
     {
-        let Some(request) = &self.request else {
+        let Some(request) = &self.asked.request else {
             unreachable!()
         };
         self.settings = with_keepalive(self.settings, wished(request.wish));
     }
 
-    /// Sets how many requests more may be served behind this one; None is no limit.
+    /// Sets how many requests more may be served after this one; None is no limit.
     pub fn set_keepalive_reuses_remaining(&mut self, reuses: Option<u32>)
         ensures { self.new ≡ record self.old { settings = record self.old.settings { reuses = reuses } } }
     {
@@ -57,20 +57,20 @@ impl<L: Link + Drop, C: Drop> HttpSession<L, C> {
         self.settings.closing = closing;
     }
 
-    /// Puts bytes in front of what the link gives: they are parsed before any read.
+    /// Puts bytes before what the link gives: they are parsed before any read.
     pub fn set_pipelined_prefix(&mut self, prefix: BytesMut)
         requires { (self.old.request ≡ None) × (self.old.received ≡ []) }
         ensures { self.new ≡ record self.old { received = prefix.items } }
     {
-        self.received = prefix;
-        self.search = HeadSearch::new();
+        self.transfer.set_received(prefix);
+        self.asked.search = HeadSearch::new();
     }
 
     /// Whether bytes were received that aren't used yet.
     pub fn has_prefix(&self) -> bool
         ensures { result ≡ is_some (prefix_of self.now.received) }
     {
-        !self.received.is_empty()
+        !self.transfer.received().is_empty()
     }
 
     /// Keeps a value of the caller's with the connection, or none.
@@ -94,7 +94,7 @@ impl<L: Link + Drop, C: Drop> HttpSession<L, C> {
         ensures answer { result ≡ is_body_done self.old.body }
         ensures same { self.new ≡ self.old }
     {
-        is_at_end(&self.body.reader) || self.body.refused.is_some()
+        is_at_end(&self.transfer.body().reader) || self.transfer.body().refused.is_some()
     }
 
     /// Whether the request has no body.
@@ -103,7 +103,7 @@ impl<L: Link + Drop, C: Drop> HttpSession<L, C> {
         ensures answer { IfSome self.old.request (λ request. result ≡ is_empty_framing request.framing) }
         ensures same { self.new ≡ self.old }
     {
-        let Some(request) = &self.request else {
+        let Some(request) = &self.asked.request else {
             unreachable!()
         };
         is_empty_framing(request.framing)
@@ -121,7 +121,7 @@ fn grants(request: &Option<Request>) -> bool
 }
 
 /// Whether the reply lets the connection go on, as far as it was taken up.
-fn stays_open(reply: &ReplyState) -> bool
+fn stays_open(reply: &Outgoing) -> bool
     ensures { result ≡ stays_open reply.now }
 {
     !reply.headed || (reply.keep && !reply.writer.is_close_delimited())

@@ -1,14 +1,11 @@
 //! Writing a reply: its head, its body and its end.
-ghost use Rattle.std.specs.Prelude.{◌≡◌, ◌<◌, ◌≤◌, ◌⊎◌, IsSome, IfSome, IfNone, None, Some, true};
+ghost use Rattle.std.specs.Prelude.{◌≡◌, ◌<◌, ◌≤◌, ◌⊎◌, IsSome, IfSome, IfNone, None, Some, true, false};
+ghost use Rattle.h1_error.specs.declared.moment.TheConstants.{YEAR_10000};
 ghost use Rattle.futures.specs.declared.task.Poll.TheVariants.{Ready};
 
 use super::HttpSession;
-use crate::budget::{allowance_of, budget_left};
-use crate::delivering::{Delivery, deliver, with_count};
 use crate::persistence::keep_flag;
-use crate::taking_up::{
-    EndTaken, head_delivery, is_passed_over, take_end, take_header, take_piece,
-};
+use crate::taking_up::{head_delivery, is_passed_over, take_header};
 use bytes::Bytes;
 use futures::task::Poll;
 use h1_error::Error;
@@ -16,11 +13,12 @@ use h1_head::ResponseHeader;
 use h1_link::Link;
 
 impl<L: Link + Drop, C: Drop> HttpSession<L, C> {
-    ghost use Rattle.h1_server.specs.Calls.{OneOther, CallsFew, is_done};
-    ghost use Rattle.h1_server.specs.Replies.{HeaderCall, is_passed_over, WritesPiece, EndCall, stage_of, IsHeaderStep, IsPieceStep, IsEndStep};
+    ghost use Rattle.h1_transfer.specs.Calls.{Called, is_done, write_fault_of};
+    ghost use Rattle.h1_server.specs.Replies.{HeaderCall, is_passed_over, WritesPiece, EndCall, stage_of, IsHeaderStep};
+    ghost use Rattle.h1_transfer.specs.BodyWrites.{IsPieceStep, IsEndStep};
 
     /// Writes a final header, with its date and whether the connection is kept (RFC 9112,
-    /// sections 4 and 9). Behind a final header nothing is written.
+    /// sections 4 and 9). After a final header nothing is written.
     pub fn poll_write_response_header(
         &mut self,
         header: &mut Option<ResponseHeader>,
@@ -29,31 +27,28 @@ impl<L: Link + Drop, C: Drop> HttpSession<L, C> {
         requires request { IsSome self.old.request }
         requires free { IsHeaderStep header.old self.old.reply.step }
         requires is_final { IfSome header.old (λ view. 200 ≤ view.status) }
-        requires moment { now < 253_402_300_800_000 }
+        requires moment { now < YEAR_10000 }
         ensures again { IfSome self.old.reply.refused (λ error. (result ≡ Ready (Err error)) × (self.new ≡ self.old) × (header.new ≡ header.old)) }
         ensures writes { IfNone self.old.reply.refused (IfSome self.old.request (λ request. HeaderCall L.state self.old self.new request header.old header.new now result (is_passed_over header.old self.old.reply.headed))) }
-        ensures calls { OneOther (L.state self.old.link) (L.state self.new.link) }
+        ensures calls { Called (L.state self.old.link) (L.state self.new.link) false (write_fault_of result) }
         ensures plan { L.same_plan self.old.link self.new.link }
     {
-        if let Some(error) = self.reply.refused {
+        if let Some(error) = self.transfer.outgoing().refused {
             return Poll::Ready(Err(error));
         }
-        if is_passed_over(header, self.reply.headed) {
+        if is_passed_over(header, self.transfer.outgoing().headed) {
             *header = None;
             return Poll::Ready(Ok(()));
         }
-        let Some(request) = &self.request else {
+        let Some(request) = &self.asked.request else {
             unreachable!()
         };
-        let keep = keep_flag(request.wish, self.settings, &self.body);
-        if let Err(error) = take_header(&mut self.reply, request, keep, header, now) {
+        let keep = keep_flag(request.wish, self.settings, self.transfer.body());
+        if let Err(error) = take_header(&mut self.transfer, request, keep, header, now) {
             return Poll::Ready(Err(error));
         }
-        let how = head_delivery(&self.reply.writer);
-        let mut left = allowance_of(self.budget);
-        let answer = deliver(&mut self.link, &mut self.reply, how, &mut left);
-        self.budget = budget_left(self.budget, left);
-        answer
+        let how = head_delivery(&self.transfer.outgoing().writer);
+        self.transfer.poll_deliver(how)
     }
 
     /// Writes a piece of the reply's body (RFC 9112, section 6), and says how much of it was
@@ -67,17 +62,10 @@ impl<L: Link + Drop, C: Drop> HttpSession<L, C> {
         requires free { IsPieceStep buf.old self.old.reply.step }
         ensures again { IfSome self.old.reply.refused (λ error. (result ≡ Ready (Err error)) × (self.new ≡ self.old) × (buf.new ≡ buf.old)) }
         ensures writes { IfNone self.old.reply.refused (WritesPiece L.state self.old self.new buf.old buf.new result) }
-        ensures calls { CallsFew (L.state self.old.link) (L.state self.new.link) (is_done result) }
+        ensures calls { Called (L.state self.old.link) (L.state self.new.link) (is_done result) (write_fault_of result) }
         ensures plan { L.same_plan self.old.link self.new.link }
     {
-        if let Some(error) = self.reply.refused {
-            return Poll::Ready(Err(error));
-        }
-        let count = take_piece(&mut self.reply, buf);
-        let mut left = allowance_of(self.budget);
-        let answer = deliver(&mut self.link, &mut self.reply, Delivery::Sent, &mut left);
-        self.budget = budget_left(self.budget, left);
-        with_count(answer, count)
+        self.transfer.poll_write_body(buf)
     }
 
     /// Writes the end of the reply's body and flushes it, and says how much payload was taken in
@@ -86,28 +74,9 @@ impl<L: Link + Drop, C: Drop> HttpSession<L, C> {
         requires free { IsEndStep self.old.reply.step }
         ensures again { IfSome self.old.reply.refused (λ error. (result ≡ Ready (Err error)) × (self.new ≡ self.old)) }
         ensures writes { IfNone self.old.reply.refused (EndCall L.state self.old self.new result (stage_of self.old.reply)) }
-        ensures calls { OneOther (L.state self.old.link) (L.state self.new.link) }
+        ensures calls { Called (L.state self.old.link) (L.state self.new.link) false (write_fault_of result) }
         ensures plan { L.same_plan self.old.link self.new.link }
     {
-        if let Some(error) = self.reply.refused {
-            return Poll::Ready(Err(error));
-        }
-        let end = match take_end(&mut self.reply) {
-            Ok(end) => end,
-            Err(error) => return Poll::Ready(Err(error)),
-        };
-        if end == EndTaken::Nothing {
-            return Poll::Ready(Ok(None));
-        }
-        let written = self.reply.writer.written() as usize;
-        let mut left = allowance_of(self.budget);
-        let answer = deliver(
-            &mut self.link,
-            &mut self.reply,
-            Delivery::Flushed,
-            &mut left,
-        );
-        self.budget = budget_left(self.budget, left);
-        with_count(answer, Some(written))
+        self.transfer.poll_finish_body()
     }
 }

@@ -1,81 +1,65 @@
 //! Handing the link on to the next request: the rest of the body is read, and what was received
-//! behind it is kept.
+//! after it is kept.
 ghost use Rattle.std.specs.Prelude.{◌≡◌, IsSome, IfSome, IfNone, option_map, Err, true};
-ghost use Rattle.h1_server.specs.Reuse.{may_follow, prefix_of};
+ghost use Rattle.h1_server.specs.Reuse.{may_follow, prefix_of, is_replied};
 ghost use Rattle.futures.specs.declared.task.Poll.TheVariants.{Ready};
-ghost use Rattle.h1_server.specs.declared.reply.Step.TheVariants.{Free};
+ghost use Rattle.h1_transfer.specs.declared.outgoing.Step.TheVariants.{Free};
 
 use super::HttpSession;
-use super::requests::refuse;
-use crate::budget::{allowance_of, budget_left};
-use crate::reading_body::{BodyRead, drain_body};
+use crate::request_state::RequestState;
 use crate::settings::next_settings;
-use crate::{BodyState, ReplyState, ReusableHttpStream};
+use crate::{Outgoing, ReusableHttpStream};
 use bytes::BytesMut;
 use futures::task::Poll;
-use h1_error::{Error, ErrorType};
-use h1_head::HeadSearch;
+use h1_error::Error;
 use h1_link::Link;
 
 impl<L: Link + Drop, C: Drop> HttpSession<L, C> {
-    ghost use Rattle.h1_server.specs.Reuse.{DrainsBody, ReusesBy, AwaitsNext, keeps_alive, prefix_of};
-    ghost use Rattle.h1_server.specs.Calls.{CallsFew, is_done, is_reused};
+    ghost use Rattle.h1_server.specs.Payload.{DrainsBody};
+    ghost use Rattle.h1_server.specs.Reuse.{ReusesBy, AwaitsNext, may_go_on, prefix_of};
+    ghost use Rattle.h1_server.specs.Calls.{is_reused};
+    ghost use Rattle.h1_transfer.specs.Calls.{Called, is_done, read_fault_of};
 
     /// Reads the rest of the request's body (RFC 9112, section 9.3).
     pub fn poll_drain_request_body(&mut self, now: u64) -> Poll<Result<(), Error>>
         requires { IsSome self.old.request }
         ensures again { IfSome self.old.body.refused (λ error. (result ≡ Ready (Err error)) × (self.new ≡ self.old)) }
         ensures drains { IfNone self.old.body.refused (DrainsBody L.state self.old self.new result) }
-        ensures calls { CallsFew (L.state self.old.link) (L.state self.new.link) (is_done result) }
+        ensures calls { Called (L.state self.old.link) (L.state self.new.link) (is_done result) (read_fault_of result) }
         ensures plan { L.same_plan self.old.link self.new.link }
     {
-        if let Some(error) = self.body.refused {
-            return Poll::Ready(Err(error));
-        }
-        let mut left = allowance_of(self.budget);
-        let read = drain_body(
-            self.alloc,
-            &mut self.link,
-            &mut self.received,
-            &mut self.body.reader,
-            &mut self.body.kept,
-            &mut left,
-        );
-        self.budget = budget_left(self.budget, left);
-        match read {
-            BodyRead::Piece(_) => unreachable!(),
-            BodyRead::Done => Poll::Ready(Ok(())),
-            BodyRead::Broken => refuse(&mut self.body.refused, ErrorType::InvalidBody),
-            BodyRead::Cut => refuse(&mut self.body.refused, ErrorType::ConnectionClosed),
-            BodyRead::NotReady => Poll::Pending,
-            BodyRead::Spent => Poll::Pending,
-            BodyRead::Failed => refuse(&mut self.body.refused, ErrorType::ReadError),
-            BodyRead::NoMemory => Poll::Ready(Err(Error::from(ErrorType::NoMemory))),
-        }
+        self.transfer.poll_drain()
     }
 
     /// Whether the link may serve the next request: the rest of this one's body is read first. A
-    /// link that isn't kept is shut.
+    /// link that isn't kept is shut, and so is one whose reply isn't whole.
     pub fn poll_reuse(&mut self, now: u64) -> Poll<Result<bool, Error>>
         requires request { IsSome self.old.request }
         requires free { self.old.reply.step ≡ Free }
-        ensures reuse { ReusesBy L.state self.old self.new result (keeps_alive self.old) }
-        ensures calls { CallsFew (L.state self.old.link) (L.state self.new.link) (is_reused result) }
+        ensures reuse { ReusesBy L.state self.old self.new result (may_go_on self.old) }
+        ensures calls { may_go_on self.old ≡ true → Called (L.state self.old.link) (L.state self.new.link) (is_reused result) (read_fault_of result) }
         ensures plan { L.same_plan self.old.link self.new.link }
     {
         self.reusable = false;
-        if !self.will_keepalive() {
-            self.link.shutdown();
+        if !self.may_go_on() {
+            self.transfer.shutdown();
             return Poll::Ready(Ok(false));
         }
         match self.poll_drain_request_body(now) {
             Poll::Pending => Poll::Pending,
             Poll::Ready(Err(error)) => Poll::Ready(Err(error)),
             Poll::Ready(Ok(())) => {
-                self.reusable = may_follow(self.settings.pipelining, &self.received);
+                self.reusable = may_follow(self.settings.pipelining, self.transfer.received());
                 Poll::Ready(Ok(self.reusable))
             }
         }
+    }
+
+    // Whether the connection persists, and the reply to this request is whole.
+    fn may_go_on(&self) -> bool
+        ensures { result ≡ may_go_on self.now }
+    {
+        self.will_keepalive() && is_replied(self.transfer.outgoing())
     }
 
     /// Whether the link may serve the next request, as `poll_reuse` answered last.
@@ -92,11 +76,8 @@ impl<L: Link + Drop, C: Drop> HttpSession<L, C> {
         requires { self.old.reusable ≡ true }
         ensures { AwaitsNext self.old self.new }
     {
-        self.search = HeadSearch::new();
-        self.request = None;
-        self.refused = None;
-        self.body = BodyState::new();
-        self.reply = ReplyState::new();
+        self.transfer.start_over();
+        self.asked = RequestState::new();
         self.settings = next_settings(self.settings);
         self.reusable = false;
     }
@@ -106,20 +87,7 @@ impl<L: Link + Drop, C: Drop> HttpSession<L, C> {
         requires { self.reusable ≡ true }
         ensures { (result.stream ≡ self.link) × (option_map (λ bytes. bytes.items) result.prefix ≡ prefix_of self.received) }
     {
-        let HttpSession {
-            alloc: _,
-            link,
-            received,
-            search,
-            request,
-            refused,
-            body,
-            reply,
-            settings,
-            budget,
-            reusable,
-            context,
-        } = self;
+        let (link, received) = self.transfer.into_parts();
         ReusableHttpStream {
             stream: link,
             prefix: prefix_of(received),
@@ -127,9 +95,17 @@ impl<L: Link + Drop, C: Drop> HttpSession<L, C> {
     }
 }
 
-/// Whether the next request may stand behind these bytes.
-fn may_follow(pipelining: bool, received: &BytesMut) -> bool
-    ensures { result ≡ may_follow pipelining received.now.items }
+/// Whether a final reply was written to its end, with all bytes that it states, and no write was
+/// refused.
+fn is_replied(reply: &Outgoing) -> bool
+    ensures { result ≡ is_replied reply.now }
+{
+    reply.headed && reply.refused.is_none() && reply.writer.finished() && !reply.writer.is_short()
+}
+
+/// Whether the next request may stand after these bytes.
+fn may_follow(pipelining: bool, received: &[u8]) -> bool
+    ensures { result ≡ may_follow pipelining received.now }
 {
     pipelining || received.is_empty()
 }

@@ -1,4 +1,4 @@
-use Rattle.h1_app.proofs.RefusalLemmas.{refusal_memory}
+use Rattle.h1_echo.proofs.RefusalLemmas.{refusal_memory}
 use Rattle.h1_app.proofs.tests.refusal.Goals as goal
 
 pub returns-in-Err-clause-err : goal.returns-in-Err-clause-err

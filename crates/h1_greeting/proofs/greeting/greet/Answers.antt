@@ -12,9 +12,9 @@ loop-preserved c =
     let cause = rw on at c.poll.ensures.cause in
     served_on c.args.given.now c.loop.counter c.loop.connection c.poll.new.self c.poll.result c.loop.invariant
     c.loop-test.true on c.poll.ensures.app.1 c.poll.ensures.plan (subst Rule c.link-in-loop.ensures c.rule.ensures)
-    (c.poll.ensures.since new_mem_state.state c.loop.invariant.since)
-    (c.poll.ensures.agrees new_mem_state.state c.loop.invariant.since)
-    (cause new_mem_state.state c.loop.invariant.since)
+    (c.poll.ensures.accounted new_mem_state.state c.loop.invariant.accounted)
+    (c.poll.ensures.agrees new_mem_state.state c.loop.invariant.accounted)
+    (cause new_mem_state.state c.loop.invariant.accounted)
 
 pub returns-clause-agrees : goal.returns-clause-agrees
 returns-clause-agrees c = c.loop.invariant.agrees

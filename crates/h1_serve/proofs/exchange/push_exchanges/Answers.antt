@@ -1,5 +1,5 @@
 use Rattle.std.proofs.Common.{◌∙◌, ap, ◌++◌, arith}
-use Rattle.h1_app.specs.View.{transcript_entries}
+use Rattle.h1_transcript.specs.Entries.{transcript_entries}
 use Rattle.h1_serve.proofs.ExchangeLemmas.{more_lines, never_none}
 use Rattle.h1_serve.proofs.exchange.push_exchanges.Goals as goal
 use Rattle.h1_serve.proofs.exchange.push_exchanges.Goals.{in-Some+in_ok-lines+in_ok-push, in_default}

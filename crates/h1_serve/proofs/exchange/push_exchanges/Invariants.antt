@@ -1,5 +1,5 @@
 use Rattle.std.proofs.Common.{◌≡◌, ◌++◌, take}
-use Rattle.h1_app.specs.View.{transcript_entries}
+use Rattle.h1_transcript.specs.Entries.{transcript_entries}
 use Rattle.h1_serve.specs.ExchangeText.{exchanges_lines}
 use Rattle.h1_serve.proofs.exchange.push_exchanges.Given as goal
 

@@ -8,12 +8,12 @@ returns-in-Give c =
     on_ok c.give.result _ _ (λ link place may running.
     gives_line place c.args.scripted.now c.give.new.connection c.args.command.now c.as_slice.result.now c.args.text.now
     (c.in-Give.is ∙ ap command.Give (sym c.as_slice.ensures))
-    c.give.ensures.rest link c.give.ensures.since may running) c.give.ensures.link
+    c.give.ensures.rest link c.give.ensures.accounted may running) c.give.ensures.link
 
 pub returns-in-End : goal.returns-in-End
 returns-in-End c = λ place may running.
     ends_line place c.args.scripted.now c.say_end.new.connection c.args.command.now c.args.text.now
-    c.in-End.is c.say_end.ensures.rest c.say_end.ensures.link c.say_end.ensures.since may running
+    c.in-End.is c.say_end.ensures.rest c.say_end.ensures.link c.say_end.ensures.accounted may running
 
 pub returns-in-Shutdown : goal.returns-in-Shutdown
 returns-in-Shutdown c = λ place may running.

@@ -20,11 +20,11 @@ returns c =
       plan = polled.plan;
       limit = polled.app.1;
       shut = refl;
-      since = polled.since new_link running.since;
-      agrees = polled.agrees new_link running.since;
+      accounted = polled.accounted new_link running.accounted;
+      agrees = polled.agrees new_link running.accounted;
       extends = polled.extends;
-      most = polled.most;
-      few = polled.few;
+      moves = polled.moves;
+      reads_not_ready = polled.reads_not_ready;
       ended = polled.ended;
-      cause = if_none c.args.scripted.now.connection.end _ _ (λ cause. cause new_link running.since) polled.cause;
+      cause = if_none c.args.scripted.now.connection.end _ _ (λ cause. cause new_link running.accounted) polled.cause;
     }) before behind c.in_ok-check_memory.ensures is) c.push.ensures.ok

@@ -1,5 +1,5 @@
 -- The connection goes on from step to step.
-use Rattle.h1_app.specs.Turns.{ahead}
+use Rattle.h1_app.specs.Pace.{ahead}
 use Rattle.h1_app.proofs.GoneLemmas.{IsOnWay}
 use Rattle.h1_app.proofs.connection.Connection.go_on.Given as goal
 

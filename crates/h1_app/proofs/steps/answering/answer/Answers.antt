@@ -1,49 +1,47 @@
-use Rattle.std.proofs.Common.{refl, rules}
-use Rattle.h1_app.proofs.AnswerLemmas.{at_answer, asked_on, asked_grows, still_answers, reads_why}
+use Rattle.std.proofs.Common.{Some, refl, rules}
+use Rattle.h1_app.proofs.LeavesLemmas.{asked_leaves, asked_fails}
+use Rattle.h1_app.proofs.AnswerLemmas.{at_answer, asked_stepped, reads_why, still_answers}
 use Rattle.h1_app.proofs.steps.answering.answer.Goals as goal
 
-pub returns-in-Reads-clause-since : goal.returns-in-Reads-clause-since
-returns-in-Reads-clause-since g c =
-    let s = at_answer (g.SV.ServeHttp.runs c.args.server.now.app) _ _ _ _ _ c.requires.sound c.in-Answer.is c.in-Some.is in
-    asked_on g.L.Link.state _ _ _ _ _ _ _ c.in-Some.is refl s.0 c.ask.ensures.asks
+pub returns-in-Reads-clause-stepped : goal.returns-in-Reads-clause-stepped
+returns-in-Reads-clause-stepped g c = λ shutdown.
+    let state = g.L.Link.state in
+    let runs = g.SV.ServeHttp.runs c.args.server.now.app in
+    let s = at_answer runs _ _ _ _ _ c.requires.ready.sound c.in-Answer.is c.in-Some.is in
+    asked_stepped state _ _ runs c.args.now shutdown _ _ c.in-Some.entry c.ask.new.entry
+    c.ask.new.entry _ _ _ c.requires.ready c.in-Answer.is c.in-Some.is refl refl
+    c.ask.ensures.asks (search rules) (search rules) (search rules) (
+      (c.ask.new.entry, refl, still_answers state _ _ _ _ _ s.0 c.ask.ensures.asks, search rules),
+      reads_why state _ _ _ _ _ s.0 c.ask.ensures.asks c.in-Reads.is,
+    )
 
-pub returns-in-Pends-clause-since : goal.returns-in-Pends-clause-since
-returns-in-Pends-clause-since g c =
-    let s = at_answer (g.SV.ServeHttp.runs c.args.server.now.app) _ _ _ _ _ c.requires.sound c.in-Answer.is c.in-Some.is in
-    asked_on g.L.Link.state _ _ _ _ _ _ _ c.in-Some.is refl s.0 c.ask.ensures.asks
+pub returns-in-Pends-clause-stepped : goal.returns-in-Pends-clause-stepped
+returns-in-Pends-clause-stepped g c = λ shutdown.
+    asked_stepped g.L.Link.state _ _ _ c.args.now shutdown _ _ c.in-Some.entry c.ask.new.entry
+    c.ask.new.entry _ _ _ c.requires.ready c.in-Answer.is c.in-Some.is refl refl
+    c.ask.ensures.asks (search rules) (search rules) (search rules) (search rules)
 
-pub returns-in-Failed-clause-since : goal.returns-in-Failed-clause-since
-returns-in-Failed-clause-since g c =
-    let s = at_answer (g.SV.ServeHttp.runs c.args.server.now.app) _ _ _ _ _ c.requires.sound c.in-Answer.is c.in-Some.is in
-    asked_on g.L.Link.state _ _ _ _ _ _ _ c.in-Some.is refl s.0 c.ask.ensures.asks
+pub returns-in-Failed-clause-stepped : goal.returns-in-Failed-clause-stepped
+returns-in-Failed-clause-stepped g c = λ shutdown.
+    asked_stepped g.L.Link.state _ _ _ c.args.now shutdown _ _ c.in-Some.entry c.ask.new.entry
+    c.ask.new.entry _ _ _ c.requires.ready c.in-Answer.is c.in-Some.is refl refl
+    c.ask.ensures.asks (search rules) (search rules) (search rules) (search rules)
 
-pub returns-in-Replied-clause-since : goal.returns-in-Replied-clause-since
-returns-in-Replied-clause-since g c =
-    let s = at_answer (g.SV.ServeHttp.runs c.args.server.now.app) _ _ _ _ _ c.requires.sound c.in-Answer.is c.in-Some.is in
-    asked_on g.L.Link.state _ _ _ _ _ _ _ c.in-Some.is refl s.0 c.ask.ensures.asks
+pub returns-in-Replied-clause-stepped : goal.returns-in-Replied-clause-stepped
+returns-in-Replied-clause-stepped g c = λ shutdown.
+    asked_stepped g.L.Link.state _ _ _ c.args.now shutdown _ _ c.in-Some.entry c.ask.new.entry
+    (record c.ask.new.entry { reply = Some c.in-Replied.reply }) _ _ _
+    c.requires.ready c.in-Answer.is c.in-Some.is refl refl c.ask.ensures.asks (search rules)
+    (search rules) (search rules) (search rules)
 
-pub returns-in-Reads-clause-extends : goal.returns-in-Reads-clause-extends
-returns-in-Reads-clause-extends g c = λ shutdown.
-    let s = at_answer (g.SV.ServeHttp.runs c.args.server.now.app) _ _ _ _ _ c.requires.sound c.in-Answer.is c.in-Some.is in
-    rw c.in-Some.is (asked_grows g.L.Link.state c.args.now _ _ _ _ _ _ refl s.0 c.ask.ensures.asks)
+pub returns-in-Pends-clause-leaves : goal.returns-in-Pends-clause-leaves
+returns-in-Pends-clause-leaves g c =
+    asked_leaves g.L.Link.state _ _ c.in-Some.entry c.ask.new.entry c.ask.new.entry _ c.ask.ensures.asks refl
 
-pub returns-in-Pends-clause-extends : goal.returns-in-Pends-clause-extends
-returns-in-Pends-clause-extends g c = λ shutdown.
-    let s = at_answer (g.SV.ServeHttp.runs c.args.server.now.app) _ _ _ _ _ c.requires.sound c.in-Answer.is c.in-Some.is in
-    rw c.in-Some.is (asked_grows g.L.Link.state c.args.now _ _ _ _ _ _ refl s.0 c.ask.ensures.asks)
+pub returns-in-Failed-clause-leaves : goal.returns-in-Failed-clause-leaves
+returns-in-Failed-clause-leaves g c =
+    asked_fails g.L.Link.state _ _ c.in-Some.entry c.ask.new.entry c.ask.new.entry _ c.in-Failed.error c.ask.ensures.asks refl
 
-pub returns-in-Failed-clause-extends : goal.returns-in-Failed-clause-extends
-returns-in-Failed-clause-extends g c = λ shutdown.
-    let s = at_answer (g.SV.ServeHttp.runs c.args.server.now.app) _ _ _ _ _ c.requires.sound c.in-Answer.is c.in-Some.is in
-    rw c.in-Some.is (asked_grows g.L.Link.state c.args.now _ _ _ _ _ _ refl s.0 c.ask.ensures.asks)
-
-pub returns-in-Replied-clause-extends : goal.returns-in-Replied-clause-extends
-returns-in-Replied-clause-extends g c = λ shutdown.
-    let s = at_answer (g.SV.ServeHttp.runs c.args.server.now.app) _ _ _ _ _ c.requires.sound c.in-Answer.is c.in-Some.is in
-    rw c.in-Some.is (asked_grows g.L.Link.state c.args.now _ _ _ _ _ _ refl s.0 c.ask.ensures.asks)
-
-pub returns-in-Reads-clause-outcome : goal.returns-in-Reads-clause-outcome
-returns-in-Reads-clause-outcome g c =
-    let s = at_answer (g.SV.ServeHttp.runs c.args.server.now.app) _ _ _ _ _ c.requires.sound c.in-Answer.is c.in-Some.is in
-    let why = reads_why g.L.Link.state _ _ _ _ _ s.0 c.ask.ensures.asks c.in-Reads.is in
-    ((c.ask.new.entry, refl, still_answers g.L.Link.state _ _ _ _ _ s.0 c.ask.ensures.asks, search rules), why)
+pub returns-in-Replied-clause-leaves : goal.returns-in-Replied-clause-leaves
+returns-in-Replied-clause-leaves g c =
+    asked_leaves g.L.Link.state _ _ c.in-Some.entry c.ask.new.entry (record c.ask.new.entry { reply = Some c.in-Replied.reply }) _ c.ask.ensures.asks refl

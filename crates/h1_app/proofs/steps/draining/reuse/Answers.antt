@@ -2,10 +2,21 @@
 use Rattle.std.proofs.Common.{List, ℕ, [], Option, unwrap_or, ◌∙◌, ap, sym}
 use Rattle.h1_app.specs.Sound.{lent}
 use Rattle.h1_app.proofs.DrainLemmas.{reuses_as}
+use Rattle.h1_app.proofs.LeavesLemmas.{called_reuse}
 use Rattle.h1_app.proofs.steps.draining.reuse.Goals as goal
 
 pub returns-in-Some-clause-reuses : goal.returns-in-Some-clause-reuses
 returns-in-Some-clause-reuses g c =
-    reuses_as g.L.Link.state c.args.session.now c.keep_payload.new.self c.poll_reuse-answer.new.self c.take_payload.new.self c.args.entry.now c.in-Some.body c.poll_reuse-answer.result
-    (c.keep_payload.ensures ∙ ap (lent c.args.session.now) c.replace.ensures.value) c.poll_reuse-answer.ensures.reuse c.take_payload.ensures.rest
-    (ap (λ (kept : Option (List ℕ)). unwrap_or kept []) (sym c.in-Some.is ∙ c.take_payload.ensures.taken))
+    reuses_as g.L.Link.state c.args.session.now c.keep_payload.new.self c.poll_reuse-answer.new.self
+    c.take_payload.new.self c.args.entry.now c.in-Some.body c.poll_reuse-answer.result c.requires.replied
+    (c.keep_payload.ensures ∙ ap (lent c.args.session.now) c.replace.ensures.value)
+    c.poll_reuse-answer.ensures.reuse c.take_payload.ensures.rest
+    (ap (λ (kept : Option (List ℕ)). unwrap_or kept [])
+    (sym c.in-Some.is ∙ c.take_payload.ensures.taken))
+
+pub returns-in-Some-clause-calls : goal.returns-in-Some-clause-calls
+returns-in-Some-clause-calls g c =
+    rw c.take_payload.ensures.rest (called_reuse g.L.Link.state c.args.session.now c.keep_payload.new.self
+    c.poll_reuse-answer.new.self c.args.entry.now.body c.poll_reuse-answer.result
+    (c.keep_payload.ensures ∙ ap (lent c.args.session.now) c.replace.ensures.value) c.requires.replied
+    c.poll_reuse-answer.ensures.reuse c.poll_reuse-answer.ensures.calls)

@@ -1,485 +1,71 @@
 -- The header is taken up.
-use Rattle.std.proofs.Common.{◌≡◌, ◌/◌, Some, Ok, Err, arith, refl, ap}
-use Rattle.h1_app.specs.Exchange.{IsAllowed}
-use Rattle.h1_app.proofs.ReplyLemmas.{at_some, ready_is, went_none, went_wrote}
-use Rattle.h1_app.proofs.GrowthLemmas.{grows_same}
-use Rattle.h1_app.proofs.HeaderTaken.{at_take_header, taking_header, out_where_pending, out_where_done, out_where_none, same_where_kept, writes_header, headed_since, headed_grows, headed_allowed, headed_waits, headed_done, headed_ahead, headed_fails}
+use Rattle.std.proofs.Common.{Ok, Err, Some, rules, refl, ap}
+use Rattle.h1_app.proofs.LeavesLemmas.{write_fails}
+use Rattle.h1_app.proofs.HeaderTaken.{out_where_none}
+use Rattle.h1_app.proofs.ReplyLemmas.{ready_is}
+use Rattle.h1_app.proofs.ReplySteps.{header_unchanged, taken_header_stepped}
+use Rattle.h1_app.proofs.StepLemmas.{unchanged_stepped}
 use Rattle.h1_app.proofs.steps.replying.take_header.Goals as goal
 
-pub returns-in-Err-clause-went : goal.returns-in-Err-clause-went
-returns-in-Err-clause-went g c =
-    went_none g.L.Link.state c.args.session.now c.args.session.now refl refl refl
+pub returns-in-Err-clause-stepped : goal.returns-in-Err-clause-stepped
+returns-in-Err-clause-stepped g c = λ shutdown.
+    unchanged_stepped g.L.Link.state _ _ _ c.args.now shutdown _ _ c.in-Some.entry _
+    c.requires.ready c.in-Some.is refl refl (search rules)
 
-pub returns-in-Pending-clause-went : goal.returns-in-Pending-clause-went
-returns-in-Pending-clause-went g c =
-    let h = at_take_header (g.SV.ServeHttp.runs c.args.server.now.app) c.args.session.now
-    c.args.last.now c.args.stage.now c.in-Some.entry c.requires.at c.in-Some.is
-    c.requires.sound in
-    let b = at_some (λ reply. (c.in-Ok.headers.0 ≡ reply.header) ×
-    (c.in-Ok.headers.1 ≡ Some reply.header)) c.in-Some.entry.reply h.reply h.replied.is
-    c.in-Ok.ensures.ok in
-    let t = taking_header g.L.Link.state c.args.session.now c.poll_write_response_header-answer.new.self
-    c.in-Some.entry c.in-Ok.headers.1 c.poll_write_response_header-answer.new.header c.args.now
-    c.poll_write_response_header-answer.result h b.1 c.poll_write_response_header-answer.ensures.writes in
-    let none = out_where_pending g.L.Link.state c.args.session.now
-    c.poll_write_response_header-answer.new.self h.request (Some h.reply.header)
-    c.poll_write_response_header-answer.new.header c.args.now c.poll_write_response_header-answer.result t
-    c.in-Pending.is in
-    let w = writes_header g.L.Link.state c.args.session.now c.poll_write_response_header-answer.new.self
-    h.request (Some h.reply.header) c.poll_write_response_header-answer.new.header c.args.now
-    c.poll_write_response_header-answer.result t none in
-    went_wrote g.L.Link.state c.args.session.now c.poll_write_response_header-answer.new.self w.taking
-    w.left c.requires.budget w.writes
+pub returns-in-Pending-clause-stepped : goal.returns-in-Pending-clause-stepped
+returns-in-Pending-clause-stepped g c = λ shutdown.
+    let call = c.poll_write_response_header-answer in
+    let note = c.note_header in
+    taken_header_stepped g.L.Link.state _ _ _ c.args.now shutdown _ _ c.in-Some.entry
+    c.in-Ok.headers.0 c.in-Ok.headers.1 call.new.header call.result
+    note.new.entry.date_text c.reply_keeps-keep.result c.written_bytes-written.result _
+    c.requires.ready c.requires.at c.in-Some.is (ap Some note.ensures.rest)
+    note.ensures.date c.in-Ok.ensures.ok call.ensures.writes c.reply_keeps-keep.ensures
+    c.written_bytes-written.ensures
+    (rw c.in-Pending.is tt) (rw c.in-Pending.is (refl, refl))
 
-pub returns-in-Pending-clause-since : goal.returns-in-Pending-clause-since
-returns-in-Pending-clause-since g c =
-    let h = at_take_header (g.SV.ServeHttp.runs c.args.server.now.app) c.args.session.now
-    c.args.last.now c.args.stage.now c.in-Some.entry c.requires.at c.in-Some.is
-    c.requires.sound in
-    let b = at_some (λ reply. (c.in-Ok.headers.0 ≡ reply.header) ×
-    (c.in-Ok.headers.1 ≡ Some reply.header)) c.in-Some.entry.reply h.reply h.replied.is
-    c.in-Ok.ensures.ok in
-    let t = taking_header g.L.Link.state c.args.session.now c.poll_write_response_header-answer.new.self
-    c.in-Some.entry c.in-Ok.headers.1 c.poll_write_response_header-answer.new.header c.args.now
-    c.poll_write_response_header-answer.result h b.1 c.poll_write_response_header-answer.ensures.writes in
-    let none = out_where_pending g.L.Link.state c.args.session.now
-    c.poll_write_response_header-answer.new.self h.request (Some h.reply.header)
-    c.poll_write_response_header-answer.new.header c.args.now c.poll_write_response_header-answer.result t
-    c.in-Pending.is in
-    let w = writes_header g.L.Link.state c.args.session.now c.poll_write_response_header-answer.new.self
-    h.request (Some h.reply.header) c.poll_write_response_header-answer.new.header c.args.now
-    c.poll_write_response_header-answer.result t none in
-    λ before done s. rw c.note_header.ensures.rest
-    (headed_since g.L.Link.state before done c.args.session.now c.poll_write_response_header-answer.new.self
-    c.in-Some.entry c.args.now c.poll_write_response_header-answer.result c.in-Ok.headers.0
-    c.note_header.new.entry.date_text c.reply_keeps-keep.result c.written_bytes-written.result h w b.0
-    c.note_header.ensures.date c.reply_keeps-keep.ensures (rw c.in-Some.is at s))
-
-pub returns-in-Pending-clause-allowed : goal.returns-in-Pending-clause-allowed
-returns-in-Pending-clause-allowed g c =
-    let h = at_take_header (g.SV.ServeHttp.runs c.args.server.now.app) c.args.session.now
-    c.args.last.now c.args.stage.now c.in-Some.entry c.requires.at c.in-Some.is
-    c.requires.sound in
-    let b = at_some (λ reply. (c.in-Ok.headers.0 ≡ reply.header) ×
-    (c.in-Ok.headers.1 ≡ Some reply.header)) c.in-Some.entry.reply h.reply h.replied.is
-    c.in-Ok.ensures.ok in
-    let t = taking_header g.L.Link.state c.args.session.now c.poll_write_response_header-answer.new.self
-    c.in-Some.entry c.in-Ok.headers.1 c.poll_write_response_header-answer.new.header c.args.now
-    c.poll_write_response_header-answer.result h b.1 c.poll_write_response_header-answer.ensures.writes in
-    let none = out_where_pending g.L.Link.state c.args.session.now
-    c.poll_write_response_header-answer.new.self h.request (Some h.reply.header)
-    c.poll_write_response_header-answer.new.header c.args.now c.poll_write_response_header-answer.result t
-    c.in-Pending.is in
-    let w = writes_header g.L.Link.state c.args.session.now c.poll_write_response_header-answer.new.self
-    h.request (Some h.reply.header) c.poll_write_response_header-answer.new.header c.args.now
-    c.poll_write_response_header-answer.result t none in
-    let a = at_some (IsAllowed (g.SV.ServeHttp.gives c.args.server.now.app)) c.args.last.now
-    c.in-Some.entry c.in-Some.is c.requires.allowed in
-    rw c.note_header.ensures.rest (headed_allowed (g.SV.ServeHttp.gives c.args.server.now.app)
-    g.L.Link.state c.args.session.now c.poll_write_response_header-answer.new.self c.in-Some.entry
-    c.args.now c.poll_write_response_header-answer.result c.in-Ok.headers.0
-    c.note_header.new.entry.date_text c.reply_keeps-keep.result c.written_bytes-written.result h w b.0
-    c.note_header.ensures.date c.requires.moment c.reply_keeps-keep.ensures c.requires.lawful a)
-
-pub returns-in-Pending-clause-extends : goal.returns-in-Pending-clause-extends
-returns-in-Pending-clause-extends g c = λ shutdown.
-    let h = at_take_header (g.SV.ServeHttp.runs c.args.server.now.app) c.args.session.now
-    c.args.last.now c.args.stage.now c.in-Some.entry c.requires.at c.in-Some.is
-    c.requires.sound in
-    let b = at_some (λ reply. (c.in-Ok.headers.0 ≡ reply.header) ×
-    (c.in-Ok.headers.1 ≡ Some reply.header)) c.in-Some.entry.reply h.reply h.replied.is
-    c.in-Ok.ensures.ok in
-    let t = taking_header g.L.Link.state c.args.session.now c.poll_write_response_header-answer.new.self
-    c.in-Some.entry c.in-Ok.headers.1 c.poll_write_response_header-answer.new.header c.args.now
-    c.poll_write_response_header-answer.result h b.1 c.poll_write_response_header-answer.ensures.writes in
-    let none = out_where_pending g.L.Link.state c.args.session.now
-    c.poll_write_response_header-answer.new.self h.request (Some h.reply.header)
-    c.poll_write_response_header-answer.new.header c.args.now c.poll_write_response_header-answer.result t
-    c.in-Pending.is in
-    let w = writes_header g.L.Link.state c.args.session.now c.poll_write_response_header-answer.new.self
-    h.request (Some h.reply.header) c.poll_write_response_header-answer.new.header c.args.now
-    c.poll_write_response_header-answer.result t none in
-    rw (c.in-Some.is, c.note_header.ensures.rest)
-    (headed_grows g.L.Link.state c.args.session.now c.poll_write_response_header-answer.new.self
-    c.in-Some.entry c.args.now c.poll_write_response_header-answer.result c.in-Ok.headers.0
-    (c.args.now / 1000) c.note_header.new.entry.date_text c.reply_keeps-keep.result
-    c.written_bytes-written.result h w c.written_bytes-written.ensures refl)
-
-pub returns-in-Pending-clause-outcome : goal.returns-in-Pending-clause-outcome
-returns-in-Pending-clause-outcome g c =
-    let h = at_take_header (g.SV.ServeHttp.runs c.args.server.now.app) c.args.session.now
-    c.args.last.now c.args.stage.now c.in-Some.entry c.requires.at c.in-Some.is
-    c.requires.sound in
-    let b = at_some (λ reply. (c.in-Ok.headers.0 ≡ reply.header) ×
-    (c.in-Ok.headers.1 ≡ Some reply.header)) c.in-Some.entry.reply h.reply h.replied.is
-    c.in-Ok.ensures.ok in
-    let t = taking_header g.L.Link.state c.args.session.now c.poll_write_response_header-answer.new.self
-    c.in-Some.entry c.in-Ok.headers.1 c.poll_write_response_header-answer.new.header c.args.now
-    c.poll_write_response_header-answer.result h b.1 c.poll_write_response_header-answer.ensures.writes in
-    let none = out_where_pending g.L.Link.state c.args.session.now
-    c.poll_write_response_header-answer.new.self h.request (Some h.reply.header)
-    c.poll_write_response_header-answer.new.header c.args.now c.poll_write_response_header-answer.result t
-    c.in-Pending.is in
-    let w = writes_header g.L.Link.state c.args.session.now c.poll_write_response_header-answer.new.self
-    h.request (Some h.reply.header) c.poll_write_response_header-answer.new.header c.args.now
-    c.poll_write_response_header-answer.result t none in
-    rw c.note_header.ensures.rest (headed_waits (g.SV.ServeHttp.runs c.args.server.now.app)
-    g.L.Link.state c.args.session.now c.poll_write_response_header-answer.new.self c.in-Some.entry
-    c.args.now c.poll_write_response_header-answer.result c.in-Ok.headers.0 (c.args.now / 1000)
-    c.note_header.new.entry.date_text c.reply_keeps-keep.result c.written_bytes-written.result h w b.0
-    c.reply_keeps-keep.ensures c.written_bytes-written.ensures c.in-Pending.is c.requires.budget)
-
-pub returns-in-Ready-Ok-clause-went : goal.returns-in-Ready-Ok-clause-went
-returns-in-Ready-Ok-clause-went g c =
-    let h = at_take_header (g.SV.ServeHttp.runs c.args.server.now.app) c.args.session.now
-    c.args.last.now c.args.stage.now c.in-Some.entry c.requires.at c.in-Some.is
-    c.requires.sound in
-    let b = at_some (λ reply. (c.in-Ok.headers.0 ≡ reply.header) ×
-    (c.in-Ok.headers.1 ≡ Some reply.header)) c.in-Some.entry.reply h.reply h.replied.is
-    c.in-Ok.ensures.ok in
-    let t = taking_header g.L.Link.state c.args.session.now c.poll_write_response_header-answer.new.self
-    c.in-Some.entry c.in-Ok.headers.1 c.poll_write_response_header-answer.new.header c.args.now
-    c.poll_write_response_header-answer.result h b.1 c.poll_write_response_header-answer.ensures.writes in
-    let ready = ready_is _ c.in-Ready-Ok.field-0 (Ok c.in-Ready-Ok.field-0-0) c.in-Ready-Ok.is
+pub returns-in-Ready-Ok-clause-stepped : goal.returns-in-Ready-Ok-clause-stepped
+returns-in-Ready-Ok-clause-stepped g c = λ shutdown.
+    let told = ready_is _ c.in-Ready-Ok.field-0 (Ok c.in-Ready-Ok.field-0-0) c.in-Ready-Ok.is
     (rw c.in-Ready-Ok.is at c.in-Ready-Ok.field-0-is) in
-    let none = out_where_done g.L.Link.state c.args.session.now
-    c.poll_write_response_header-answer.new.self h.request (Some h.reply.header)
-    c.poll_write_response_header-answer.new.header c.args.now c.poll_write_response_header-answer.result
-    c.in-Ready-Ok.field-0-0 t ready in
-    let w = writes_header g.L.Link.state c.args.session.now c.poll_write_response_header-answer.new.self
-    h.request (Some h.reply.header) c.poll_write_response_header-answer.new.header c.args.now
-    c.poll_write_response_header-answer.result t none in
-    went_wrote g.L.Link.state c.args.session.now c.poll_write_response_header-answer.new.self w.taking
-    w.left c.requires.budget w.writes
+    let call = c.poll_write_response_header-answer in
+    let note = c.note_header-in-Ready-Ok in
+    taken_header_stepped g.L.Link.state _ _ _ c.args.now shutdown _ _ c.in-Some.entry
+    c.in-Ok.headers.0 c.in-Ok.headers.1 call.new.header call.result
+    note.new.entry.date_text c.reply_keeps-keep.result c.written_bytes-written.result _
+    c.requires.ready c.requires.at c.in-Some.is (ap Some note.ensures.rest)
+    note.ensures.date c.in-Ok.ensures.ok call.ensures.writes c.reply_keeps-keep.ensures
+    c.written_bytes-written.ensures
+    (rw told tt) (rw told (refl, refl))
 
-pub returns-in-Ready-Ok-clause-since : goal.returns-in-Ready-Ok-clause-since
-returns-in-Ready-Ok-clause-since g c =
-    let h = at_take_header (g.SV.ServeHttp.runs c.args.server.now.app) c.args.session.now
-    c.args.last.now c.args.stage.now c.in-Some.entry c.requires.at c.in-Some.is
-    c.requires.sound in
-    let b = at_some (λ reply. (c.in-Ok.headers.0 ≡ reply.header) ×
-    (c.in-Ok.headers.1 ≡ Some reply.header)) c.in-Some.entry.reply h.reply h.replied.is
-    c.in-Ok.ensures.ok in
-    let t = taking_header g.L.Link.state c.args.session.now c.poll_write_response_header-answer.new.self
-    c.in-Some.entry c.in-Ok.headers.1 c.poll_write_response_header-answer.new.header c.args.now
-    c.poll_write_response_header-answer.result h b.1 c.poll_write_response_header-answer.ensures.writes in
-    let ready = ready_is _ c.in-Ready-Ok.field-0 (Ok c.in-Ready-Ok.field-0-0) c.in-Ready-Ok.is
-    (rw c.in-Ready-Ok.is at c.in-Ready-Ok.field-0-is) in
-    let none = out_where_done g.L.Link.state c.args.session.now
-    c.poll_write_response_header-answer.new.self h.request (Some h.reply.header)
-    c.poll_write_response_header-answer.new.header c.args.now c.poll_write_response_header-answer.result
-    c.in-Ready-Ok.field-0-0 t ready in
-    let w = writes_header g.L.Link.state c.args.session.now c.poll_write_response_header-answer.new.self
-    h.request (Some h.reply.header) c.poll_write_response_header-answer.new.header c.args.now
-    c.poll_write_response_header-answer.result t none in
-    λ before done s. rw c.note_header-in-Ready-Ok.ensures.rest
-    (headed_since g.L.Link.state before done c.args.session.now c.poll_write_response_header-answer.new.self
-    c.in-Some.entry c.args.now c.poll_write_response_header-answer.result c.in-Ok.headers.0
-    c.note_header-in-Ready-Ok.new.entry.date_text c.reply_keeps-keep.result
-    c.written_bytes-written.result h w b.0 c.note_header-in-Ready-Ok.ensures.date
-    c.reply_keeps-keep.ensures (rw c.in-Some.is at s))
+pub returns-then-is_none-clause-stepped : goal.returns-then-is_none-clause-stepped
+returns-then-is_none-clause-stepped g c = λ shutdown.
+    let told = ready_is _ c.in-Ready-Err.field-0 (Err c.in-Ready-Err.error) c.in-Ready-Err.is
+    (rw c.in-Ready-Err.is at c.in-Ready-Err.field-0-is) in
+    let call = c.poll_write_response_header-answer in
+    let note = c.note_header-then-is_none in
+    taken_header_stepped g.L.Link.state _ _ _ c.args.now shutdown _ _ c.in-Some.entry
+    c.in-Ok.headers.0 c.in-Ok.headers.1 call.new.header call.result
+    note.new.entry.date_text c.reply_keeps-keep.result c.written_bytes-written.result _
+    c.requires.ready c.requires.at c.in-Some.is (ap Some note.ensures.rest)
+    note.ensures.date c.in-Ok.ensures.ok call.ensures.writes c.reply_keeps-keep.ensures
+    c.written_bytes-written.ensures
+    (rw told (out_where_none call.new.header c.is_none.result c.is_none.ensures c.if-is_none.true))
+    (rw told refl)
 
-pub returns-in-Ready-Ok-clause-allowed : goal.returns-in-Ready-Ok-clause-allowed
-returns-in-Ready-Ok-clause-allowed g c =
-    let h = at_take_header (g.SV.ServeHttp.runs c.args.server.now.app) c.args.session.now
-    c.args.last.now c.args.stage.now c.in-Some.entry c.requires.at c.in-Some.is
-    c.requires.sound in
-    let b = at_some (λ reply. (c.in-Ok.headers.0 ≡ reply.header) ×
-    (c.in-Ok.headers.1 ≡ Some reply.header)) c.in-Some.entry.reply h.reply h.replied.is
-    c.in-Ok.ensures.ok in
-    let t = taking_header g.L.Link.state c.args.session.now c.poll_write_response_header-answer.new.self
-    c.in-Some.entry c.in-Ok.headers.1 c.poll_write_response_header-answer.new.header c.args.now
-    c.poll_write_response_header-answer.result h b.1 c.poll_write_response_header-answer.ensures.writes in
-    let ready = ready_is _ c.in-Ready-Ok.field-0 (Ok c.in-Ready-Ok.field-0-0) c.in-Ready-Ok.is
-    (rw c.in-Ready-Ok.is at c.in-Ready-Ok.field-0-is) in
-    let none = out_where_done g.L.Link.state c.args.session.now
-    c.poll_write_response_header-answer.new.self h.request (Some h.reply.header)
-    c.poll_write_response_header-answer.new.header c.args.now c.poll_write_response_header-answer.result
-    c.in-Ready-Ok.field-0-0 t ready in
-    let w = writes_header g.L.Link.state c.args.session.now c.poll_write_response_header-answer.new.self
-    h.request (Some h.reply.header) c.poll_write_response_header-answer.new.header c.args.now
-    c.poll_write_response_header-answer.result t none in
-    let a = at_some (IsAllowed (g.SV.ServeHttp.gives c.args.server.now.app)) c.args.last.now
-    c.in-Some.entry c.in-Some.is c.requires.allowed in
-    rw c.note_header-in-Ready-Ok.ensures.rest
-    (headed_allowed (g.SV.ServeHttp.gives c.args.server.now.app) g.L.Link.state
-    c.args.session.now c.poll_write_response_header-answer.new.self c.in-Some.entry c.args.now
-    c.poll_write_response_header-answer.result c.in-Ok.headers.0
-    c.note_header-in-Ready-Ok.new.entry.date_text c.reply_keeps-keep.result
-    c.written_bytes-written.result h w b.0 c.note_header-in-Ready-Ok.ensures.date
-    c.requires.moment c.reply_keeps-keep.ensures c.requires.lawful a)
+pub returns-else-is_none-clause-stepped : goal.returns-else-is_none-clause-stepped
+returns-else-is_none-clause-stepped g c = λ shutdown.
+    let call = c.poll_write_response_header-answer in
+    let same = header_unchanged g.L.Link.state (g.SV.ServeHttp.runs c.args.server.now.app)
+    c.args.exchange.now.session call.new.self c.args.exchange.now.transcript.last
+    c.args.exchange.now.stage c.in-Some.entry c.in-Ok.headers.0 c.in-Ok.headers.1 call.new.header
+    c.args.now call.result c.is_none.result c.requires.ready.sound c.requires.at
+    c.in-Some.is c.in-Ok.ensures.ok call.ensures.writes c.is_none.ensures c.if-is_none.false in
+    unchanged_stepped g.L.Link.state _ _ _ c.args.now shutdown _ _ c.in-Some.entry _
+    c.requires.ready c.in-Some.is refl same (search rules)
 
-pub returns-in-Ready-Ok-clause-extends : goal.returns-in-Ready-Ok-clause-extends
-returns-in-Ready-Ok-clause-extends g c = λ shutdown.
-    let h = at_take_header (g.SV.ServeHttp.runs c.args.server.now.app) c.args.session.now
-    c.args.last.now c.args.stage.now c.in-Some.entry c.requires.at c.in-Some.is
-    c.requires.sound in
-    let b = at_some (λ reply. (c.in-Ok.headers.0 ≡ reply.header) ×
-    (c.in-Ok.headers.1 ≡ Some reply.header)) c.in-Some.entry.reply h.reply h.replied.is
-    c.in-Ok.ensures.ok in
-    let t = taking_header g.L.Link.state c.args.session.now c.poll_write_response_header-answer.new.self
-    c.in-Some.entry c.in-Ok.headers.1 c.poll_write_response_header-answer.new.header c.args.now
-    c.poll_write_response_header-answer.result h b.1 c.poll_write_response_header-answer.ensures.writes in
-    let ready = ready_is _ c.in-Ready-Ok.field-0 (Ok c.in-Ready-Ok.field-0-0) c.in-Ready-Ok.is
-    (rw c.in-Ready-Ok.is at c.in-Ready-Ok.field-0-is) in
-    let none = out_where_done g.L.Link.state c.args.session.now
-    c.poll_write_response_header-answer.new.self h.request (Some h.reply.header)
-    c.poll_write_response_header-answer.new.header c.args.now c.poll_write_response_header-answer.result
-    c.in-Ready-Ok.field-0-0 t ready in
-    let w = writes_header g.L.Link.state c.args.session.now c.poll_write_response_header-answer.new.self
-    h.request (Some h.reply.header) c.poll_write_response_header-answer.new.header c.args.now
-    c.poll_write_response_header-answer.result t none in
-    rw (c.in-Some.is, c.note_header-in-Ready-Ok.ensures.rest)
-    (headed_grows g.L.Link.state c.args.session.now c.poll_write_response_header-answer.new.self
-    c.in-Some.entry c.args.now c.poll_write_response_header-answer.result c.in-Ok.headers.0
-    (c.args.now / 1000) c.note_header-in-Ready-Ok.new.entry.date_text
-    c.reply_keeps-keep.result c.written_bytes-written.result h w
-    c.written_bytes-written.ensures refl)
-
-pub returns-in-Ready-Ok-clause-outcome : goal.returns-in-Ready-Ok-clause-outcome
-returns-in-Ready-Ok-clause-outcome g c =
-    let h = at_take_header (g.SV.ServeHttp.runs c.args.server.now.app) c.args.session.now
-    c.args.last.now c.args.stage.now c.in-Some.entry c.requires.at c.in-Some.is
-    c.requires.sound in
-    let b = at_some (λ reply. (c.in-Ok.headers.0 ≡ reply.header) ×
-    (c.in-Ok.headers.1 ≡ Some reply.header)) c.in-Some.entry.reply h.reply h.replied.is
-    c.in-Ok.ensures.ok in
-    let t = taking_header g.L.Link.state c.args.session.now c.poll_write_response_header-answer.new.self
-    c.in-Some.entry c.in-Ok.headers.1 c.poll_write_response_header-answer.new.header c.args.now
-    c.poll_write_response_header-answer.result h b.1 c.poll_write_response_header-answer.ensures.writes in
-    let ready = ready_is _ c.in-Ready-Ok.field-0 (Ok c.in-Ready-Ok.field-0-0) c.in-Ready-Ok.is
-    (rw c.in-Ready-Ok.is at c.in-Ready-Ok.field-0-is) in
-    let none = out_where_done g.L.Link.state c.args.session.now
-    c.poll_write_response_header-answer.new.self h.request (Some h.reply.header)
-    c.poll_write_response_header-answer.new.header c.args.now c.poll_write_response_header-answer.result
-    c.in-Ready-Ok.field-0-0 t ready in
-    let w = writes_header g.L.Link.state c.args.session.now c.poll_write_response_header-answer.new.self
-    h.request (Some h.reply.header) c.poll_write_response_header-answer.new.header c.args.now
-    c.poll_write_response_header-answer.result t none in
-    rw c.note_header-in-Ready-Ok.ensures.rest (
-      headed_done (g.SV.ServeHttp.runs c.args.server.now.app) g.L.Link.state c.args.session.now
-          c.poll_write_response_header-answer.new.self c.in-Some.entry c.args.now
-          c.poll_write_response_header-answer.result c.in-Ready-Ok.field-0-0 c.in-Ok.headers.0
-          (c.args.now / 1000) c.note_header-in-Ready-Ok.new.entry.date_text
-          c.reply_keeps-keep.result c.written_bytes-written.result h w b.0
-          c.reply_keeps-keep.ensures c.written_bytes-written.ensures ready,
-      rw c.requires.at (omega arith),
-      headed_ahead g.L.Link.state c.args.session.now c.poll_write_response_header-answer.new.self c.in-Some.entry
-          c.args.now c.poll_write_response_header-answer.result c.in-Ready-Ok.field-0-0 c.args.stage.now h w ready
-          c.requires.budget c.requires.at,
-    )
-
-pub returns-then-is_none-clause-went : goal.returns-then-is_none-clause-went
-returns-then-is_none-clause-went g c =
-    let h = at_take_header (g.SV.ServeHttp.runs c.args.server.now.app) c.args.session.now
-    c.args.last.now c.args.stage.now c.in-Some.entry c.requires.at c.in-Some.is
-    c.requires.sound in
-    let b = at_some (λ reply. (c.in-Ok.headers.0 ≡ reply.header) ×
-    (c.in-Ok.headers.1 ≡ Some reply.header)) c.in-Some.entry.reply h.reply h.replied.is
-    c.in-Ok.ensures.ok in
-    let t = taking_header g.L.Link.state c.args.session.now c.poll_write_response_header-answer.new.self
-    c.in-Some.entry c.in-Ok.headers.1 c.poll_write_response_header-answer.new.header c.args.now
-    c.poll_write_response_header-answer.result h b.1 c.poll_write_response_header-answer.ensures.writes in
-    let none = out_where_none c.poll_write_response_header-answer.new.header c.is_none.result
-    c.is_none.ensures c.if-is_none.true in
-    let w = writes_header g.L.Link.state c.args.session.now c.poll_write_response_header-answer.new.self
-    h.request (Some h.reply.header) c.poll_write_response_header-answer.new.header c.args.now
-    c.poll_write_response_header-answer.result t none in
-    went_wrote g.L.Link.state c.args.session.now c.poll_write_response_header-answer.new.self w.taking
-    w.left c.requires.budget w.writes
-
-pub returns-then-is_none-clause-since : goal.returns-then-is_none-clause-since
-returns-then-is_none-clause-since g c =
-    let h = at_take_header (g.SV.ServeHttp.runs c.args.server.now.app) c.args.session.now
-    c.args.last.now c.args.stage.now c.in-Some.entry c.requires.at c.in-Some.is
-    c.requires.sound in
-    let b = at_some (λ reply. (c.in-Ok.headers.0 ≡ reply.header) ×
-    (c.in-Ok.headers.1 ≡ Some reply.header)) c.in-Some.entry.reply h.reply h.replied.is
-    c.in-Ok.ensures.ok in
-    let t = taking_header g.L.Link.state c.args.session.now c.poll_write_response_header-answer.new.self
-    c.in-Some.entry c.in-Ok.headers.1 c.poll_write_response_header-answer.new.header c.args.now
-    c.poll_write_response_header-answer.result h b.1 c.poll_write_response_header-answer.ensures.writes in
-    let none = out_where_none c.poll_write_response_header-answer.new.header c.is_none.result
-    c.is_none.ensures c.if-is_none.true in
-    let w = writes_header g.L.Link.state c.args.session.now c.poll_write_response_header-answer.new.self
-    h.request (Some h.reply.header) c.poll_write_response_header-answer.new.header c.args.now
-    c.poll_write_response_header-answer.result t none in
-    λ before done s. rw c.note_header-then-is_none.ensures.rest
-    (headed_since g.L.Link.state before done c.args.session.now c.poll_write_response_header-answer.new.self
-    c.in-Some.entry c.args.now c.poll_write_response_header-answer.result c.in-Ok.headers.0
-    c.note_header-then-is_none.new.entry.date_text c.reply_keeps-keep.result
-    c.written_bytes-written.result h w b.0 c.note_header-then-is_none.ensures.date
-    c.reply_keeps-keep.ensures (rw c.in-Some.is at s))
-
-pub returns-then-is_none-clause-allowed : goal.returns-then-is_none-clause-allowed
-returns-then-is_none-clause-allowed g c =
-    let h = at_take_header (g.SV.ServeHttp.runs c.args.server.now.app) c.args.session.now
-    c.args.last.now c.args.stage.now c.in-Some.entry c.requires.at c.in-Some.is
-    c.requires.sound in
-    let b = at_some (λ reply. (c.in-Ok.headers.0 ≡ reply.header) ×
-    (c.in-Ok.headers.1 ≡ Some reply.header)) c.in-Some.entry.reply h.reply h.replied.is
-    c.in-Ok.ensures.ok in
-    let t = taking_header g.L.Link.state c.args.session.now c.poll_write_response_header-answer.new.self
-    c.in-Some.entry c.in-Ok.headers.1 c.poll_write_response_header-answer.new.header c.args.now
-    c.poll_write_response_header-answer.result h b.1 c.poll_write_response_header-answer.ensures.writes in
-    let none = out_where_none c.poll_write_response_header-answer.new.header c.is_none.result
-    c.is_none.ensures c.if-is_none.true in
-    let w = writes_header g.L.Link.state c.args.session.now c.poll_write_response_header-answer.new.self
-    h.request (Some h.reply.header) c.poll_write_response_header-answer.new.header c.args.now
-    c.poll_write_response_header-answer.result t none in
-    let a = at_some (IsAllowed (g.SV.ServeHttp.gives c.args.server.now.app)) c.args.last.now
-    c.in-Some.entry c.in-Some.is c.requires.allowed in
-    rw c.note_header-then-is_none.ensures.rest
-    (headed_allowed (g.SV.ServeHttp.gives c.args.server.now.app) g.L.Link.state
-    c.args.session.now c.poll_write_response_header-answer.new.self c.in-Some.entry c.args.now
-    c.poll_write_response_header-answer.result c.in-Ok.headers.0
-    c.note_header-then-is_none.new.entry.date_text c.reply_keeps-keep.result
-    c.written_bytes-written.result h w b.0 c.note_header-then-is_none.ensures.date
-    c.requires.moment c.reply_keeps-keep.ensures c.requires.lawful a)
-
-pub returns-then-is_none-clause-extends : goal.returns-then-is_none-clause-extends
-returns-then-is_none-clause-extends g c = λ shutdown.
-    let h = at_take_header (g.SV.ServeHttp.runs c.args.server.now.app) c.args.session.now
-    c.args.last.now c.args.stage.now c.in-Some.entry c.requires.at c.in-Some.is
-    c.requires.sound in
-    let b = at_some (λ reply. (c.in-Ok.headers.0 ≡ reply.header) ×
-    (c.in-Ok.headers.1 ≡ Some reply.header)) c.in-Some.entry.reply h.reply h.replied.is
-    c.in-Ok.ensures.ok in
-    let t = taking_header g.L.Link.state c.args.session.now c.poll_write_response_header-answer.new.self
-    c.in-Some.entry c.in-Ok.headers.1 c.poll_write_response_header-answer.new.header c.args.now
-    c.poll_write_response_header-answer.result h b.1 c.poll_write_response_header-answer.ensures.writes in
-    let none = out_where_none c.poll_write_response_header-answer.new.header c.is_none.result
-    c.is_none.ensures c.if-is_none.true in
-    let w = writes_header g.L.Link.state c.args.session.now c.poll_write_response_header-answer.new.self
-    h.request (Some h.reply.header) c.poll_write_response_header-answer.new.header c.args.now
-    c.poll_write_response_header-answer.result t none in
-    rw (c.in-Some.is, c.note_header-then-is_none.ensures.rest)
-    (headed_grows g.L.Link.state c.args.session.now c.poll_write_response_header-answer.new.self
-    c.in-Some.entry c.args.now c.poll_write_response_header-answer.result c.in-Ok.headers.0
-    (c.args.now / 1000) c.note_header-then-is_none.new.entry.date_text
-    c.reply_keeps-keep.result c.written_bytes-written.result h w
-    c.written_bytes-written.ensures refl)
-
-pub returns-then-is_none-clause-outcome : goal.returns-then-is_none-clause-outcome
-returns-then-is_none-clause-outcome g c =
-    let h = at_take_header (g.SV.ServeHttp.runs c.args.server.now.app) c.args.session.now
-    c.args.last.now c.args.stage.now c.in-Some.entry c.requires.at c.in-Some.is
-    c.requires.sound in
-    let b = at_some (λ reply. (c.in-Ok.headers.0 ≡ reply.header) ×
-    (c.in-Ok.headers.1 ≡ Some reply.header)) c.in-Some.entry.reply h.reply h.replied.is
-    c.in-Ok.ensures.ok in
-    let t = taking_header g.L.Link.state c.args.session.now c.poll_write_response_header-answer.new.self
-    c.in-Some.entry c.in-Ok.headers.1 c.poll_write_response_header-answer.new.header c.args.now
-    c.poll_write_response_header-answer.result h b.1 c.poll_write_response_header-answer.ensures.writes in
-    let none = out_where_none c.poll_write_response_header-answer.new.header c.is_none.result
-    c.is_none.ensures c.if-is_none.true in
-    let w = writes_header g.L.Link.state c.args.session.now c.poll_write_response_header-answer.new.self
-    h.request (Some h.reply.header) c.poll_write_response_header-answer.new.header c.args.now
-    c.poll_write_response_header-answer.result t none in
-    λ before done s. headed_fails g.L.Link.state before done c.args.session.now
-    c.poll_write_response_header-answer.new.self _ h.request (Some h.reply.header) c.args.now
-    c.poll_write_response_header-answer.result c.in-Ready-Err.error w
-    (ready_is _ c.in-Ready-Err.field-0 (Err c.in-Ready-Err.error) c.in-Ready-Err.is
-    (rw c.in-Ready-Err.is at c.in-Ready-Err.field-0-is))
-
-pub returns-else-is_none-clause-went : goal.returns-else-is_none-clause-went
-returns-else-is_none-clause-went g c =
-    let h = at_take_header (g.SV.ServeHttp.runs c.args.server.now.app) c.args.session.now
-    c.args.last.now c.args.stage.now c.in-Some.entry c.requires.at c.in-Some.is
-    c.requires.sound in
-    let b = at_some (λ reply. (c.in-Ok.headers.0 ≡ reply.header) ×
-    (c.in-Ok.headers.1 ≡ Some reply.header)) c.in-Some.entry.reply h.reply h.replied.is
-    c.in-Ok.ensures.ok in
-    let t = taking_header g.L.Link.state c.args.session.now c.poll_write_response_header-answer.new.self
-    c.in-Some.entry c.in-Ok.headers.1 c.poll_write_response_header-answer.new.header c.args.now
-    c.poll_write_response_header-answer.result h b.1 c.poll_write_response_header-answer.ensures.writes in
-    let same = same_where_kept g.L.Link.state c.args.session.now
-    c.poll_write_response_header-answer.new.self h.request (Some h.reply.header)
-    c.poll_write_response_header-answer.new.header c.args.now c.poll_write_response_header-answer.result
-    c.is_none.result t c.is_none.ensures c.if-is_none.false in
-    rw same (went_none g.L.Link.state c.args.session.now c.args.session.now refl refl refl)
-
-pub returns-else-is_none-clause-extends : goal.returns-else-is_none-clause-extends
-returns-else-is_none-clause-extends g c = λ shutdown.
-    rw c.in-Some.is (grows_same c.args.now _ _ c.in-Some.entry)
-
-pub returns-in-Err-clause-few : goal.returns-in-Err-clause-few
-returns-in-Err-clause-few g c =
-    refl
-
-pub returns-in-Pending-clause-few : goal.returns-in-Pending-clause-few
-returns-in-Pending-clause-few g c =
-    let h = at_take_header (g.SV.ServeHttp.runs c.args.server.now.app) c.args.session.now
-    c.args.last.now c.args.stage.now c.in-Some.entry c.requires.at c.in-Some.is
-    c.requires.sound in
-    let b = at_some (λ reply. (c.in-Ok.headers.0 ≡ reply.header) ×
-    (c.in-Ok.headers.1 ≡ Some reply.header)) c.in-Some.entry.reply h.reply h.replied.is
-    c.in-Ok.ensures.ok in
-    let t = taking_header g.L.Link.state c.args.session.now c.poll_write_response_header-answer.new.self
-    c.in-Some.entry c.in-Ok.headers.1 c.poll_write_response_header-answer.new.header c.args.now
-    c.poll_write_response_header-answer.result h b.1 c.poll_write_response_header-answer.ensures.writes in
-    let none = out_where_pending g.L.Link.state c.args.session.now
-    c.poll_write_response_header-answer.new.self h.request (Some h.reply.header)
-    c.poll_write_response_header-answer.new.header c.args.now c.poll_write_response_header-answer.result t
-    c.in-Pending.is in
-    let w = writes_header g.L.Link.state c.args.session.now c.poll_write_response_header-answer.new.self
-    h.request (Some h.reply.header) c.poll_write_response_header-answer.new.header c.args.now
-    c.poll_write_response_header-answer.result t none in
-    w.writes.sent.unread
-
-pub returns-in-Ready-Ok-clause-few : goal.returns-in-Ready-Ok-clause-few
-returns-in-Ready-Ok-clause-few g c =
-    let h = at_take_header (g.SV.ServeHttp.runs c.args.server.now.app) c.args.session.now
-    c.args.last.now c.args.stage.now c.in-Some.entry c.requires.at c.in-Some.is
-    c.requires.sound in
-    let b = at_some (λ reply. (c.in-Ok.headers.0 ≡ reply.header) ×
-    (c.in-Ok.headers.1 ≡ Some reply.header)) c.in-Some.entry.reply h.reply h.replied.is
-    c.in-Ok.ensures.ok in
-    let t = taking_header g.L.Link.state c.args.session.now c.poll_write_response_header-answer.new.self
-    c.in-Some.entry c.in-Ok.headers.1 c.poll_write_response_header-answer.new.header c.args.now
-    c.poll_write_response_header-answer.result h b.1 c.poll_write_response_header-answer.ensures.writes in
-    let ready = ready_is _ c.in-Ready-Ok.field-0 (Ok c.in-Ready-Ok.field-0-0) c.in-Ready-Ok.is
-    (rw c.in-Ready-Ok.is at c.in-Ready-Ok.field-0-is) in
-    let none = out_where_done g.L.Link.state c.args.session.now
-    c.poll_write_response_header-answer.new.self h.request (Some h.reply.header)
-    c.poll_write_response_header-answer.new.header c.args.now c.poll_write_response_header-answer.result
-    c.in-Ready-Ok.field-0-0 t ready in
-    let w = writes_header g.L.Link.state c.args.session.now c.poll_write_response_header-answer.new.self
-    h.request (Some h.reply.header) c.poll_write_response_header-answer.new.header c.args.now
-    c.poll_write_response_header-answer.result t none in
-    w.writes.sent.unread
-
-pub returns-then-is_none-clause-few : goal.returns-then-is_none-clause-few
-returns-then-is_none-clause-few g c =
-    let h = at_take_header (g.SV.ServeHttp.runs c.args.server.now.app) c.args.session.now
-    c.args.last.now c.args.stage.now c.in-Some.entry c.requires.at c.in-Some.is
-    c.requires.sound in
-    let b = at_some (λ reply. (c.in-Ok.headers.0 ≡ reply.header) ×
-    (c.in-Ok.headers.1 ≡ Some reply.header)) c.in-Some.entry.reply h.reply h.replied.is
-    c.in-Ok.ensures.ok in
-    let t = taking_header g.L.Link.state c.args.session.now c.poll_write_response_header-answer.new.self
-    c.in-Some.entry c.in-Ok.headers.1 c.poll_write_response_header-answer.new.header c.args.now
-    c.poll_write_response_header-answer.result h b.1 c.poll_write_response_header-answer.ensures.writes in
-    let none = out_where_none c.poll_write_response_header-answer.new.header c.is_none.result
-    c.is_none.ensures c.if-is_none.true in
-    let w = writes_header g.L.Link.state c.args.session.now c.poll_write_response_header-answer.new.self
-    h.request (Some h.reply.header) c.poll_write_response_header-answer.new.header c.args.now
-    c.poll_write_response_header-answer.result t none in
-    w.writes.sent.unread
-
-pub returns-else-is_none-clause-few : goal.returns-else-is_none-clause-few
-returns-else-is_none-clause-few g c =
-    let h = at_take_header (g.SV.ServeHttp.runs c.args.server.now.app) c.args.session.now
-    c.args.last.now c.args.stage.now c.in-Some.entry c.requires.at c.in-Some.is
-    c.requires.sound in
-    let b = at_some (λ reply. (c.in-Ok.headers.0 ≡ reply.header) ×
-    (c.in-Ok.headers.1 ≡ Some reply.header)) c.in-Some.entry.reply h.reply h.replied.is
-    c.in-Ok.ensures.ok in
-    let t = taking_header g.L.Link.state c.args.session.now c.poll_write_response_header-answer.new.self
-    c.in-Some.entry c.in-Ok.headers.1 c.poll_write_response_header-answer.new.header c.args.now
-    c.poll_write_response_header-answer.result h b.1 c.poll_write_response_header-answer.ensures.writes in
-    let same = same_where_kept g.L.Link.state c.args.session.now
-    c.poll_write_response_header-answer.new.self h.request (Some h.reply.header)
-    c.poll_write_response_header-answer.new.header c.args.now c.poll_write_response_header-answer.result
-    c.is_none.result t c.is_none.ensures c.if-is_none.false in
-    ap (λ x. (g.L.Link.state x.link).read_waits) same
+pub returns-then-is_none-clause-leaves : goal.returns-then-is_none-clause-leaves
+returns-then-is_none-clause-leaves g c =
+    let told = ready_is _ c.in-Ready-Err.field-0 (Err c.in-Ready-Err.error) c.in-Ready-Err.is
+    (rw c.in-Ready-Err.is at c.in-Ready-Err.field-0-is) in
+    write_fails _ _ _ _ c.in-Ready-Err.error (rw told at c.poll_write_response_header-answer.ensures.calls)

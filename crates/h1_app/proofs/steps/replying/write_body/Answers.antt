@@ -1,130 +1,35 @@
 -- The body goes on.
-use Rattle.std.proofs.Common.{Ok, arith}
-use Rattle.h1_app.specs.declared.exchange.Stage.TheVariants as at
-use Rattle.h1_app.proofs.ReplyLemmas.{ready_is, ahead_down, went_wrote}
-use Rattle.h1_app.proofs.BodyReplies.{at_body, body_call, piece_since, piece_grows, piece_waits, piece_done}
+use Rattle.std.proofs.Common.{Ok, Err, refl}
+use Rattle.h1_app.proofs.ReplyLemmas.{ready_is}
+use Rattle.h1_app.proofs.ReplySteps.{body_stepped}
 use Rattle.h1_app.proofs.steps.replying.write_body.Goals as goal
 
-pub returns-in-Pending-clause-since : goal.returns-in-Pending-clause-since
-returns-in-Pending-clause-since g c =
-    let h = at_body (g.SV.ServeHttp.runs c.args.server.now.app) c.args.session.now c.args.last.now
-    c.args.stage.now c.in-Some.entry c.requires.at c.in-Some.is c.requires.sound in
-    let w = body_call g.L.Link.state c.args.session.now c.poll_write_body-answer.new.self
-    c.in-Some.entry c.poll_write_body-answer.new.buf c.poll_write_body-answer.result h
-    c.poll_write_body-answer.ensures.writes in
-    λ before done s. piece_since g.L.Link.state before done c.args.session.now
-    c.poll_write_body-answer.new.self c.in-Some.entry c.poll_write_body-answer.new.buf
-    c.poll_write_body-answer.result c.written_bytes-entry.result h w (rw c.in-Some.is at s)
+pub returns-in-Pending-clause-stepped : goal.returns-in-Pending-clause-stepped
+returns-in-Pending-clause-stepped g c = λ shutdown.
+    let call = c.poll_write_body-answer in
+    body_stepped g.L.Link.state _ _ _ c.args.now shutdown _ _ c.in-Some.entry call.new.buf
+    call.result c.written_bytes-entry.result _
+    c.requires.ready c.requires.at c.in-Some.is refl call.ensures.writes
+    c.written_bytes-entry.ensures (rw c.in-Pending.is (c.requires.at, refl))
 
-pub returns-in-Pending-clause-extends : goal.returns-in-Pending-clause-extends
-returns-in-Pending-clause-extends g c = λ shutdown.
-    let h = at_body (g.SV.ServeHttp.runs c.args.server.now.app) c.args.session.now c.args.last.now
-    c.args.stage.now c.in-Some.entry c.requires.at c.in-Some.is c.requires.sound in
-    let w = body_call g.L.Link.state c.args.session.now c.poll_write_body-answer.new.self
-    c.in-Some.entry c.poll_write_body-answer.new.buf c.poll_write_body-answer.result h
-    c.poll_write_body-answer.ensures.writes in
-    rw c.in-Some.is (piece_grows g.L.Link.state c.args.now c.args.session.now c.poll_write_body-answer.new.self
-    c.in-Some.entry c.poll_write_body-answer.new.buf c.poll_write_body-answer.result
-    c.written_bytes-entry.result h w c.written_bytes-entry.ensures)
+pub returns-in-Ready-Ok-clause-stepped : goal.returns-in-Ready-Ok-clause-stepped
+returns-in-Ready-Ok-clause-stepped g c = λ shutdown.
+    let told = ready_is _ c.in-Ready-Ok.field-0 (Ok c.in-Ready-Ok.field-0-0) c.in-Ready-Ok.is
+    (rw c.in-Ready-Ok.is at c.in-Ready-Ok.field-0-is) in
+    let call = c.poll_write_body-answer in
+    body_stepped g.L.Link.state _ _ _ c.args.now shutdown _ _ c.in-Some.entry call.new.buf
+    call.result c.written_bytes-entry.result _
+    c.requires.ready c.requires.at c.in-Some.is refl call.ensures.writes
+    c.written_bytes-entry.ensures
+    (rw told (refl, refl))
 
-pub returns-in-Pending-clause-outcome : goal.returns-in-Pending-clause-outcome
-returns-in-Pending-clause-outcome g c =
-    let h = at_body (g.SV.ServeHttp.runs c.args.server.now.app) c.args.session.now c.args.last.now
-    c.args.stage.now c.in-Some.entry c.requires.at c.in-Some.is c.requires.sound in
-    let w = body_call g.L.Link.state c.args.session.now c.poll_write_body-answer.new.self
-    c.in-Some.entry c.poll_write_body-answer.new.buf c.poll_write_body-answer.result h
-    c.poll_write_body-answer.ensures.writes in
-    piece_waits (g.SV.ServeHttp.runs c.args.server.now.app) g.L.Link.state c.args.session.now
-    c.poll_write_body-answer.new.self c.args.stage.now c.in-Some.entry
-    c.poll_write_body-answer.new.buf c.poll_write_body-answer.result
-    c.written_bytes-entry.result h w c.written_bytes-entry.ensures c.in-Pending.is c.requires.at
-    c.requires.budget
-
-pub returns-in-Ready-Ok-clause-since : goal.returns-in-Ready-Ok-clause-since
-returns-in-Ready-Ok-clause-since g c =
-    let h = at_body (g.SV.ServeHttp.runs c.args.server.now.app) c.args.session.now c.args.last.now
-    c.args.stage.now c.in-Some.entry c.requires.at c.in-Some.is c.requires.sound in
-    let w = body_call g.L.Link.state c.args.session.now c.poll_write_body-answer.new.self
-    c.in-Some.entry c.poll_write_body-answer.new.buf c.poll_write_body-answer.result h
-    c.poll_write_body-answer.ensures.writes in
-    λ before done s. piece_since g.L.Link.state before done c.args.session.now
-    c.poll_write_body-answer.new.self c.in-Some.entry c.poll_write_body-answer.new.buf
-    c.poll_write_body-answer.result c.written_bytes-entry.result h w (rw c.in-Some.is at s)
-
-pub returns-in-Ready-Ok-clause-extends : goal.returns-in-Ready-Ok-clause-extends
-returns-in-Ready-Ok-clause-extends g c = λ shutdown.
-    let h = at_body (g.SV.ServeHttp.runs c.args.server.now.app) c.args.session.now c.args.last.now
-    c.args.stage.now c.in-Some.entry c.requires.at c.in-Some.is c.requires.sound in
-    let w = body_call g.L.Link.state c.args.session.now c.poll_write_body-answer.new.self
-    c.in-Some.entry c.poll_write_body-answer.new.buf c.poll_write_body-answer.result h
-    c.poll_write_body-answer.ensures.writes in
-    rw c.in-Some.is (piece_grows g.L.Link.state c.args.now c.args.session.now c.poll_write_body-answer.new.self
-    c.in-Some.entry c.poll_write_body-answer.new.buf c.poll_write_body-answer.result
-    c.written_bytes-entry.result h w c.written_bytes-entry.ensures)
-
-pub returns-in-Ready-Ok-clause-outcome : goal.returns-in-Ready-Ok-clause-outcome
-returns-in-Ready-Ok-clause-outcome g c =
-    let h = at_body (g.SV.ServeHttp.runs c.args.server.now.app) c.args.session.now c.args.last.now
-    c.args.stage.now c.in-Some.entry c.requires.at c.in-Some.is c.requires.sound in
-    let w = body_call g.L.Link.state c.args.session.now c.poll_write_body-answer.new.self
-    c.in-Some.entry c.poll_write_body-answer.new.buf c.poll_write_body-answer.result h
-    c.poll_write_body-answer.ensures.writes in (
-      piece_done (g.SV.ServeHttp.runs c.args.server.now.app) g.L.Link.state c.args.session.now
-          c.poll_write_body-answer.new.self c.in-Some.entry c.poll_write_body-answer.new.buf
-          c.poll_write_body-answer.result c.in-Ready-Ok.field-0-0 c.written_bytes-entry.result h w
-          c.written_bytes-entry.ensures (ready_is _ c.in-Ready-Ok.field-0 (Ok c.in-Ready-Ok.field-0-0)
-          c.in-Ready-Ok.is (rw c.in-Ready-Ok.is at c.in-Ready-Ok.field-0-is)),
-      rw c.requires.at (omega arith),
-      ahead_down g.L.Link.state c.args.session.now c.poll_write_body-answer.new.self c.args.stage.now at.Finish
-          (went_wrote g.L.Link.state c.args.session.now c.poll_write_body-answer.new.self w.taking w.left
-          c.requires.budget w.writes) (rw c.requires.at (omega arith)),
-    )
-
-pub returns-clause-since : goal.returns-clause-since
-returns-clause-since g c =
-    let h = at_body (g.SV.ServeHttp.runs c.args.server.now.app) c.args.session.now c.args.last.now
-    c.args.stage.now c.in-Some.entry c.requires.at c.in-Some.is c.requires.sound in
-    let w = body_call g.L.Link.state c.args.session.now c.poll_write_body-answer.new.self
-    c.in-Some.entry c.poll_write_body-answer.new.buf c.poll_write_body-answer.result h
-    c.poll_write_body-answer.ensures.writes in
-    λ before done s. piece_since g.L.Link.state before done c.args.session.now
-    c.poll_write_body-answer.new.self c.in-Some.entry c.poll_write_body-answer.new.buf
-    c.poll_write_body-answer.result c.written_bytes-entry.result h w (rw c.in-Some.is at s)
-
-pub returns-clause-extends : goal.returns-clause-extends
-returns-clause-extends g c = λ shutdown.
-    let h = at_body (g.SV.ServeHttp.runs c.args.server.now.app) c.args.session.now c.args.last.now
-    c.args.stage.now c.in-Some.entry c.requires.at c.in-Some.is c.requires.sound in
-    let w = body_call g.L.Link.state c.args.session.now c.poll_write_body-answer.new.self
-    c.in-Some.entry c.poll_write_body-answer.new.buf c.poll_write_body-answer.result h
-    c.poll_write_body-answer.ensures.writes in
-    rw c.in-Some.is (piece_grows g.L.Link.state c.args.now c.args.session.now c.poll_write_body-answer.new.self
-    c.in-Some.entry c.poll_write_body-answer.new.buf c.poll_write_body-answer.result
-    c.written_bytes-entry.result h w c.written_bytes-entry.ensures)
-
-pub returns-in-Pending-clause-few : goal.returns-in-Pending-clause-few
-returns-in-Pending-clause-few g c =
-    let h = at_body (g.SV.ServeHttp.runs c.args.server.now.app) c.args.session.now c.args.last.now
-    c.args.stage.now c.in-Some.entry c.requires.at c.in-Some.is c.requires.sound in
-    let w = body_call g.L.Link.state c.args.session.now c.poll_write_body-answer.new.self
-    c.in-Some.entry c.poll_write_body-answer.new.buf c.poll_write_body-answer.result h
-    c.poll_write_body-answer.ensures.writes in
-    w.writes.sent.unread
-
-pub returns-in-Ready-Ok-clause-few : goal.returns-in-Ready-Ok-clause-few
-returns-in-Ready-Ok-clause-few g c =
-    let h = at_body (g.SV.ServeHttp.runs c.args.server.now.app) c.args.session.now c.args.last.now
-    c.args.stage.now c.in-Some.entry c.requires.at c.in-Some.is c.requires.sound in
-    let w = body_call g.L.Link.state c.args.session.now c.poll_write_body-answer.new.self
-    c.in-Some.entry c.poll_write_body-answer.new.buf c.poll_write_body-answer.result h
-    c.poll_write_body-answer.ensures.writes in
-    w.writes.sent.unread
-
-pub returns-clause-few : goal.returns-clause-few
-returns-clause-few g c =
-    let h = at_body (g.SV.ServeHttp.runs c.args.server.now.app) c.args.session.now c.args.last.now
-    c.args.stage.now c.in-Some.entry c.requires.at c.in-Some.is c.requires.sound in
-    let w = body_call g.L.Link.state c.args.session.now c.poll_write_body-answer.new.self
-    c.in-Some.entry c.poll_write_body-answer.new.buf c.poll_write_body-answer.result h
-    c.poll_write_body-answer.ensures.writes in
-    w.writes.sent.unread
+pub returns-clause-stepped : goal.returns-clause-stepped
+returns-clause-stepped g c = λ shutdown.
+    let told = ready_is _ c.in-Ready-Err.field-0 (Err c.in-Ready-Err.error) c.in-Ready-Err.is
+    (rw c.in-Ready-Err.is at c.in-Ready-Err.field-0-is) in
+    let call = c.poll_write_body-answer in
+    body_stepped g.L.Link.state _ _ _ c.args.now shutdown _ _ c.in-Some.entry call.new.buf
+    call.result c.written_bytes-entry.result _
+    c.requires.ready c.requires.at c.in-Some.is refl call.ensures.writes
+    c.written_bytes-entry.ensures
+    (rw told refl)

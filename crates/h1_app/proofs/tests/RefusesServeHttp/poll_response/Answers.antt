@@ -1,6 +1,7 @@
 use Rattle.std.proofs.Common.{ap}
-use Rattle.h1_app.specs.Application.{given_by}
-use Rattle.h1_app.proofs.RefusalLemmas.{refusal_gives, refusal_reads}
+use Rattle.h1_application.specs.Application.{given_by}
+use Rattle.h1_echo.proofs.RefusalLemmas.{refusal_gives}
+use Rattle.h1_application.proofs.SettingLemmas.{refusal_reads}
 use Rattle.h1_app.proofs.tests.RefusesServeHttp.poll_response.Goals as goal
 
 pub returns-clause-reads : goal.returns-clause-reads

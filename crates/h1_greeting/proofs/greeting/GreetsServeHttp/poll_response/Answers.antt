@@ -1,5 +1,5 @@
 use Rattle.h1_greeting.proofs.GreetingLemmas.{greets}
-use Rattle.h1_app.proofs.RefusalLemmas.{refusal_reads}
+use Rattle.h1_application.proofs.SettingLemmas.{refusal_reads}
 use Rattle.h1_greeting.proofs.greeting.GreetsServeHttp.poll_response.Goals as goal
 use Rattle.std.proofs.Common.{refl}
 

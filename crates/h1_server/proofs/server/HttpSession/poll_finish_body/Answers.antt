@@ -1,37 +1,10 @@
--- The end of a body is taken up and delivered, or it is short.
-use Rattle.std.proofs.Common.{◌≡◌, refl, ◌∙◌, sym, ap, true, false}
-use denote.Enum.Bare.{sameb}
-use Rattle.h1_server.specs.contracts.taking_up.EndTaken.{the_type}
-use Rattle.h1_server.specs.declared.taking_up.EndTaken.TheVariants as e
-use Rattle.h1_server.proofs.SessionLemmas.{if_none, is_nothing}
-use Rattle.h1_server.proofs.ReplyLemmas.{end_written, short_end}
+-- What the transfer did is what the call did.
+use denote.Param.{param}
+use Rattle.h1_server.specs.contracts.server.HttpSession.{the_view}
+use Rattle.h1_server.proofs.HoldsLemmas.{end_call_in}
 use Rattle.h1_server.proofs.server.HttpSession.poll_finish_body.Goals as goal
 
-pub returns-in-Err-clause-writes : goal.returns-in-Err-clause-writes
-returns-in-Err-clause-writes g c =
-    rw (← c.self.view_is) (if_none c.self.inside.reply.refused _
-    (short_end g.L.Link.state _ _ c.take_end.new.reply c.in-Err.error c.in-Err.ensures refl))
-
-never : true ≡ false → ⊥
-never same = cc
-
 pub returns-clause-writes : goal.returns-clause-writes
-returns-clause-writes g c =
-    let unrefused = is_nothing c.self.inside.reply.refused c.in_default.not-Some in
-    let sent = rw c.allowance_of-left.ensures at c.deliver-answer.ensures.sent in
-    let some = λ (is : c.in-Ok.end ≡ e.Nothing).
-    never (ap (λ end. sameb the_type end e.Nothing) (sym is) ∙ sym c.eq.ensures ∙ c.if-eq.false) in
-    rw (← c.self.view_is) (rw c.with_count.ensures (if_none c.self.inside.reply.refused _
-    (end_written g.L.Link.state _ _ c.written-written.result c.deliver-answer.new.budget c.deliver-answer.result c.take_end.new.reply c.in-Ok.end
-    some c.in-Ok.ensures c.written-written.ensures c.self.invariant.settled unrefused
-    (record {
-      sent = sent;
-      budget = c.budget_left-self-inside.ensures;
-      received = refl;
-      request = refl;
-      refused = refl;
-      body = refl;
-      settings = refl;
-      reusable = refl;
-      context = refl;
-    }) c.deliver-answer.ensures.answer)))
+returns-clause-writes g c = rw (← c.self.view_is)
+    (end_call_in {C = g.row.C.Denot} g.L.Link.state (the_view (param 0 g.row.L) (param 1 g.row.C) g.L.Link c.self.inside)
+    c.poll_finish_body.new.self c.poll_finish_body.result c.poll_finish_body.ensures.writes)

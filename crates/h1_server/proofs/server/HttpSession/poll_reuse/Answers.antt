@@ -6,15 +6,15 @@ use Rattle.h1_server.proofs.server.HttpSession.poll_reuse.Goals as goal
 
 pub returns-in-Pending-clause-reuse : goal.returns-in-Pending-clause-reuse
 returns-in-Pending-clause-reuse g c = rw (← c.self.view_is)
-    (reuse_waits g.L.Link.state _ c.poll_drain_request_body.new.self (sym c.if-not-will_keepalive.ensures) c.in-Pending.ensures.drains)
+    (reuse_waits g.L.Link.state _ c.poll_drain_request_body.new.self (sym c.if-not-may_go_on.ensures) c.in-Pending.ensures.drains)
 
 pub returns-in-Ready-Err-clause-reuse : goal.returns-in-Ready-Err-clause-reuse
 returns-in-Ready-Err-clause-reuse g c = rw (← c.self.view_is)
-    (reuse_fails g.L.Link.state _ c.poll_drain_request_body.new.self c.in-Ready-Err.error (sym c.if-not-will_keepalive.ensures) (rw c.in-Ready-Err.field-0-is at c.in-Ready-Err.ensures.drains))
+    (reuse_fails g.L.Link.state _ c.poll_drain_request_body.new.self c.in-Ready-Err.error (sym c.if-not-may_go_on.ensures) (rw c.in-Ready-Err.field-0-is at c.in-Ready-Err.ensures.drains))
 
 pub returns-in-Ready-Ok-clause-reuse : goal.returns-in-Ready-Ok-clause-reuse
 returns-in-Ready-Ok-clause-reuse g c = rw (← c.self.view_is)
-    (reuse_done g.L.Link.state _ c.poll_drain_request_body.new.self _ c.in-Ready-Ok.field-0-0 c.may_follow-self-inside.result (sym c.if-not-will_keepalive.ensures)
+    (reuse_done g.L.Link.state _ c.poll_drain_request_body.new.self _ c.in-Ready-Ok.field-0-0 c.may_follow-self-inside.result (sym c.if-not-may_go_on.ensures)
     (rw c.in-Ready-Ok.field-0-is at c.in-Ready-Ok.ensures.drains)
     (ap (λ (x : SessionView g.row.L.Denot g.row.C.Denot). record x { reusable = c.may_follow-self-inside.result }) c.self-2.view_is)
-    (rw (← c.self-2.view_is) c.may_follow-self-inside.ensures))
+    (rw (← c.self-2.view_is) (rw c.received.ensures at c.may_follow-self-inside.ensures)))

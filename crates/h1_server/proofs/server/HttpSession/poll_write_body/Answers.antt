@@ -1,26 +1,7 @@
--- A piece that is handed in is taken up and delivered.
-use Rattle.std.proofs.Common.{refl}
-use Rattle.h1_server.proofs.SessionLemmas.{if_none, is_nothing}
-use Rattle.h1_server.proofs.ReplyLemmas.{piece_written}
+-- What the transfer did is what the call did.
+use Rattle.h1_server.proofs.HoldsLemmas.{piece_in}
 use Rattle.h1_server.proofs.server.HttpSession.poll_write_body.Goals as goal
 
 pub returns-clause-writes : goal.returns-clause-writes
-returns-clause-writes g c =
-    let free = rw (← c.self.view_is) at c.requires.free in
-    let unrefused = is_nothing c.self.inside.reply.refused c.in_default.not-Some in
-    let sent = rw c.allowance_of-left.ensures at c.deliver-answer.ensures.sent in
-    rw (← c.self.view_is) (rw c.with_count.ensures (if_none c.self.inside.reply.refused _
-    (piece_written g.L.Link.state _ _ c.take_piece-count.result c.deliver-answer.new.budget c.deliver-answer.result c.take_piece-count.new.reply c.args.buf.now _
-    c.take_piece-count.ensures.out c.take_piece-count.ensures.count c.take_piece-count.ensures.takes
-    free c.self.invariant.settled unrefused
-    (record {
-      sent = sent;
-      budget = c.budget_left-self-inside.ensures;
-      received = refl;
-      request = refl;
-      refused = refl;
-      body = refl;
-      settings = refl;
-      reusable = refl;
-      context = refl;
-    }) c.deliver-answer.ensures.answer)))
+returns-clause-writes g c = rw (← c.self.view_is)
+    (piece_in g.L.Link.state _ c.poll_write_body.new.self _ _ c.poll_write_body.result c.poll_write_body.ensures.writes)

@@ -1,7 +1,5 @@
--- What `f` keeps of the link that it is lent holds of the link here.
+-- What `f` keeps of the link that it is lent is what the transfer asks.
 use Rattle.h1_server.proofs.server.HttpSession.with_link.Goals as goal
 
-pub returns-clause-keeps : goal.returns-clause-keeps
-returns-clause-keeps g c =
-    let keeps = rw (← c.self.view_is) at c.requires.keeps in
-    rw (← c.self.view_is) (keeps _ _ c.call_on.ensures)
+pub with_link-requires-clause-keeps : goal.with_link-requires-clause-keeps
+with_link-requires-clause-keeps g c = rw (← c.self.view_is) at c.requires.keeps

@@ -1,0 +1,2 @@
+pub mod LengthLine
+pub mod Application

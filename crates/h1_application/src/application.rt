@@ -1,0 +1,71 @@
+//! What an application is to a connection.
+ghost use Rattle.std.specs.Prelude.{◌≡◌, ℕ, ◌<◌, ◌≤◌, List, [], IfOk, IfErr, IsSome};
+ghost use Rattle.h1_error.specs.declared.moment.TheConstants.{YEAR_10000};
+ghost use Rattle.h1_error.specs.declared.error.ErrorType.TheVariants.{NoMemory};
+ghost use Rattle.h1_server.specs.declared.settings.Settings.{Settings};
+ghost use Rattle.h1_head.specs.Views.{RequestView};
+ghost use Rattle.h1_transcript.specs.Given.{Given};
+ghost use Rattle.h1_application.specs.Application.{ReadsOnly, IfPending, GivesReply, given_by, PendsBy, IsAskedFor, payload_of};
+ghost use Rattle.h1_transcript.specs.Lawful.{LawfulReplies};
+ghost use Rattle.h1_transcript.specs.declared.reply.Reply.{Reply};
+
+use futures::task::Poll;
+use h1_error::Error;
+use h1_link::Link;
+use h1_server::HttpSession;
+use h1_transcript::Reply;
+use std::alloc::Global;
+
+/// An application: it is started for each request, reads the body and replies.
+///
+/// Its relation `gives` says which reply it gives to what it was given. It only reads the body, and
+/// after a call nothing is left unread where a read was pending (`reads`). Pipelining is off until it
+/// turns it on, by `set_pipelining_enabled` of the session.
+pub trait ServeHttp<L: Link + Drop, C: Drop> {
+    /// What the application keeps of one request between polls.
+    type Job: Drop;
+
+    /// The replies to what a request gave it.
+    ghost gives: { Self → Given → Reply → Type 0 };
+
+    /// What a job looks like as it starts.
+    ghost begins: { Self.Job → Type 0 };
+
+    /// Every reply that the relation gives is lawful.
+    ghost lawful: { (app : Self) → LawfulReplies (gives app) };
+
+    /// How often a job was not ready by itself. It never falls.
+    ghost pends: { Self.Job → ℕ };
+
+    /// How a job stands for the request with this head: with what was set as it started, what is
+    /// set now, and the payload that it was handed.
+    ghost runs: { Self → Self.Job → RequestView → Settings → Settings → List ℕ → Type 0 };
+
+    /// Starts a job. Its only error is being out of memory.
+    fn start(&self, alloc: Global) -> Result<Self::Job, Error>
+        ensures begins { IfOk result begins }
+        ensures runs { IfOk result (λ job. (head : RequestView) (began : Settings) → runs self.now job head began began []) }
+        ensures memory { IfErr result (λ error. error.kind ≡ NoMemory) };
+
+    /// Goes on with a job. Its only error is being out of memory.
+    fn poll_response(
+        &self,
+        job: &mut Self::Job,
+        http: &mut HttpSession<L, C>,
+        now: u64,
+    ) -> Poll<Result<Reply, Error>>
+        requires request { IsSome http.old.request }
+        requires kept { IsSome http.old.body.kept }
+        requires budget { IsSome http.old.budget }
+        requires moment { now < YEAR_10000 }
+        ensures reads { ReadsOnly L.state http.old http.new }
+        ensures plan { L.same_plan http.old.link http.new.link }
+        ensures runs { (head : RequestView) (began : Settings) → IsAskedFor head http.old
+            → runs self.now job.old head began http.old.settings (payload_of http.old)
+            → IfPending result (runs self.now job.new head began http.new.settings (payload_of http.new)) }
+        ensures gives { (head : RequestView) (began : Settings) → IsAskedFor head http.old
+            → runs self.now job.old head began http.old.settings (payload_of http.old)
+            → GivesReply (gives self.now) (given_by head began http.new) (λ error. error.kind ≡ NoMemory) result }
+        ensures never_falls { pends job.old ≤ pends job.new }
+        ensures pends { IfPending result (PendsBy (pends job.old) (pends job.new) http.new.body.waits) };
+}

@@ -1,8 +1,0 @@
--- The one error that no rule of HTTP causes.
-use Rattle.std.specs.Prelude.{false}
-use Rattle.h1_error.specs.declared.error.Error.{Error}
-use Rattle.h1_error.specs.declared.error.ErrorType.TheVariants.{NoMemory}
-
--- the allocator had no memory, and a client need not send its request again
-abbrev pub no_memory : Error
-no_memory = record { kind = NoMemory; retry = false }

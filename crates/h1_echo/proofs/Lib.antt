@@ -1,0 +1,2 @@
+mod EchoLemmas
+pub mod RefusalLemmas

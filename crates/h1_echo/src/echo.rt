@@ -1,0 +1,231 @@
+//! An application that replies with what it was asked.
+ghost use Rattle.std.specs.Prelude.{◌≡◌, ◌<◌, ◌^◌, ◌++◌, ◌∷◌, [], length, codes, decimal, IsSome, IfSome, IfOk, IfErr, Some, None};
+ghost use Rattle.h1_error.specs.declared.error.ErrorType.TheVariants.{NoMemory};
+ghost use Rattle.h1_application.specs.Application.{ReadsOnly, payload_of};
+ghost use Rattle.h1_echo.specs.Echo.{EchoGives, echo_body, echo_fields, echo_reply, refused_reply, echo_settings};
+ghost use Rattle.h1_echo.specs.EchoRun.{EchoRuns, StopCause, Gathers, IsLonger, IsStopOf};
+
+use futures::task::Poll;
+use h1_application::ServeHttp;
+use h1_body::BodyBytes;
+use h1_error::{Error, ErrorType};
+use h1_head::{RequestHeader, ResponseHeader};
+use h1_link::Link;
+use h1_server::HttpSession;
+use h1_transcript::Reply;
+use std::alloc::Global;
+
+/// Replies with the method, the target and the body of the request. Some targets make it state the
+/// body's length in another way, or turn pipelining off.
+#[derive(Clone, Copy, Debug, PartialEq, Eq)]
+pub struct EchoApp;
+
+/// What was read of a request's body so far.
+#[derive(Debug, Drop)]
+pub struct EchoJob {
+    alloc: Global,
+    body: BodyBytes,
+}
+
+impl<L: Link + Drop, C: Drop> ServeHttp<L, C> for EchoApp {
+    type Job = EchoJob;
+
+    ghost use Rattle.h1_echo.specs.EchoLaw.{echo_lawful};
+
+    ghost gives = { λ _. EchoGives };
+
+    ghost begins = { λ job. job.body ≡ [] };
+
+    ghost lawful = { λ _. echo_lawful };
+
+    ghost pends = { λ _. 0 };
+
+    ghost runs = { λ _ job head began now payload. EchoRuns job.body head began now payload };
+
+    fn start(&self, alloc: Global) -> Result<EchoJob, Error> {
+        Ok(EchoJob {
+            alloc,
+            body: BodyBytes::new(alloc),
+        })
+    }
+
+    fn poll_response(
+        &self,
+        job: &mut EchoJob,
+        http: &mut HttpSession<L, C>,
+        now: u64,
+    ) -> Poll<Result<Reply, Error>> {
+        set_pipelining(http);
+        match read_body(&mut job.body, http, now) {
+            Stopped::Waits => Poll::Pending,
+            Stopped::Failed(error) => Poll::Ready(Err(error)),
+            Stopped::Refused => Poll::Ready(refusal(job.alloc)),
+            Stopped::Whole => Poll::Ready(reply_to(
+                job.alloc,
+                http.req_header(),
+                job.body.as_slice(),
+            )),
+        }
+    }
+}
+
+/// Why the reading of a body stopped.
+#[derive(Clone, Copy, Debug, PartialEq, Eq)]
+pub(crate) enum Stopped {
+    Whole,
+    /// The body can't be read on.
+    Refused,
+    /// The link has no byte ready.
+    Waits,
+    /// There is no memory.
+    Failed(Error),
+}
+
+/// Lets bytes after the request begin the next one, unless the target says otherwise.
+fn set_pipelining<L: Link + Drop, C: Drop>(http: &mut HttpSession<L, C>)
+    requires { IsSome http.old.request }
+    ensures settings { IfSome http.old.request (λ request. http.new.settings ≡ echo_settings request.header http.old.settings) }
+    ensures rest { http.new ≡ record http.old { settings = http.new.settings } }
+{
+    let enabled = http.req_header().raw_path() != b"/nopipe".as_slice();
+    http.set_pipelining_enabled(enabled);
+}
+
+/// Reads on until the body ends or can't be read on.
+fn read_body<L: Link + Drop, C: Drop>(
+    body: &mut BodyBytes,
+    http: &mut HttpSession<L, C>,
+    now: u64,
+) -> Stopped
+    requires request { IsSome http.old.request }
+    requires kept { IsSome http.old.body.kept }
+    requires budget { IsSome http.old.budget }
+    ensures reads { ReadsOnly L.state http.old http.new }
+    ensures plan { L.same_plan http.old.link http.new.link }
+    ensures settings { http.new.settings ≡ http.old.settings }
+    ensures body { Gathers body.old body.new http.old http.new (Some result) }
+    ensures cause { StopCause L.state http.old http.new (Some result) }
+{
+    'reads: loop {
+        match read_piece(body, http, now) {
+            Some(stopped) => return stopped,
+            None => {}
+        }
+    }
+}
+
+/// Reads once. None says that there may be more.
+fn read_piece<L: Link + Drop, C: Drop>(
+    body: &mut BodyBytes,
+    http: &mut HttpSession<L, C>,
+    now: u64,
+) -> Option<Stopped>
+    requires request { IsSome http.old.request }
+    requires kept { IsSome http.old.body.kept }
+    requires budget { IsSome http.old.budget }
+    ensures reads { ReadsOnly L.state http.old http.new }
+    ensures plan { L.same_plan http.old.link http.new.link }
+    ensures settings { http.new.settings ≡ http.old.settings }
+    ensures body { Gathers body.old body.new http.old http.new result }
+    ensures longer { IsLonger body.old body.new result }
+    ensures cause { StopCause L.state http.old http.new result }
+{
+    match http.poll_read_body_bytes(now) {
+        Poll::Pending => Some(Stopped::Waits),
+        Poll::Ready(Ok(None)) => Some(Stopped::Whole),
+        Poll::Ready(Err(error)) => Some(stop_of(error)),
+        Poll::Ready(Ok(Some(piece))) => match gather(body, piece.as_slice()) {
+            Ok(_) => None,
+            Err(error) => Some(Stopped::Failed(error)),
+        },
+    }
+}
+
+/// Whether an error of a read is being out of memory, or the body's.
+fn stop_of(error: Error) -> Stopped
+    ensures { IsStopOf error error.kind result }
+{
+    match error.kind {
+        ErrorType::NoMemory => Stopped::Failed(error),
+        _ => Stopped::Refused,
+    }
+}
+
+/// Adds a piece, and says how many bytes there are then.
+fn gather(body: &mut BodyBytes, piece: &[u8]) -> Result<usize, Error>
+    ensures ok { IfOk result (λ count. (body.new ≡ body.old ++ piece.now) × (count ≡ length body.new)) }
+    ensures err { IfErr result (λ error. error.kind ≡ NoMemory) }
+{
+    body.append(piece)?;
+    Ok(body.len())
+}
+
+/// The reply to a request that was read to its end.
+fn reply_to(alloc: Global, header: &RequestHeader, handed: &[u8]) -> Result<Reply, Error>
+    ensures ok { IfOk result (λ reply. reply ≡ echo_reply header.now handed.now None) }
+    ensures small { IfOk result (λ reply. length reply.body < 2 ^ 63) }
+    ensures err { IfErr result (λ error. error.kind ≡ NoMemory) }
+{
+    let body = body_of(alloc, header, handed)?;
+    let mut head = ResponseHeader::build(alloc, 200, Some(1))?;
+    state_length(alloc, &mut head, header.raw_path(), body.len() as u64)?;
+    Ok(Reply { header: head, body })
+}
+
+/// The body of the reply: the method, the target and the request's body.
+fn body_of(alloc: Global, header: &RequestHeader, handed: &[u8]) -> Result<BodyBytes, Error>
+    ensures ok { IfOk result (λ body. body ≡ echo_body header.now handed.now) }
+    ensures err { IfErr result (λ error. error.kind ≡ NoMemory) }
+{
+    let mut body = BodyBytes::from_slice(alloc, header.method().as_str().as_bytes())?;
+    body.append(b" ")?;
+    body.append(header.raw_path())?;
+    body.append(b"\n")?;
+    body.append(handed)?;
+    Ok(body)
+}
+
+/// Adds the field that frames the body of the reply to this target.
+fn state_length(
+    alloc: Global,
+    head: &mut ResponseHeader,
+    target: &[u8],
+    count: u64,
+) -> Result<(), Error>
+    requires fresh { head.old.fields ≡ [] }
+    requires count { count < 2 ^ 63 }
+    ensures ok { IfOk result (λ _. head.new ≡ record head.old { fields = echo_fields target.now count }) }
+    ensures err { IfErr result (λ error. error.kind ≡ NoMemory) }
+{
+    if target == b"/until".as_slice() {
+        Ok(())
+    } else if target == b"/chunk".as_slice() {
+        head.append_header(b"transfer-encoding", b"chunked")
+    } else if target == b"/short".as_slice() {
+        add_length(alloc, head, count + 1)
+    } else {
+        add_length(alloc, head, count)
+    }
+}
+
+/// Adds the field that states this length.
+fn add_length(alloc: Global, head: &mut ResponseHeader, length: u64) -> Result<(), Error>
+    ensures ok { IfOk result (λ _. head.new ≡ record head.old { fields = head.old.fields ++ (codes "content-length", decimal length) ∷ [] }) }
+    ensures err { IfErr result (λ error. error.kind ≡ NoMemory) }
+{
+    let text = length.to_string(alloc)?;
+    head.append_header(b"content-length", text.as_bytes())
+}
+
+/// The reply to a request whose body can't be read on.
+fn refusal(alloc: Global) -> Result<Reply, Error>
+    ensures ok { IfOk result (λ reply. reply ≡ refused_reply) }
+    ensures err { IfErr result (λ error. error.kind ≡ NoMemory) }
+{
+    let mut header = ResponseHeader::build(alloc, 400, Some(1))?;
+    add_length(alloc, &mut header, 0)?;
+    Ok(Reply {
+        header,
+        body: BodyBytes::new(alloc),
+    })
+}

@@ -1,0 +1,4 @@
+pub mod BehindLemmas
+pub mod CompleteLemmas
+pub mod ServedLemmas
+pub mod GrowthLemmas

@@ -1,0 +1,42 @@
+-- What each exchange begins with (RFC 9112, section 9.3).
+use Rattle.std.specs.Prelude.{◌≡◌, ℕ, ◌+◌, ◌-◌, List, [], ◌∷◌, length, Bool, true, false, Option, Some, None}
+use Rattle.h1_server.specs.declared.settings.Settings.{Settings}
+use Rattle.h1_transcript.specs.declared.transcript.Entry.{Entry}
+
+-- how many requests more may follow the one with this index, under this limit
+abbrev pub reuses_at : Option ℕ → ℕ → Option ℕ
+reuses_at None i = None
+reuses_at (Some limit) i = Some (limit - i)
+
+-- whether bytes after the last of these exchanges begin the next one, as it was set last
+abbrev pub pipelining_behind : Bool → List Entry → Bool
+pipelining_behind first [] = first
+pipelining_behind first (e ∷ more) = pipelining_behind e.left.pipelining more
+
+-- the settings that the exchange with this index begins with
+pub record IsSetFor (limit : Option ℕ) (i : ℕ) (pipelining : Bool) (settings : Settings) : Type 0 where
+  pub closing : settings.closing ≡ true
+  pub pipelining_is : settings.pipelining ≡ pipelining
+  pub reuses : settings.reuses ≡ reuses_at limit i
+
+-- each exchange, counted from this index, began so; pipelining is what the one before left
+abbrev pub AreBegun : Option ℕ → ℕ → Bool → List Entry → Type 0
+AreBegun limit i pipelining [] = Unit {0}
+AreBegun limit i pipelining (e ∷ more) =
+    IsSetFor limit i pipelining e.began × AreBegun limit (i + 1) e.left.pipelining more
+
+-- after these exchanges the next one begins so
+abbrev pub IsNextSet : Option ℕ → List Entry → Settings → Type 0
+IsNextSet limit done settings = IsSetFor limit (length done) (pipelining_behind false done) settings
+
+-- what an exchange takes from what was set before it
+pub record IsSetAlike (old new : Settings) : Type 0 where
+  pub closing : new.closing ≡ old.closing
+  pub pipelining : new.pipelining ≡ old.pipelining
+  pub reuses : new.reuses ≡ old.reuses
+
+-- an exchange that begins takes what was set, and it stays set where none begins
+abbrev pub BeginsWith : Settings → Settings → Option Entry → Option Entry → Type 0
+BeginsWith old new None None = IsSetAlike old new
+BeginsWith old new None (Some e) = IsSetAlike old e.began
+BeginsWith old new (Some e) last = Unit {0}

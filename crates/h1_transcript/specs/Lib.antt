@@ -1,0 +1,12 @@
+pub mod Given
+pub mod Lawful
+pub mod Told
+pub mod Ends
+pub mod Entries
+pub mod Stream
+pub mod Exchange
+pub mod Behind
+pub mod Begun
+pub mod Agrees
+pub mod Growth
+pub mod Complete

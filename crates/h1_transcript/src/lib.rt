@@ -1,0 +1,12 @@
+//! What a connection read and wrote, exchange by exchange (RFC 9112).
+//!
+//! A [`Transcript`] has one [`Entry`] for each exchange. The definitions say how a transcript
+//! agrees with the bytes of a link, how it grows, and how its exchanges stand where a connection
+//! ends.
+#![tactic(auto)]
+
+mod reply;
+mod transcript;
+
+pub use reply::Reply;
+pub use transcript::{Entry, How, Transcript};

@@ -1,0 +1,19 @@
+-- What was used so far gave no payload, and no read waits.
+use Rattle.std.proofs.Common.{◌≡◌, ◌<◌, [], true}
+use Rattle.h1_body.specs.Body.{unfinished}
+use Rattle.h1_body.specs.Reader.{reads}
+use Rattle.h1_transfer.specs.Decoding.{ReadsBody}
+use Rattle.h1_transfer.specs.Calls.{Called, no_fault}
+use Rattle.h1_transfer.proofs.reading_body.read_body.Given as goal
+
+abbrev pub invariant-reads : goal.invariant-reads
+invariant-reads g l = record {
+  moved : ReadsBody (g.L.Link.state l.fn.link) (g.L.Link.state l.link) l.fn.received.items l.received.items l.fn.reader l.reader l.fn.kept l.kept l.fn.budget l.budget [];
+  waits : (g.L.Link.state l.link).read_waits ≡ (g.L.Link.state l.fn.link).read_waits;
+  parsed : l.budget < l.fn.budget → reads l.fn.reader l.fn.received.items ≡ unfinished [];
+  calls : Called (g.L.Link.state l.fn.link) (g.L.Link.state l.link) true no_fault;
+  plan : g.L.Link.same_plan l.fn.link l.link;
+}
+
+abbrev pub decreases-reads : goal.decreases-reads
+decreases-reads g l = l.budget

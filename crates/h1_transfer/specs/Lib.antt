@@ -1,0 +1,17 @@
+pub mod Budget
+pub mod Moved
+pub mod Receiving
+pub mod Writing
+pub mod Decoding
+pub mod Taking
+pub mod ReplyFraming
+pub mod BodyWrites
+pub mod Calls
+pub mod Fresh
+pub mod TransferView
+pub mod Heads
+pub mod Writes
+pub mod PieceWrites
+pub mod EndWrites
+pub mod Payload
+pub mod BodyAnswers

@@ -1,0 +1,46 @@
+-- What the bytes that are received give of a body (RFC 9112, sections 6 and 7.1).
+use Rattle.std.specs.Prelude.{◌≡◌, ℕ, ◌<◌, List, [], ◌++◌, length, Option, option_map, Result, Ok, Err}
+use Rattle.h1_error.specs.declared.error.Error.{Error}
+use Rattle.h1_body.specs.Body.{whole, broken}
+use Rattle.h1_body.specs.Reader.{reads}
+use Rattle.h1_body.specs.declared.reader.BodyReader.{BodyReader}
+use Rattle.h1_body.specs.declared.fed.FeedState.{FeedState}
+use Rattle.h1_body.specs.declared.fed.FeedState.TheVariants as s
+use Rattle.h1_transfer.specs.Decoding.{Decoded, Lacks}
+use Rattle.h1_transfer.specs.declared.taking.Taken.{Taken}
+use Rattle.h1_transfer.specs.declared.taking.Taken.TheVariants as t
+
+-- received bytes are used from the front, and their payload is kept where payload is kept
+pub record Uses (old new : List ℕ) (reader behind : BodyReader) (kept keeps : Option (List ℕ)) (payload : List ℕ) : Type 0 where
+  pub used : List ℕ
+  pub bytes : old ≡ used ++ new
+  pub decoded : Decoded reader behind used payload
+  pub keeps_payload : keeps ≡ option_map (λ front. front ++ payload) kept
+
+-- the payload that was taken
+abbrev pub taken_payload : Taken → List ℕ
+taken_payload (t.Piece bytes) = bytes
+taken_payload t.Done = []
+taken_payload t.Broken = []
+taken_payload t.Lacks = []
+
+-- payload is handed out before the state after it is told
+abbrev pub IsJudged : FeedState → List ℕ → Taken → Type 0
+IsJudged state payload (t.Piece bytes) = (bytes ≡ payload) × (0 < length payload)
+IsJudged state payload t.Done = (payload ≡ []) × (state ≡ s.Done)
+IsJudged state payload t.Broken = (payload ≡ []) × (state ≡ s.Broken)
+IsJudged state payload t.Lacks = (payload ≡ []) × (state ≡ s.More)
+
+-- when each answer comes
+abbrev pub TakeCause : BodyReader → List ℕ → Taken → Type 0
+TakeCause reader received (t.Piece bytes) = 0 < length bytes
+TakeCause reader received t.Done = reads reader [] ≡ whole [] 0
+TakeCause reader received t.Broken = reads reader [] ≡ broken []
+TakeCause reader received t.Lacks = Lacks reader received
+
+-- payload is taken up to the end of a run of it, or nothing changes where memory ran out
+abbrev pub TakesBody : List ℕ → List ℕ → BodyReader → BodyReader → Option (List ℕ) → Option (List ℕ) → Result Taken Error → Type 0
+TakesBody old new reader behind kept keeps (Ok taken) =
+    Uses old new reader behind kept keeps (taken_payload taken) × TakeCause behind new taken
+TakesBody old new reader behind kept keeps (Err error) =
+    (new ≡ old) × (behind ≡ reader) × (keeps ≡ kept)

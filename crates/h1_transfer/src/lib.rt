@@ -1,0 +1,31 @@
+//! Moving the bytes of one message each way over a link, within a budget of link calls: what a
+//! server's session and a client's session have in common.
+#![tactic(auto)]
+
+mod answering;
+mod body;
+mod budget;
+mod delivering;
+mod head;
+mod outgoing;
+mod reading_body;
+mod reading_head;
+mod receiving;
+mod sending;
+mod taking;
+mod transfer;
+mod writing_body;
+
+pub use answering::refuse;
+pub use body::BodyState;
+pub use budget::{CALL_BUDGET, allowance_of, budget_left};
+pub use delivering::{Delivery, deliver, with_count};
+pub use head::{Found, Head};
+pub use outgoing::{Outgoing, Step};
+pub use reading_body::{BodyRead, drain_body, read_body};
+pub use reading_head::{HeadRead, read_head};
+pub use receiving::{Filled, READ_SIZE, fill};
+pub use sending::{Sending, send};
+pub use taking::{Taken, take};
+pub use transfer::Transfer;
+pub use writing_body::{EndTaken, take_end, take_piece};

@@ -1,0 +1,50 @@
+//! Where the writing of a message stands: of a server's reply, or of a client's request.
+ghost use Rattle.std.specs.Prelude.{◌≡◌};
+ghost use Rattle.h1_transfer.specs.Fresh.{no_reply};
+
+use h1_body::{BodyWriter, Wire};
+use h1_error::Error;
+
+/// The write that is in progress: bytes are owed, or after them a flush.
+#[derive(Clone, Copy, Debug, PartialEq, Eq)]
+pub enum Step {
+    Free,
+    Head,
+    /// A piece of the body, with the count that its call answers.
+    Piece(Option<usize>),
+    Finish,
+}
+
+/// Where the writing of a message stands: of a server's reply, or of a client's request.
+#[derive(Drop)]
+pub struct Outgoing {
+    pub step: Step,
+    /// What was taken up and isn't written yet.
+    pub owed: Wire,
+    pub writer: BodyWriter,
+    /// A head was taken up that is not an interim one.
+    pub headed: bool,
+    /// The flag of that header.
+    pub keep: bool,
+    /// The refusal that each later write answers.
+    pub refused: Option<Error>,
+    /// How many bytes of the message were written; it stops at 2^64 - 1.
+    pub sent: u64,
+}
+
+impl Outgoing {
+    /// Before a message.
+    pub fn new() -> Self
+        ensures { result ≡ no_reply }
+    {
+        Outgoing {
+            step: Step::Free,
+            owed: Wire::empty(),
+            writer: BodyWriter::new(),
+            headed: false,
+            keep: false,
+            refused: None,
+            sent: 0,
+        }
+    }
+}

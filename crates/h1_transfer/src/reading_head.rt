@@ -1,0 +1,71 @@
+//! Reading a head off the link (RFC 9112, section 2.2).
+ghost use Rattle.std.specs.Prelude.{◌≡◌, ◌<◌, ◌≤◌, ◌+◌};
+ghost use Rattle.h1_cut.specs.Search.{HasLooked};
+ghost use Rattle.h1_head.specs.declared.limits.TheConstants.{MAX_HEADER_SIZE};
+ghost use Rattle.h1_transfer.specs.Moved.{Received};
+ghost use Rattle.h1_transfer.specs.Heads.{HeadCause, is_whole_head, fault_of_head};
+ghost use Rattle.h1_transfer.specs.Calls.{Called};
+
+use crate::head::{Found, Head};
+use crate::receiving::{Filled, fill};
+use bytes::BytesMut;
+use h1_cut::HeadSearch;
+use h1_error::HeadFault;
+use h1_link::Link;
+use std::alloc::Global;
+
+/// What reading a head came to.
+#[derive(Drop)]
+pub enum HeadRead<H> {
+    /// The head, and how many of the received bytes it takes.
+    Whole(H, usize),
+    Refused(HeadFault),
+    /// The link ended, and no byte was received.
+    Closed,
+    /// The link ended inside a head.
+    Cut,
+    NotReady,
+    /// No further link call may move bytes.
+    Spent,
+    Failed,
+    NoMemory,
+}
+
+/// Reads until a head is whole, is refused or can't go on. What is received already is judged
+/// before the first read.
+pub fn read_head<H: Head, L: Link>(
+    alloc: Global,
+    link: &mut L,
+    received: &mut BytesMut,
+    search: &mut HeadSearch,
+    budget: &mut u32,
+) -> HeadRead<H>
+    requires { HasLooked MAX_HEADER_SIZE search.old received.old.items }
+    ensures received { Received (L.state link.old) (L.state link.new) received.old.items received.new.items budget.old budget.new }
+    ensures cause { HeadCause H.is_at H.refuses H.lacks (L.state link.old) (L.state link.new) received.new.items budget.new result }
+    ensures looked { HasLooked MAX_HEADER_SIZE search.new received.new.items }
+    ensures few { (L.state link.new).read_waits ≤ (L.state link.old).read_waits + 1 }
+    ensures parsed { budget.new < budget.old → H.lacks received.old.items }
+    ensures calls { Called (L.state link.old) (L.state link.new) (is_whole_head result) (fault_of_head result) }
+    ensures plan { L.same_plan link.old link.new }
+{
+    'reads: loop {
+        match H::search(alloc, search, received.as_slice()) {
+            Ok(Found::Whole(head, used)) => return HeadRead::Whole(head, used),
+            Ok(Found::Refused(fault)) => return HeadRead::Refused(fault),
+            Ok(Found::NotYet) => {}
+            Err(_) => return HeadRead::NoMemory,
+        }
+        if *budget == 0 {
+            return HeadRead::Spent;
+        }
+        match fill(link, received) {
+            Filled::Got => *budget -= 1,
+            Filled::End if received.is_empty() => return HeadRead::Closed,
+            Filled::End => return HeadRead::Cut,
+            Filled::NotReady => return HeadRead::NotReady,
+            Filled::Failed => return HeadRead::Failed,
+            Filled::NoMemory => return HeadRead::NoMemory,
+        }
+    }
+}
