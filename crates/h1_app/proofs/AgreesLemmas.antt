@@ -1,50 +1,38 @@
 -- A connection's transcript agrees with what its link gave and took.
-use Rattle.std.proofs.Common.{◌≡◌, ℕ, ◌+◌, ◌-◌, ◌^◌, min, drop, ap, subst, append-nil, List, [], ◌∷◌, ◌++◌, length, option_to_list, Option, Some, None, IfSome, refl, sym, ◌∙◌, append_assoc}
-use Rattle.std.specs.List.{AllByRecursion}
-use Rattle.h1_error.specs.declared.progress.End.{End}
-use Rattle.h1_error.specs.declared.error.Error.{Error}
-use Rattle.h1_error.specs.declared.error.ErrorType.{ErrorType}
+use Rattle.std.proofs.Common.{◌≡◌, ℕ, ◌+◌, ◌-◌, ◌^◌, min, drop, ap, subst, append-nil, List, [], ◌∷◌, ◌++◌, length, false, option_to_list, Option, Some, None, IfSome, refl, sym, ◌∙◌, append_assoc}
+use Rattle.h1_app.specs.Words.{AllByRecursion, End, Error, ErrorType, LinkState, RequestView, Body, whole, unfinished, broken, ahead, body, reads, HasRead, GrowsTo, framing, SessionView, Settings, Reply, Entry, Stage, StoodAs, ReadBehind, WroteBehind, AfterRead, AfterWrote, DoneBehind, FlushedBy, Given, render, IsAllowed}
 use Rattle.h1_error.specs.declared.error.ErrorType.TheVariants as kind
-use Rattle.h1_link.specs.LinkState.{LinkState}
-use Rattle.h1_head.specs.Views.{RequestView}
-use Rattle.h1_body.specs.Body.{Body, whole, unfinished, broken, ahead, payload_of}
-use Rattle.h1_body.specs.Reader.{body, reads}
-use Rattle.h1_body.specs.Read.{HasRead}
-use Rattle.h1_body.specs.Laws.{GrowsTo}
-use Rattle.h1_body.specs.Framing.{framing}
+use Rattle.h1_body.specs.Body.{payload_of}
 use Rattle.h1_body.proofs.ReadLemmas.{read_is}
 use Rattle.h1_body.proofs.LawLemmas.{bodies_grow}
 use Rattle.h1_transfer.proofs.BodyLemmas.{payload_ahead}
-use Rattle.h1_server.specs.SessionView.{SessionView}
-use Rattle.h1_server.specs.declared.settings.Settings.{Settings}
-use Rattle.h1_transcript.specs.declared.reply.Reply.{Reply}
-use Rattle.h1_transcript.specs.declared.transcript.Entry.{Entry}
-use Rattle.h1_app.specs.declared.exchange.Stage.{Stage}
-use Rattle.h1_transcript.specs.Behind.{StoodAs, ReadBehind, WroteBehind, AfterRead, AfterWrote, DoneBehind, FlushedBy}
 use Rattle.h1_transcript.specs.Agrees.{Agrees, AreOf, AreReplies, AreDone, RefusalOf}
-use Rattle.h1_transcript.specs.Given.{Given}
-use Rattle.h1_transcript.specs.Exchange.{render, IsAllowed}
-use Rattle.h1_app.specs.Accounted.{Accounted, ReadEntry, ReadSo, WroteSo, StoppedSo, StoodSo, StopsBody, coming}
-use Rattle.h1_app.specs.Sound.{Sound, IsKept}
+use Rattle.h1_app.proofs.Words.{Accounted, ReadEntry, ReadSo, WroteSo, StoppedSo, StoodSo, StopsBody, StopsWith, coming, Sound, IsKept}
 use Rattle.h1_transcript.specs.Stream.{Message, Begins, BehindBody}
 use Rattle.h1_transcript.proofs.BehindLemmas.{told_map}
 use Rattle.h1_app.proofs.StoodLemmas.{stood_as}
 
-nothing_behind : (b : Body) (none : List Message) → none ≡ [] → BehindBody b (λ k. Unit {0}) (none ≡ [])
+nothing_behind : (b : Body) (none : List Message) → none ≡ []
+    → BehindBody b (λ k. Unit {0}) (none ≡ [])
 nothing_behind (whole payload n) none is = tt
 nothing_behind (unfinished payload) none is = is
 nothing_behind (broken payload) none is = is
 
-replied_as : {L C : Type 0} (session : SessionView L C) (e : Entry) (used : List ℕ) (reply : Option Reply)
-    → IfSome reply (λ reply. StoodSo e.how e session.body) → HasRead (framing e.head) used e.body session.body.reader
-    → IfSome reply (λ reply. StoodAs e.how e (ahead e.body (length used) (reads session.body.reader session.received)))
+replied_as : {L C : Type 0} (session : SessionView L C) (e : Entry) (used : List ℕ)
+    (reply : Option Reply)
+    → IfSome reply (λ reply. StoodSo e.how e session.body)
+    → HasRead (framing e.head) used e.body session.body.reader → IfSome reply
+    (λ reply. StoodAs e.how e
+    (ahead e.body (length used) (reads session.body.reader session.received)))
 replied_as session e used None stood read = tt
 replied_as session e used (Some reply) stood read = stood_as e.how e used session.received session.body read stood
 
 -- why the body can't be read on is what its bytes say
-refused_as : {L C : Type 0} (state : L → LinkState) (session : SessionView L C) (e : Entry) (used : List ℕ) (k : ErrorType)
+refused_as : {L C : Type 0} (state : L → LinkState) (session : SessionView L C) (e : Entry)
+    (used : List ℕ) (k : ErrorType)
     → StopsBody state session k → HasRead (framing e.head) used e.body session.body.reader
-    → RefusalOf (state session.link) e (ahead e.body (length used) (reads session.body.reader session.received)) k
+    → RefusalOf (state session.link) e
+    (ahead e.body (length used) (reads session.body.reader session.received)) k
 refused_as state session e used kind.InvalidBody stops read =
     let f = framing e.head in
     let all : body f used ≡ broken e.body =
@@ -63,16 +51,22 @@ refused_as state session e used kind.ReadError stops read =
 refused_as state session e used kind.NoMemory stops read = tt
 refused_as state session e used _ stops read = absurd stops
 
-refusal_as : {L C : Type 0} (state : L → LinkState) (session : SessionView L C) (e : Entry) (used : List ℕ) (refused : Option Error)
-    → IfSome refused (λ error. StopsBody state session error.kind) → HasRead (framing e.head) used e.body session.body.reader
-    → IfSome refused (λ error. RefusalOf (state session.link) e (ahead e.body (length used) (reads session.body.reader session.received)) error.kind)
+refusal_as : {L C : Type 0} (state : L → LinkState) (session : SessionView L C) (e : Entry)
+    (used : List ℕ) (refused : Option Error)
+    → IfSome refused (StopsWith state session)
+    → HasRead (framing e.head) used e.body session.body.reader → IfSome refused
+    (λ error. RefusalOf (state session.link) e
+    (ahead e.body (length used) (reads session.body.reader session.received)) error.kind
+    × (error.retry ≡ false))
 refusal_as state session e used None stops read = tt
-refusal_as state session e used (Some error) stops read = refused_as state session e used error.kind stops read
+refusal_as state session e used (Some error) stops read = (refused_as state session e used error.kind stops.0 read, stops.1)
 
 -- the bytes begin with the request of the exchange
-one_request : {L C : Type 0} (state : L → LinkState) (since : List ℕ) (session : SessionView L C) (e : Entry)
-    → IfSome e.body_error (λ error. StopsBody state session error.kind) → ReadEntry since e session
-    → (requests : List Message) × Begins since requests × AreOf (state session.link) (e ∷ []) requests
+one_request : {L C : Type 0} (state : L → LinkState) (since : List ℕ) (session : SessionView L C)
+    (e : Entry)
+    → IfSome e.body_error (StopsWith state session) → ReadEntry since e session
+    → (requests : List Message) × Begins since requests
+    × AreOf (state session.link) (e ∷ []) requests
 one_request state since session e stopped h =
     let body = ahead e.body (length h.used) (reads session.body.reader session.received) in
     let m : Message = record { head = e.head; both = e.both; body = body } in (
@@ -90,8 +84,10 @@ one_request state since session e stopped h =
     )
 
 -- the bytes written are a front of the reply
-one_reply : {L C : Type 0} (since : List ℕ) (session : SessionView L C) (e : Entry) → IsKept session e
-    → WroteSo since session (Some e) → session.reply.sent ≡ min (length since) (2 ^ 64 - 1) → AreReplies since (e ∷ [])
+one_reply : {L C : Type 0} (since : List ℕ) (session : SessionView L C) (e : Entry)
+    → IsKept session e
+    → WroteSo since session (Some e) → session.reply.sent ≡ min (length since) (2 ^ 64 - 1)
+    → AreReplies since (e ∷ [])
 one_reply since session e kept h sent = (
   (session.reply.owed ++ coming e.sent_body session.reply.writer, sym h ∙ append_assoc since session.reply.owed (coming e.sent_body session.reply.writer)),
   kept ∙ sent,
@@ -99,8 +95,9 @@ one_reply since session e kept h sent = (
 
 -- one exchange more before those that agree
 front_of : (now : LinkState) (e : Entry) (k : ℕ) (more : List Entry) (requests : List Message)
-    → e.body_error ≡ None → IfSome e.reply (λ reply. StoodAs e.how e (whole e.body k)) → AreOf now more requests
-    → AreOf now (e ∷ more) (record { head = e.head; both = e.both; body = whole e.body k } ∷ requests)
+    → e.body_error ≡ None → IfSome e.reply (λ reply. StoodAs e.how e (whole e.body k))
+    → AreOf now more requests → AreOf now (e ∷ more)
+    (record { head = e.head; both = e.both; body = whole e.body k } ∷ requests)
 front_of now e k [] [] unrefused stood h =
     (refl, refl, ([], sym (append-nil e.body)), record { refused = rw unrefused tt; replied = stood })
 front_of now e k [] (m ∷ requests) unrefused stood h = absurd h
@@ -109,7 +106,8 @@ front_of now e k (f ∷ more) (m ∷ requests) unrefused stood h =
     (refl, refl, (k, refl), record { refused = rw unrefused tt; replied = stood }, h)
 
 -- the requests of the exchanges that ended, before those of the rest
-read_agrees : (now : LinkState) (done behind : List Entry) (since rest : List ℕ) → ReadBehind since done rest
+read_agrees : (now : LinkState) (done behind : List Entry) (since rest : List ℕ)
+    → ReadBehind since done rest
     → (requests : List Message) × Begins rest requests × AreOf now behind requests
     → (requests : List Message) × Begins since requests × AreOf now (done ++ behind) requests
 read_agrees now [] behind since rest h last = (last.0, rw h last.1, last.2)
@@ -132,34 +130,41 @@ wrote_agrees (e ∷ more) behind since rest h last = on (more ++ behind) (wrote_
   on (f ∷ entries) replies = (h.0, h.1, h.2, replies)
 
 -- the exchanges that ended are done
-done_agrees : (flushed : ℕ → Type 0) (total : ℕ) (done : List Entry) (last : Option Entry) → DoneBehind flushed total done
-    → AreDone flushed total (done ++ option_to_list last)
+done_agrees : (flushed : ℕ → Type 0) (total : ℕ) (done : List Entry) (last : Option Entry)
+    → DoneBehind flushed total done → AreDone flushed total (done ++ option_to_list last)
 done_agrees flushed total [] None h = tt
 done_agrees flushed total [] (Some e) h = tt
 done_agrees flushed total (e ∷ []) None h = tt
 done_agrees flushed total (e ∷ []) (Some f) h = (h.0, tt)
 done_agrees flushed total (e ∷ f ∷ more) last h = (h.0, done_agrees flushed (total + e.written) (f ∷ more) last h.1)
 
-allowed_all : (gives : Given → Reply → Type 0) (done : List Entry) (last : Option Entry) → AllByRecursion (IsAllowed gives) done
+allowed_all : (gives : Given → Reply → Type 0) (done : List Entry) (last : Option Entry)
+    → AllByRecursion (IsAllowed gives) done
     → IfSome last (IsAllowed gives) → AllByRecursion (IsAllowed gives) (done ++ option_to_list last)
 allowed_all gives [] None ended h = tt
 allowed_all gives [] (Some e) ended h = (h, tt)
 allowed_all gives (e ∷ more) last ended h = (ended.0, allowed_all gives more last ended.1 h)
 
 -- the last exchange agrees with what was read after the others
-last_read : {L C : Type 0} (state : L → LinkState) (rest : List ℕ) (session : SessionView L C) (last : Option Entry)
+last_read : {L C : Type 0} (state : L → LinkState) (rest : List ℕ) (session : SessionView L C)
+    (last : Option Entry)
     → StoppedSo state session last → ReadSo rest session last
-    → (requests : List Message) × Begins rest requests × AreOf (state session.link) (option_to_list last) requests
+    → (requests : List Message) × Begins rest requests
+    × AreOf (state session.link) (option_to_list last) requests
 last_read state rest session None stopped h = ([], tt, tt)
 last_read state rest session (Some e) stopped h = one_request state rest session e stopped h
 
-last_wrote : {L C : Type 0} (rest : List ℕ) (session : SessionView L C) (last : Option Entry) → IfSome last (IsKept session)
-    → WroteSo rest session last → session.reply.sent ≡ min (length rest) (2 ^ 64 - 1) → AreReplies rest (option_to_list last)
+last_wrote : {L C : Type 0} (rest : List ℕ) (session : SessionView L C) (last : Option Entry)
+    → IfSome last (IsKept session)
+    → WroteSo rest session last → session.reply.sent ≡ min (length rest) (2 ^ 64 - 1)
+    → AreReplies rest (option_to_list last)
 last_wrote rest session None kept h sent = h.0
 last_wrote rest session (Some e) kept h sent = one_reply rest session e kept h sent
 
 -- a sound connection's transcript agrees
-pub agrees_sound : {L C J : Type 0} (gives : Given → Reply → Type 0) (runs : J → RequestView → Settings → Settings → List ℕ → Type 0) (limit : Option ℕ) (state : L → LinkState)
+pub agrees_sound : {L C J : Type 0} (gives : Given → Reply → Type 0)
+    (runs : J → RequestView → Settings → Settings → List ℕ → Type 0) (limit : Option ℕ)
+    (state : L → LinkState)
     (session : SessionView L C) (done : List Entry) (last : Option Entry) (at : Stage J) (end : Option End) (before : LinkState)
     → Sound gives runs limit session done last at end → Accounted state before session done last
     → Agrees gives limit before (state session.link) (done ++ option_to_list last)

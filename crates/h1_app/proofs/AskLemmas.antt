@@ -1,61 +1,53 @@
 -- Steps in which the application is asked.
 use Rattle.std.proofs.Common.{◌≡◌, length, Bool, true, false, None, Result, Ok, Err, refl, sym, ◌∙◌, ap, subst, arith}
 use Rattle.std.proofs.lemmas.List.{take_all}
-use Rattle.futures.specs.declared.task.Poll.{Poll}
-use Rattle.futures.specs.declared.task.Poll.TheVariants.{Ready, Pending}
-use Rattle.h1_error.specs.declared.error.Error.{Error}
-use Rattle.h1_link.specs.LinkState.{LinkState}
-use Rattle.h1_server.specs.SessionView.{SessionView}
-use Rattle.h1_transcript.specs.declared.reply.Reply.{Reply}
-use Rattle.h1_transcript.specs.declared.transcript.Entry.{Entry}
-use Rattle.h1_app.specs.declared.steps.answering.Asked.{Asked}
+use Rattle.h1_app.specs.Words.{Poll, Ready, Pending, Error, LinkState, SessionView, Reply, Entry, Asked, no_memory, ReadsOnly, given_by, payload_of, Given, given_to, RequestView, Settings}
 use Rattle.h1_app.specs.declared.steps.answering.Asked.TheVariants as asked
-use Rattle.h1_error.specs.declared.error.ErrorType.TheVariants.{NoMemory}
-use Rattle.h1_application.specs.Application.{ReadsOnly, GivesReply, given_by, payload_of}
-use Rattle.h1_transcript.specs.Given.{Given}
-use Rattle.h1_app.specs.Asking.{AsksAs, IsAskedOf, GivesAsked, noted}
-use Rattle.h1_transcript.specs.Exchange.{given_to}
-use Rattle.h1_app.specs.Sound.{lent}
-use Rattle.h1_head.specs.Views.{RequestView}
-use Rattle.h1_server.specs.declared.settings.Settings.{Settings}
+use Rattle.h1_application.specs.Application.{GivesReply}
+use Rattle.h1_app.proofs.Words.{AsksAs, GivesAsked, noted, lent}
+use Rattle.h1_app.specs.Asking.{IsAskedOf}
 
-asked_reads : (outcome : Poll (Result Reply Error)) (waits : Bool) (answer : Asked) → IsAskedOf outcome waits answer → answer ≡ asked.Reads → waits ≡ true
-asked_reads (Ready (Ok reply)) waits answer h e = cc
-asked_reads (Ready (Err error)) waits answer h e = cc
-asked_reads Pending true answer h e = refl
-asked_reads Pending false answer h e = cc
-
-asked_pends : (outcome : Poll (Result Reply Error)) (waits : Bool) (answer : Asked) → IsAskedOf outcome waits answer → answer ≡ asked.Pends → waits ≡ false
-asked_pends (Ready (Ok reply)) waits answer h e = cc
-asked_pends (Ready (Err error)) waits answer h e = cc
-asked_pends Pending true answer h e = cc
-asked_pends Pending false answer h e = refl
+-- the application waits for the body where a read was pending, and else for something of its own
+asked_waits : (outcome : Poll (Result Reply Error)) (waits : Bool) (answer : Asked)
+    → IsAskedOf outcome waits answer
+    → (answer ≡ asked.Reads → waits ≡ true) × (answer ≡ asked.Pends → waits ≡ false)
+asked_waits (Ready (Ok reply)) waits answer h = (λ e. cc, λ e. cc)
+asked_waits (Ready (Err error)) waits answer h = (λ e. cc, λ e. cc)
+asked_waits Pending true answer h = (λ e. refl, λ e. cc)
+asked_waits Pending false answer h = (λ e. cc, λ e. refl)
 
 -- the calls round the application's own
-pub asked_as : {L C : Type 0} (state : L → LinkState) (old kept behind calm new : SessionView L C) (e start noted_e : Entry) (outcome : Poll (Result Reply Error)) (waits : Bool) (answer : Asked)
-    → kept ≡ lent old e.body → ReadsOnly state kept behind → waits ≡ behind.body.waits → calm ≡ record behind { body = record behind.body { waits = false } }
-    → new ≡ record calm { body = record calm.body { kept = None } } → noted_e ≡ noted start calm → start ≡ record e { body = start.body }
+pub asked_as : {L C : Type 0} (state : L → LinkState) (old kept behind calm new : SessionView L C)
+    (e start noted_e : Entry) (outcome : Poll (Result Reply Error)) (waits : Bool) (answer : Asked)
+    → kept ≡ lent old e.body → ReadsOnly state kept behind → waits ≡ behind.body.waits
+    → calm ≡ record behind { body = record behind.body { waits = false } }
+    → new ≡ record calm { body = record calm.body { kept = None } }
+    → noted_e ≡ noted start calm → start ≡ record e { body = start.body }
     → IsAskedOf outcome waits answer → AsksAs state old new e noted_e answer
 asked_as {L} {C} state old kept behind calm new e start noted_e outcome waits answer k r w ca n ne st is = record {
   behind = behind;
   reads = subst (λ (x : SessionView L C). ReadsOnly state x behind) k r;
   session = n ∙ ap (λ (x : SessionView L C). record x { body = record x.body { kept = None } }) ca;
   entry = ne ∙ ap (noted start) ca ∙ ap (λ (x : Entry). noted x behind) st;
-  reading = (λ a. sym w ∙ asked_reads outcome waits answer is a);
-  pending = (λ a. sym w ∙ asked_pends outcome waits answer is a);
+  reading = (λ a. sym w ∙ (asked_waits outcome waits answer is).0 a);
+  pending = (λ a. sym w ∙ (asked_waits outcome waits answer is).1 a);
 }
 
 -- what the application gives is what it is seen to give
-pub gives_asked : (gives : Given → Reply → Type 0) (given : Given) (outcome : Poll (Result Reply Error)) (waits : Bool) (answer : Asked)
-    → GivesReply gives given (λ error. error.kind ≡ NoMemory) outcome → IsAskedOf outcome waits answer → GivesAsked gives given answer
+pub gives_asked : (gives : Given → Reply → Type 0) (given : Given)
+    (outcome : Poll (Result Reply Error)) (waits : Bool) (answer : Asked)
+    → GivesReply gives given (λ error. error ≡ no_memory) outcome → IsAskedOf outcome waits answer
+    → GivesAsked gives given answer
 gives_asked gives given (Ready (Ok reply)) waits answer h is = subst (GivesAsked gives given) (sym is) h
 gives_asked gives given (Ready (Err error)) waits answer h is = subst (GivesAsked gives given) (sym is) h
 gives_asked gives given Pending true answer h is = subst (GivesAsked gives given) (sym is) tt
 gives_asked gives given Pending false answer h is = subst (GivesAsked gives given) (sym is) tt
 
 -- the exchange was handed all payload that the session has for it
-pub given_noted : {L C : Type 0} (e : Entry) (session : SessionView L C) (head : RequestView) (began : Settings)
-    → ◌≡◌ {A = Given} (given_by head began session) (record (given_to (noted e session) head) { began = began })
+pub given_noted : {L C : Type 0} (e : Entry) (session : SessionView L C) (head : RequestView)
+    (began : Settings)
+    → ◌≡◌ {A = Given} (given_by head began session)
+    (record (given_to (noted e session) head) { began = began })
 given_noted e session head began =
     ap (λ xs. record (given_by head began session) { handed = xs })
     (sym (take_all (length (payload_of session)) (payload_of session) (omega arith)))

@@ -1,56 +1,30 @@
 -- What the rest of a request's body comes to after its reply, and why a connection isn't kept.
-use Rattle.std.proofs.Common.{◌≡◌, ℕ, ◌+◌, ◌-◌, ◌<◌, ◌≤◌, ◌⊎◌, inl, inr, zero, suc, List, [], ◌∷◌, ◌++◌, length, Bool, true, false, Option, Some, None, IfSome, IsSome, Result, Ok, Err, option_map, unwrap_or, refl, sym, ◌∙◌, ap, subst, append-nil, arith, ◌&&◌}
-use Rattle.h1_transfer.specs.Calls.{Called, Fault}
+use Rattle.std.proofs.Common.{◌≡◌, ℕ, ◌+◌, ◌-◌, ◌<◌, ◌≤◌, ◌⊎◌, inl, inr, zero, suc, List, [], ◌∷◌, ◌++◌, length, Bool, true, false, Some, None, IfSome, IsSome, Result, Ok, Err, option_map, unwrap_or, refl, sym, ◌∙◌, ap, subst, append-nil, arith, ◌&&◌}
+use Rattle.h1_app.specs.Words.{Poll, Ready, Pending, Error, LinkState, Rose, Body, whole, unfinished, broken, ahead, chunked, reads, read_as, Chunking, BodyReader, Reading, Decoded, Lacks, Moved, BodyRefusal, is_whole, ReusesBy, keeps_alive, may_go_on, is_replied, SessionView, allowance, BodyState, Entry, How, Open, Whole, Failed, payload_of}
 use Rattle.std.proofs.lemmas.Bool.{false≢true}
-use Rattle.futures.specs.declared.task.Poll.{Poll}
-use Rattle.futures.specs.declared.task.Poll.TheVariants.{Ready, Pending}
-use Rattle.h1_error.specs.declared.error.Error.{Error}
-use Rattle.h1_error.specs.declared.error.ErrorType.{ErrorType}
-use Rattle.h1_error.specs.declared.error.ErrorType.TheVariants as kind
-use Rattle.h1_link.specs.LinkState.{LinkState}
-use Rattle.h1_link.specs.Counts.{Rose}
 use Rattle.h1_link.specs.Steps.{after_shutdown}
 use Rattle.h1_link.proofs.Laters.{later_shutdown}
-use Rattle.h1_body.specs.Body.{Body, whole, unfinished, broken, ahead}
-use Rattle.h1_body.specs.Chunks.{chunked}
-use Rattle.h1_body.specs.Reader.{reads, read_as}
-use Rattle.h1_body.specs.declared.chunking.Chunking.{Chunking}
 use Rattle.h1_body.specs.declared.chunking.Chunking.TheVariants as place
-use Rattle.h1_body.specs.declared.reader.BodyReader.{BodyReader}
-use Rattle.h1_body.specs.declared.reader.Reading.{Reading}
 use Rattle.h1_body.specs.declared.reader.Reading.TheVariants as reading
 use Rattle.h1_body.proofs.CountedLemmas.{counted_has, counted_lacks}
 use Rattle.h1_body.proofs.RunLemmas.{ahead_none}
-use Rattle.h1_transfer.specs.Decoding.{Decoded, Lacks}
-use Rattle.h1_transfer.specs.Moved.{Moved}
-use Rattle.h1_server.specs.Payload.{BodyRefusal, DrainsBody, DrainAnswer}
-use Rattle.h1_server.specs.Persistence.{is_whole}
-use Rattle.h1_server.specs.Reuse.{ReusesBy, ReuseAnswer, keeps_alive, may_follow, may_go_on, is_replied}
-use Rattle.h1_server.specs.SessionView.{SessionView}
-use Rattle.h1_transfer.specs.Budget.{allowance}
-use Rattle.h1_transfer.specs.declared.body.BodyState.{BodyState}
+use Rattle.h1_server.specs.Payload.{DrainsBody, DrainAnswer}
+use Rattle.h1_server.specs.Persistence.{may_follow}
+use Rattle.h1_server.specs.Reuse.{ReuseAnswer}
 use Rattle.h1_transfer.proofs.MovedLemmas.{moved_itself}
-use Rattle.h1_transcript.specs.declared.transcript.Entry.{Entry}
-use Rattle.h1_transcript.specs.declared.transcript.How.{How}
-use Rattle.h1_transcript.specs.declared.transcript.How.TheVariants.{Open, Whole, Failed}
-use Rattle.h1_application.specs.Application.{payload_of}
-use Rattle.h1_app.specs.Draining.{ReusesAs}
-use Rattle.h1_app.specs.Accounted.{StoodSo}
-use Rattle.h1_app.specs.Sound.{lent}
-
--- what an option holds goes on to something else
-pub if_some_on : {A : Type 0} (o : Option A) (P Q : A → Type 0) → ((x : A) → P x → Q x) → IfSome o P → IfSome o Q
-if_some_on None P Q step h = tt
-if_some_on (Some x) P Q step h = step x h
+use Rattle.h1_application.proofs.ReadLemmas.{budget_itself, budget_none, budget_spent, within_itself, within_spent}
+use Rattle.h1_app.proofs.Words.{ReusesAs, StoodSo, lent}
 
 -- a chunked body at its end takes no byte
-chunks_end : (s : Chunking) (bytes : List ℕ) → is_whole (chunked s []) ≡ true → chunked s bytes ≡ whole [] 0
+chunks_end : (s : Chunking) (bytes : List ℕ) → is_whole (chunked s []) ≡ true
+    → chunked s bytes ≡ whole [] 0
 chunks_end place.Done [] h = refl
 chunks_end place.Done (b ∷ bytes) h = refl
 chunks_end s bytes h = absurd (false≢true h)
 
 -- nor does any other
-pub reading_end : (r : Reading) (bytes : List ℕ) → is_whole (read_as r []) ≡ true → read_as r bytes ≡ whole [] 0
+pub reading_end : (r : Reading) (bytes : List ℕ) → is_whole (read_as r []) ≡ true
+    → read_as r bytes ≡ whole [] 0
 reading_end (reading.Counted zero) bytes h = counted_has 0 bytes (omega arith)
 reading_end (reading.Counted (suc n)) bytes h = absurd (false≢true (sym (ap is_whole (counted_lacks (suc n) [] (omega arith))) ∙ h))
 reading_end (reading.Chunked s) bytes h = chunks_end s bytes h
@@ -67,7 +41,8 @@ pub decoded_end : (old new : BodyReader) (used payload : List ℕ) → Decoded o
 decoded_end old new used payload d h =
     parts (reads new []) (sym (d.reads []) ∙ reading_end old.reading (used ++ []) h)
   where
-    parts : (b : Body) → ahead payload (length used) b ≡ whole [] 0 → (payload ≡ []) × (is_whole b ≡ true)
+    parts : (b : Body) → ahead payload (length used) b ≡ whole [] 0
+        → (payload ≡ []) × (is_whole b ≡ true)
     parts (whole xs n) e = let front : payload ++ xs ≡ [] = cc in (nothing_in_front payload xs front, refl)
     parts (unfinished xs) e = absurd (cc)
     parts (broken xs) e = absurd (cc)
@@ -100,6 +75,7 @@ pub record Reused {L C : Type 0} (state : L → LinkState) (old new : SessionVie
   pub entry : f ≡ record e { body = e.body ++ payload }
   pub request : new.request ≡ old.request
   pub reply : new.reply ≡ old.reply
+  pub keep : new.keep ≡ old.keep
   pub settings : new.settings ≡ old.settings
   pub context : new.context ≡ old.context
   pub kept : new.body.kept ≡ None
@@ -125,21 +101,13 @@ moved_shut s =
       later = later_shutdown s;
     }
 
-none_spent : (budget : Option ℕ) → (budget ≡ option_map (λ left. left - 0) budget) × IfSome budget (λ left. 0 ≤ left)
-none_spent None = (refl, tt)
-none_spent (Some left) = let same : left ≡ left - 0 = omega arith in (ap Some same, omega arith)
-
-some_spent : (old new : Option ℕ) (left : ℕ) → IsSome old → new ≡ option_map (λ _. left) old → left ≤ allowance old
-    → (new ≡ option_map (λ all. all - (allowance old - left)) old) × IfSome old (λ all. allowance old - left ≤ all)
-some_spent None new left some e within = absurd (false≢true some)
-some_spent (Some all) new left some e within =
-    let same : all - (all - left) ≡ left = omega arith in (e ∙ ap Some (sym same), omega arith)
-
 -- a link that is shut: nothing was read
-reused_shut : {L C : Type 0} (state : L → LinkState) (old behind new : SessionView L C) (e f : Entry)
+reused_shut : {L C : Type 0} (state : L → LinkState) (old behind new : SessionView L C)
+    (e f : Entry)
     → state behind.link ≡ after_shutdown (state old.link)
     → behind ≡ record (lent old e.body) { link = behind.link; reusable = false }
-    → new ≡ record behind { body = record behind.body { kept = None } } → f ≡ record e { body = payload_of behind }
+    → new ≡ record behind { body = record behind.body { kept = None } }
+    → f ≡ record e { body = payload_of behind }
     → Reused state old new e f
 reused_shut {L} {C} state old behind new e f shut is session entry =
     let shape : new ≡ record (taken_from old false) { link = behind.link } =
@@ -150,14 +118,15 @@ reused_shut {L} {C} state old behind new e f shut is session entry =
       payload = [];
       spent = 0;
       moved = subst (λ s. Moved (state old.link) s [] [] 0) (sym shut) (moved_shut (state old.link));
-      budget = (none_spent old.budget).0;
-      within = (none_spent old.budget).1;
+      budget = budget_itself old.budget;
+      within = within_itself old.budget;
       bytes = append-nil old.received;
       decoded = record { reads = λ more. sym (ahead_none (reads old.body.reader more)) };
       entry = entry ∙ ap (λ xs. record e { body = xs })
           (ap (λ (x : SessionView L C). payload_of x) is ∙ sym (append-nil e.body));
       request = refl;
       reply = refl;
+      keep = refl;
       settings = refl;
       context = refl;
       kept = refl;
@@ -167,31 +136,37 @@ reused_shut {L} {C} state old behind new e f shut is session entry =
     subst (λ (x : SessionView L C). Reused state old x e f) (sym shape) made
 
 -- the session after a drain of a link that is kept
-drained_shape : {L C : Type 0} (drained behind new : SessionView L C) → behind ≡ record drained { reusable = behind.reusable }
-    → new ≡ record behind { body = record behind.body { kept = None } } → new ≡ taken_from drained behind.reusable
+drained_shape : {L C : Type 0} (drained behind new : SessionView L C)
+    → behind ≡ record drained { reusable = behind.reusable }
+    → new ≡ record behind { body = record behind.body { kept = None } }
+    → new ≡ taken_from drained behind.reusable
 drained_shape {L} {C} drained behind new is session =
     session ∙ ap (λ (x : SessionView L C). record x { body = record x.body { kept = None } }) is
 
-reused_drained : {L C : Type 0} (state : L → LinkState) (old drained behind new : SessionView L C) (e f : Entry) (outcome : Poll (Result (Unit {0}) Error))
-    → IsSome old.budget → DrainsBody state (lent old e.body) drained outcome → behind ≡ record drained { reusable = behind.reusable }
-    → new ≡ record behind { body = record behind.body { kept = None } } → f ≡ record e { body = payload_of behind }
+-- one that is kept: the rest of the body was read
+reused_drained : {L C : Type 0} (state : L → LinkState) (old drained behind new : SessionView L C)
+    (e f : Entry) (outcome : Poll (Result (Unit {0}) Error))
+    → DrainsBody state (lent old e.body) drained outcome
+    → behind ≡ record drained { reusable = behind.reusable }
+    → new ≡ record behind { body = record behind.body { kept = None } }
+    → f ≡ record e { body = payload_of behind }
     → Reused state old new e f
-reused_drained {L} {C} state old drained behind new e f outcome some d is session entry =
-    let spent = some_spent old.budget drained.budget d.left some d.budget d.reads.within in
+reused_drained {L} {C} state old drained behind new e f outcome d is session entry =
     let made : Reused state old (taken_from drained behind.reusable) e f = record {
       piece = d.reads.piece;
       used = d.reads.used;
       payload = d.payload;
       spent = allowance old.budget - d.left;
       moved = d.reads.moved;
-      budget = spent.0;
-      within = spent.1;
+      budget = budget_spent old.budget drained.budget d.left d.reads.within d.budget;
+      within = within_spent old.budget d.left;
       bytes = d.reads.bytes;
       decoded = d.reads.decoded;
       entry = entry ∙ ap (λ xs. record e { body = xs })
           (ap (λ (x : SessionView L C). payload_of x) is ∙ ap (λ kept. unwrap_or kept []) d.reads.keeps_payload);
       request = ap (λ (s : SessionView L C). s.request) d.rest;
       reply = ap (λ (s : SessionView L C). s.reply) d.rest;
+      keep = ap (λ (s : SessionView L C). s.keep) d.rest;
       settings = ap (λ (s : SessionView L C). s.settings) d.rest;
       context = ap (λ (s : SessionView L C). s.context) d.rest;
       kept = refl;
@@ -200,12 +175,15 @@ reused_drained {L} {C} state old drained behind new e f outcome some d is sessio
     } in
     subst (λ (x : SessionView L C). Reused state old x e f) (sym (drained_shape drained behind new is session)) made
 
-pub reused : {L C : Type 0} (state : L → LinkState) (old new : SessionView L C) (e f : Entry) (answer : Poll (Result Bool Error))
-    → IsSome old.budget → ReusesAs state old new e f answer → Reused state old new e f
-reused {L} {C} state old new e f answer some h = by_alive (keeps_alive old) h.reuses
+-- the call, whatever it answered
+pub reused : {L C : Type 0} (state : L → LinkState) (old new : SessionView L C) (e f : Entry)
+    (answer : Poll (Result Bool Error)) → ReusesAs state old new e f answer
+    → Reused state old new e f
+reused {L} {C} state old new e f answer h = by_alive (keeps_alive old) h.reuses
   where
-    by_alive : (t : Bool) → ReusesBy state (lent old e.body) h.behind answer t → Reused state old new e f
-    by_alive true r = reused_drained state old r.0 h.behind new e f r.1 some r.2 r.3 h.session h.entry
+    by_alive : (t : Bool) → ReusesBy state (lent old e.body) h.behind answer t
+        → Reused state old new e f
+    by_alive true r = reused_drained state old r.0 h.behind new e f r.1 r.2 r.3 h.session h.entry
     by_alive false r = reused_shut state old h.behind new e f r.1 r.2 h.session h.entry
 
 -- bytes were received after the request where none may be
@@ -219,29 +197,20 @@ abbrev pub Answered : {L C : Type 0} → (L → LinkState) → SessionView L C �
 Answered state old new (Ready (Ok true)) =
     (keeps_alive old ≡ true) × (reads new.body.reader [] ≡ whole [] 0) × (new.body.refused ≡ None)
     × (new.reusable ≡ true) × ((state new.link).read_waits ≡ (state old.link).read_waits)
+    × (may_follow new.settings.pipelining new.received ≡ true)
 Answered state old new (Ready (Ok false)) =
     (keeps_alive new ≡ keeps_alive old) × ((keeps_alive old ≡ false) ⊎ ((keeps_alive old ≡ true) × HasMore new))
-Answered state old new (Ready (Err error)) = (keeps_alive old ≡ true) × BodyRefusal state old new error.kind
+Answered state old new (Ready (Err error)) =
+    (keeps_alive old ≡ true) × BodyRefusal state old new error.kind × (error.retry ≡ false)
 Answered state old new Pending =
     (keeps_alive old ≡ true) × Lacks new.body.reader new.received × (new.body.refused ≡ None)
     × (Rose (state old.link).read_waits (state new.link).read_waits ⊎ (new.budget ≡ Some 0))
 
-alive_same : {L C : Type 0} (a b : SessionView L C) → b.settings ≡ a.settings → b.request ≡ a.request → b.reply ≡ a.reply
-    → b.body.refused ≡ a.body.refused → keeps_alive b ≡ keeps_alive a
-alive_same a b settings request reply refused = rw (settings, request, reply, refused) refl
-
--- a refusal of the drain is one after it
-refusal_taken : {L C : Type 0} (state : L → LinkState) (old drained : SessionView L C) (payload : List ℕ) (reusable : Bool) (k : ErrorType)
-    → BodyRefusal state (lent old payload) drained k → BodyRefusal state old (taken_from drained reusable) k
-refusal_taken state old drained payload reusable kind.InvalidBody h = h
-refusal_taken state old drained payload reusable kind.ConnectionClosed h = h
-refusal_taken state old drained payload reusable kind.ReadError h = h
-refusal_taken state old drained payload reusable kind.NoMemory h = h
-refusal_taken state old drained payload reusable _ h = absurd h
-
-spent_all : (old new : Option ℕ) (left : ℕ) → IsSome old → new ≡ option_map (λ _. left) old → left ≡ 0 → new ≡ Some 0
-spent_all None new left some e none = absurd (false≢true some)
-spent_all (Some all) new left some e none = e ∙ ap Some none
+alive_same : {L C : Type 0} (a b : SessionView L C) → b.settings ≡ a.settings
+    → b.request ≡ a.request → b.reply ≡ a.reply
+    → b.keep ≡ a.keep → b.body.refused ≡ a.body.refused → keeps_alive b ≡ keeps_alive a
+alive_same a b settings request reply keep refused =
+    rw (settings, request, reply, keep, refused) refl
 
 -- with pipelining off nothing may follow
 not_followed : (pipelining : Bool) (received : List ℕ) → may_follow pipelining received ≡ false
@@ -250,7 +219,8 @@ not_followed true received h = absurd (false≢true (sym h))
 not_followed false [] h = absurd (false≢true (sym h))
 not_followed false (b ∷ received) h = (refl, omega arith)
 
-answered_kept : {L C : Type 0} (state : L → LinkState) (old drained : SessionView L C) (payload : List ℕ) (reusable : Bool) (outcome : Poll (Result (Unit {0}) Error))
+answered_kept : {L C : Type 0} (state : L → LinkState) (old drained : SessionView L C)
+    (payload : List ℕ) (reusable : Bool) (outcome : Poll (Result (Unit {0}) Error))
     (answer : Poll (Result Bool Error)) → keeps_alive old ≡ true → IsSome old.budget → old.body.refused ≡ None
     → DrainsBody state (lent old payload) drained outcome
     → ReuseAnswer (record drained { reusable = reusable }) outcome answer
@@ -259,23 +229,27 @@ answered_kept {L} {C} state old drained payload reusable outcome answer alive so
     by_outcome outcome d.answer a
   where
     why : Rose (state old.link).read_waits (state drained.link).read_waits ⊎ (d.left ≡ 0)
-        → Rose (state old.link).read_waits (state drained.link).read_waits ⊎ (drained.budget ≡ Some 0)
+        → Rose (state old.link).read_waits (state drained.link).read_waits
+        ⊎ (drained.budget ≡ Some 0)
     why (inl rose) = inl rose
-    why (inr none) = inr (spent_all old.budget drained.budget d.left some d.budget none)
+    why (inr none) = inr (budget_none old.budget drained.budget d.left some d.budget none)
 
-    by_reusable : (t : Bool) → reads drained.body.reader [] ≡ whole [] 0 → drained.body.refused ≡ None
+    by_reusable : (t : Bool) → reads drained.body.reader [] ≡ whole [] 0
+        → drained.body.refused ≡ None
         → (state drained.link).read_waits ≡ (state old.link).read_waits
         → t ≡ may_follow drained.settings.pipelining drained.received
         → Answered state old (taken_from drained t) (Ready (Ok t))
-    by_reusable true read none still may = (alive, read, none, refl, still)
+    by_reusable true read none still may = (alive, read, none, refl, still, sym may)
     by_reusable false read none still may =
         let follows = not_followed drained.settings.pipelining drained.received (sym may) in (
           alive_same old drained (ap (λ (s : SessionView L C). s.settings) d.rest) (ap (λ (s : SessionView L C). s.request) d.rest)
-              (ap (λ (s : SessionView L C). s.reply) d.rest) (none ∙ sym unrefused),
+              (ap (λ (s : SessionView L C). s.reply) d.rest)
+              (ap (λ (s : SessionView L C). s.keep) d.rest) (none ∙ sym unrefused),
           inr (alive, record { read = read; pipelining = follows.0; more = follows.1 }),
         )
 
-    by_outcome : (o : Poll (Result (Unit {0}) Error)) → DrainAnswer state (lent old payload) drained d.left o
+    by_outcome : (o : Poll (Result (Unit {0}) Error))
+        → DrainAnswer state (lent old payload) drained d.left o
         → ReuseAnswer (record drained { reusable = reusable }) o answer
         → Answered state old (taken_from drained reusable) answer
     by_outcome (Ready (Ok done)) h a =
@@ -283,15 +257,18 @@ answered_kept {L} {C} state old drained payload reusable outcome answer alive so
         (by_reusable reusable h.0 h.1 h.2 a.0)
     by_outcome (Ready (Err error)) h a =
         subst (λ x. Answered state old (taken_from drained reusable) x) (sym a.1)
-        (alive, refusal_taken state old drained payload reusable error.kind h.1)
+        (alive, h.1, h.2)
     by_outcome Pending h a =
         subst (λ x. Answered state old (taken_from drained reusable) x) (sym a.1) (alive, h.0, h.1, why h.2)
 
-pub answered : {L C : Type 0} (state : L → LinkState) (old new : SessionView L C) (e f : Entry) (answer : Poll (Result Bool Error))
-    → IsSome old.budget → old.body.refused ≡ None → ReusesAs state old new e f answer → Answered state old new answer
+pub answered : {L C : Type 0} (state : L → LinkState) (old new : SessionView L C) (e f : Entry)
+    (answer : Poll (Result Bool Error))
+    → IsSome old.budget → old.body.refused ≡ None → ReusesAs state old new e f answer
+    → Answered state old new answer
 answered {L} {C} state old new e f answer some unrefused h = by_alive (keeps_alive old) refl h.reuses
   where
-    by_alive : (t : Bool) → keeps_alive old ≡ t → ReusesBy state (lent old e.body) h.behind answer t → Answered state old new answer
+    by_alive : (t : Bool) → keeps_alive old ≡ t → ReusesBy state (lent old e.body) h.behind answer t
+        → Answered state old new answer
     by_alive true alive r =
         let kept = answered_kept state old r.0 e.body h.behind.reusable r.1 answer alive some unrefused r.2
         (subst (λ (x : SessionView L C). ReuseAnswer x r.1 answer) r.3 r.4) in
@@ -308,10 +285,12 @@ alive_replied true replied is = is
 alive_replied false replied is = refl
 
 -- the session is lent the payload, asked, and gives the payload back
-pub reuses_as : {L C : Type 0} (state : L → LinkState) (old asked behind new : SessionView L C) (e : Entry) (payload : List ℕ) (answer : Poll (Result Bool Error))
-    → is_replied old.reply ≡ true → asked ≡ lent old e.body → ReusesBy state asked behind answer (may_go_on asked)
-    → new ≡ record behind { body = record behind.body { kept = None } } → payload ≡ payload_of behind
-    → ReusesAs state old new e (record e { body = payload }) answer
+pub reuses_as : {L C : Type 0} (state : L → LinkState) (old asked behind new : SessionView L C)
+    (e : Entry) (payload : List ℕ) (answer : Poll (Result Bool Error))
+    → is_replied old.reply ≡ true → asked ≡ lent old e.body
+    → ReusesBy state asked behind answer (may_go_on asked)
+    → new ≡ record behind { body = record behind.body { kept = None } }
+    → payload ≡ payload_of behind → ReusesAs state old new e (record e { body = payload }) answer
 reuses_as {L} {C} state old asked behind new e payload answer replied lent_is reuses session is = record {
   behind = behind;
   reuses = subst (λ t. ReusesBy state (lent old e.body) behind answer t) (alive_replied (keeps_alive old) (is_replied old.reply) replied)

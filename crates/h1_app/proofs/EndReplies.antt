@@ -1,12 +1,10 @@
 -- How a connection stands once its reply is written, and why it ends.
-use Rattle.std.proofs.Common.{◌≡◌, ℕ, ◌+◌, ◌-◌, ◌^◌, ◌<◌, ◌⊎◌, inl, inr, min, List, [], ◌∷◌, ◌++◌, length, take, Bool, true, false, cond, nat_lt, nat_le, Option, Some, IfSome, refl, sym, ◌∙◌, ap, subst, append-nil, length-take, arith, codes}
+use Rattle.std.proofs.Common.{◌≡◌, ℕ, ◌+◌, ◌-◌, ◌^◌, ◌<◌, ◌⊎◌, inl, inr, min, List, [], ◌∷◌, ◌++◌, length, take, Bool, true, false, cond, nat_lt, nat_le, Some, refl, sym, ◌∙◌, ap, subst, append-nil, length-take, arith, codes}
 use Rattle.std.proofs.lemmas.Bool.{false≢true, ltb-true, lt-ltb}
 use Rattle.std.proofs.lemmas.Option.{none-some}
-use Rattle.std.specs.List.{AllByRecursion}
-use Rattle.h1_error.specs.declared.error.Error.{Error}
-use Rattle.h1_error.specs.declared.error.ErrorType.{ErrorType}
+use Rattle.h1_app.specs.Words.{AllByRecursion, Error, ErrorType, LinkState, ResponseView, whole, unfinished, broken, ahead, chunked, body, reads, read_as, framing, out, begun, after_piece, end_bytes, Framing, Counted, Chunked, UntilClose, Chunking, Reading, SessionView, Reply, Entry, WroteBehind, AfterWrote, FlushedBy, written_of, FailureCause, EndCause, IsComplete, IsWrittenShort, LastStands, render, is_short, shown, IfTold}
 use Rattle.h1_error.specs.declared.error.ErrorType.TheVariants as kind
-use Rattle.h1_link.specs.LinkState.{LinkState}
+use Rattle.h1_error.specs.declared.progress.End.TheVariants as end
 use Rattle.h1_fields.specs.Lines.{Line}
 use Rattle.h1_fields.specs.ListParts.{parts_of}
 use Rattle.h1_fields.specs.Codings.{is_chunked_last}
@@ -14,26 +12,13 @@ use Rattle.h1_fields.specs.ContentLength.{content_length, IsNumber}
 use Rattle.h1_fields.specs.declared.content_length.ContentLength.{ContentLength}
 use Rattle.h1_fields.specs.declared.content_length.ContentLength.TheVariants as stated
 use Rattle.h1_fields.proofs.LengthLemmas.{length_only}
-use Rattle.h1_head.specs.Views.{ResponseView}
-use Rattle.h1_body.specs.Body.{whole, unfinished, broken, ahead}
-use Rattle.h1_body.specs.Chunks.{chunked}
-use Rattle.h1_body.specs.Reader.{body, reads, read_as}
-use Rattle.h1_body.specs.Framing.{framing, out, by_length, by_fields, has_no_body}
-use Rattle.h1_body.specs.Writer.{begun, after_piece, end_bytes, lacks}
-use Rattle.h1_body.specs.declared.framing.Framing.{Framing}
-use Rattle.h1_body.specs.declared.framing.Framing.TheVariants.{Counted, Chunked, UntilClose}
-use Rattle.h1_body.specs.declared.chunking.Chunking.{Chunking}
+use Rattle.h1_body.specs.Framing.{by_length, by_fields, has_no_body}
+use Rattle.h1_body.specs.Writer.{lacks}
 use Rattle.h1_body.specs.declared.chunking.Chunking.TheVariants as place
-use Rattle.h1_body.specs.declared.reader.Reading.{Reading}
 use Rattle.h1_body.specs.declared.reader.Reading.TheVariants as reading
-use Rattle.h1_server.specs.SessionView.{SessionView}
-use Rattle.h1_transcript.specs.declared.reply.Reply.{Reply}
-use Rattle.h1_transcript.specs.declared.transcript.Entry.{Entry}
-use Rattle.h1_transcript.specs.Behind.{WroteBehind, AfterWrote, FlushedBy, written_of}
-use Rattle.h1_transcript.specs.Ends.{FailureCause, IsComplete, IsWrittenShort, EndsBody, LastStands}
-use Rattle.h1_transcript.specs.Exchange.{render, is_short, shown}
-use Rattle.h1_app.specs.Accounted.{Accounted, ReadEntry, WroteSo, coming, StopsBody}
-use Rattle.h1_transcript.specs.Told.{IfTold}
+use Rattle.h1_transcript.specs.Ends.{EndsBody}
+use Rattle.h1_app.proofs.Words.{Accounted, ReadEntry, WroteSo, coming, StopsBody, StopsWith}
+use Rattle.h1_app.proofs.ReplyLemmas.{at_some}
 use Rattle.h1_transcript.proofs.BehindLemmas.{told_map, read_map}
 
 -- a chunked body that is broken stays so
@@ -88,10 +73,10 @@ stands_unfinished since e session r none h = record {
 }
 
 -- an error of the request's body ends the connection for its own cause
-stop_cause : {L C : Type 0} (state : L → LinkState) (before old : LinkState) (done : List Entry) (session : SessionView L C)
-    (e : Entry) (error : Error) (k : ErrorType)
-    → Accounted state before session done (Some e) → EndsBody before (state session.link) done e error
-    → StopsBody state session k
+stop_cause : {L C : Type 0} (state : L → LinkState) (before old : LinkState) (done : List Entry)
+    (session : SessionView L C) (e : Entry) (error : Error) (k : ErrorType)
+    → Accounted state before session done (Some e)
+    → EndsBody before (state session.link) done e error → StopsBody state session k
     → FailureCause before old (state session.link) done (Some e) error k
 stop_cause state before old done session e error kind.InvalidBody s ends h = (
   inl ends,
@@ -117,49 +102,53 @@ stop_cause state before old done session e error kind.ReadError s ends h = inr (
 stop_cause state before old done session e error kind.NoMemory s ends h = tt
 stop_cause state before old done session e error _ s ends h = absurd h
 
-pub stopped_cause : {L C : Type 0} (state : L → LinkState) (before old : LinkState) (done : List Entry)
-    (session : SessionView L C) (e : Entry) (error : Error)
+pub stopped_cause : {L C : Type 0} (state : L → LinkState) (before old : LinkState)
+    (done : List Entry) (session : SessionView L C) (e : Entry) (error : Error)
     → Accounted state before session done (Some e) → e.body_error ≡ Some error
-    → IsComplete before (state session.link) done e ⊎ IsWrittenShort before (state session.link) done e
-    → FailureCause before old (state session.link) done (Some e) error error.kind
+    → IsComplete before (state session.link) done e
+    ⊎ IsWrittenShort before (state session.link) done e
+    → EndCause before old (state session.link) done (Some e) (end.Failed error)
 stopped_cause state before old done session e error s is replied =
-    let stops : IfSome (Some error) (λ error. StopsBody state session error.kind) =
-    subst (λ (x : Option Error). IfSome x (λ error. StopsBody state session error.kind)) is
-    s.stopped in
-    stop_cause state before old done session e error error.kind s (record { is = is; replied = replied })
-    stops
+    let stops = at_some (StopsWith state session) e.body_error error is s.stopped in (
+      stops.1,
+      stop_cause state before old done session e error error.kind s
+          (record { is = is; replied = replied }) stops.0,
+    )
 
 -- all of the reply is written
-written_whole : {L C : Type 0} (since : List ℕ) (session : SessionView L C) (e : Entry) (sent : List ℕ)
+written_whole : {L C : Type 0} (since : List ℕ) (session : SessionView L C) (e : Entry)
+    (sent : List ℕ)
     → session.reply.owed ≡ [] → e.sent_body ≡ Some sent → end_bytes session.reply.writer ≡ []
     → WroteSo since session (Some e) → since ≡ render e
 written_whole since session e sent none is ended h =
     sym (ap (λ x. since ++ session.reply.owed ++ coming x session.reply.writer) is ∙ ap
     (λ xs. since ++ session.reply.owed ++ xs) ended
-    ∙ append-nil (since ++ session.reply.owed) ∙ ap (λ xs. since ++ xs) none ∙ append-nil since) ∙ h
+    ∙ append-nil (since ++ session.reply.owed) ∙ ap (λ xs. since ++ xs) none
+    ∙ append-nil since) ∙ h
 
-pub told_whole : {L C : Type 0} (state : L → LinkState) (before : LinkState) (done : List Entry) (session : SessionView L C)
-    (e : Entry) (sent : List ℕ)
-    → Accounted state before session done (Some e) → session.reply.owed ≡ [] → e.sent_body ≡ Some sent
-    → end_bytes session.reply.writer ≡ []
-    → IfTold before.written (state session.link).written (λ since. WroteBehind since done (render e))
+pub told_whole : {L C : Type 0} (state : L → LinkState) (before : LinkState) (done : List Entry)
+    (session : SessionView L C) (e : Entry) (sent : List ℕ)
+    → Accounted state before session done (Some e) → session.reply.owed ≡ []
+    → e.sent_body ≡ Some sent → end_bytes session.reply.writer ≡ []
+    → IfTold before.written (state session.link).written
+    (λ since. WroteBehind since done (render e))
 told_whole state before done session e sent s none is ended =
     told_map before.written (state session.link).written
     (AfterWrote done (λ rest. WroteSo rest session (Some e) ×
-    (session.reply.sent ≡ min (length rest) (2 ^ 64 - 1)))) (λ since. WroteBehind since done (render e))
+    (session.reply.sent ≡ min (length rest) (2 ^ 64 - 1))))
+    (λ since. WroteBehind since done (render e))
     (λ since h. subst (λ xs. WroteBehind since done xs)
     (written_whole h.0 session e sent none is ended h.2.0) h.1) s.wrote
 
 -- a reply that is written whole was flushed, where nothing of it is owed
-pub complete : {L C : Type 0} (state : L → LinkState) (before : LinkState) (done : List Entry) (session : SessionView L C)
-    (e : Entry) (head : ResponseView) (sent : List ℕ)
+pub complete : {L C : Type 0} (state : L → LinkState) (before : LinkState) (done : List Entry)
+    (session : SessionView L C) (e : Entry) (head : ResponseView) (sent : List ℕ)
     → e.owed ≡ false → Accounted state before session done (Some e) → session.reply.owed ≡ []
-    → end_bytes session.reply.writer ≡ []
-    → e.sent_head ≡ Some head → e.sent_body ≡ Some sent
+    → end_bytes session.reply.writer ≡ [] → e.sent_head ≡ Some head → e.sent_body ≡ Some sent
     → IsComplete before (state session.link) done e
 complete state before done session e head sent unowed s none ended headed is =
-    let settled : IfSome (Some head) (λ head. e.owed ≡ false → FlushedBy before (state session.link) (written_of done + e.written)) =
-    subst (λ x. IfSome x (λ head. e.owed ≡ false → FlushedBy before (state session.link) (written_of done + e.written))) headed
+    let settled = at_some (λ (head : ResponseView). e.owed ≡ false
+    → FlushedBy before (state session.link) (written_of done + e.written)) e.sent_head head headed
     s.settled in
     record {
       sent_head = λ p. none-some head (sym p ∙ headed);
@@ -210,76 +199,43 @@ out_limit method head n h =
     chunked_is : Chunked ≡ Counted n → ⊥
     chunked_is x = cc
 
--- a writer that lacks payload has a body that is shorter than its head states
-short_body : (f : Framing) (payload : List ℕ)
-    → lacks (Some f) (after_piece (begun f) payload).written ≡ true
-    → (n : ℕ) × (f ≡ Counted n) × (n < 2 ^ 64 → length payload < n)
-short_body (Counted n) payload h = (
-  n,
-  refl,
-  λ limit. let less = ltb-true (min (0 + length (take (n - 0) payload)) (2 ^ 64 - 1)) n
-      h in omega (arith, less, length-take (n - 0) payload),
-)
-short_body Chunked payload h = absurd (false≢true h)
-short_body UntilClose payload h = absurd (false≢true h)
+-- the whole body of a reply is shown
+pub shown_all : (header : ResponseView) (body : List ℕ)
+    → shown (Some (record { header = header; body = body })) body ≡ body
+shown_all header [] = refl
+shown_all header (b ∷ body) = refl
 
-short_entry : (e : Entry) (head : ResponseView) (sent : List ℕ) (n : ℕ) → e.sent_head ≡ Some head
-    → e.sent_body ≡ Some sent
-    → out e.head.method head ≡ Counted n → nat_lt (length (shown e.reply sent)) n ≡ true
-    → is_short e ≡ true
-short_entry e head sent n headed is counted less = rw (headed, is, counted) less
-
-shown_length : (header : ResponseView) (body sent : List ℕ) → sent ≡ body
-    → shown (Some (record { header = header; body = body })) sent ≡ body
-shown_length header [] sent e = refl
-shown_length header (b ∷ body) sent e = e
-
--- the exchange is short where its writer is
-pub short_where_writer : (e : Entry) (reply : Reply) → e.reply ≡ Some reply
-    → e.sent_head ≡ Some reply.header → e.sent_body ≡ Some reply.body
-    → lacks (Some (out e.head.method reply.header))
-    (after_piece (begun (out e.head.method reply.header)) reply.body).written ≡ true
-    → is_short e ≡ true
-short_where_writer e reply is headed bodied h =
-    let short = short_body (out e.head.method reply.header) reply.body h in
-    let less : length reply.body < short.0 = short.2
-    (out_limit e.head.method reply.header short.0 short.1) in
-    let same : length (shown e.reply reply.body) ≡ length reply.body =
-    ap (λ r. length (shown r reply.body)) is ∙ ap length
-    (shown_length reply.header reply.body reply.body refl) in
-    short_entry e reply.header reply.body short.0 headed bodied short.1
-    (lt-ltb (length (shown e.reply reply.body)) short.0 (omega (arith, same, less)))
-
--- and it isn't where its writer isn't
-pub long_where_writer : (e : Entry) (reply : Reply) → e.reply ≡ Some reply
-    → e.sent_head ≡ Some reply.header → e.sent_body ≡ Some reply.body
-    → lacks (Some (out e.head.method reply.header))
-    (after_piece (begun (out e.head.method reply.header)) reply.body).written ≡ false
-    → is_short e ≡ false
-long_where_writer e reply is headed bodied h = by_framing (out e.head.method reply.header) refl h
+-- two tests are one where each tells the other
+same_test : (a b n : ℕ) → (a < n → b < n) → (b < n → a < n) → nat_lt a n ≡ nat_lt b n
+same_test a b n to from = by_tests (nat_lt a n) (nat_lt b n) refl refl
   where
-    less_so : (n : ℕ) → out e.head.method reply.header ≡ Counted n → length reply.body < n
-        → lacks (Some (Counted n)) (after_piece (begun (Counted n)) reply.body).written ≡ true
-    less_so n counted less =
-        let limit = out_limit e.head.method reply.header n counted in
-        lt-ltb (min (0 + length (take (n - 0) reply.body)) (2 ^ 64 - 1)) n
-        (omega (arith, length-take (n - 0) reply.body, less, limit))
+    by_tests : (s t : Bool) → nat_lt a n ≡ s → nat_lt b n ≡ t → nat_lt a n ≡ nat_lt b n
+    by_tests true true p q = p ∙ sym q
+    by_tests false false p q = p ∙ sym q
+    by_tests true false p q =
+        absurd (false≢true (sym q ∙ lt-ltb b n (to (ltb-true a n p))))
+    by_tests false true p q =
+        absurd (false≢true (sym p ∙ lt-ltb a n (from (ltb-true b n q))))
 
-    by_test : (n : ℕ) (test : Bool) → nat_lt (length (shown e.reply reply.body)) n ≡ test
-        → out e.head.method reply.header ≡ Counted n
-        → lacks (Some (Counted n)) (after_piece (begun (Counted n)) reply.body).written ≡ false
-        → nat_lt (length (shown e.reply reply.body)) n ≡ false
-    by_test n false test counted h = test
-    by_test n true test counted h =
-        let same : length (shown e.reply reply.body) ≡ length reply.body =
-        ap (λ r. length (shown r reply.body)) is ∙ ap length
-        (shown_length reply.header reply.body reply.body refl) in
-        let less = ltb-true (length (shown e.reply reply.body)) n test in
-        absurd (false≢true (sym h ∙ less_so n counted (omega (arith, less, same))))
+-- the exchange is short exactly where its writer is
+pub short_as : (e : Entry) (reply : Reply) → e.reply ≡ Some reply
+    → e.sent_head ≡ Some reply.header → e.sent_body ≡ Some reply.body
+    → is_short e ≡ lacks (Some (out e.head.method reply.header))
+    (after_piece (begun (out e.head.method reply.header)) reply.body).written
+short_as e reply is headed bodied = by_framing (out e.head.method reply.header) refl
+  where
+    same : length (shown e.reply reply.body) ≡ length reply.body
+    same = ap (λ r. length (shown r reply.body)) is
+        ∙ ap length (shown_all reply.header reply.body)
 
     by_framing : (f : Framing) → out e.head.method reply.header ≡ f
-        → lacks (Some f) (after_piece (begun f) reply.body).written ≡ false → is_short e ≡ false
-    by_framing (Counted n) counted h = rw (headed, bodied, counted)
-        (by_test n (nat_lt (length (shown e.reply reply.body)) n) refl counted h)
-    by_framing Chunked framed h = rw (headed, bodied, framed) refl
-    by_framing UntilClose framed h = rw (headed, bodied, framed) refl
+        → is_short e ≡ lacks (Some f) (after_piece (begun f) reply.body).written
+    by_framing (Counted n) counted =
+        let limit = out_limit e.head.method reply.header n counted in
+        rw (headed, bodied, counted)
+        (same_test (length (shown e.reply reply.body))
+        (min (0 + length (take (n - 0) reply.body)) (2 ^ 64 - 1)) n
+        (λ less. omega (arith, length-take (n - 0) reply.body, less, same, limit))
+        (λ less. omega (arith, length-take (n - 0) reply.body, less, same, limit)))
+    by_framing Chunked framed = rw (headed, bodied, framed) refl
+    by_framing UntilClose framed = rw (headed, bodied, framed) refl

@@ -1,55 +1,42 @@
 -- What steps leave of the link, one after the other.
-use Rattle.std.proofs.Common.{◌≡◌, ◌⊎◌, inl, inr, ℕ, List, Bool, Option, Some, None, IfNone, sym, ap, ◌∙◌, subst, refl, true, false, Result, Ok, Err, IsSome, arith, ◌+◌, ◌≤◌}
-use Rattle.h1_error.specs.declared.error.ErrorType.{ErrorType}
+use Rattle.std.proofs.Common.{◌≡◌, ◌⊎◌, inl, inr, ℕ, List, Bool, Option, Some, None, IfNone, sym, ap, ◌∙◌, subst, refl, true, false, Result, Ok, Err, arith}
+use Rattle.h1_app.specs.Words.{ErrorType, End, LinkState, Entry, ExtendsLast, Exchange, Given, Reply, RequestView, Settings, Outcome, Stage, SessionView, Error, Poll, Ready, Pending, Called, FaultsBy, ReusesBy, is_replied, keeps_alive, may_go_on, Asked, no_memory}
 use Rattle.h1_error.specs.declared.error.ErrorType.TheVariants as kind
-use Rattle.h1_error.specs.declared.progress.End.{End}
 use Rattle.h1_error.specs.declared.progress.End.TheVariants as end
-use Rattle.h1_link.specs.LinkState.{LinkState}
-use Rattle.h1_transcript.specs.declared.transcript.Entry.{Entry}
-use Rattle.h1_transcript.specs.Growth.{ExtendsLast}
-use Rattle.h1_app.specs.Draining.{IsLastOver, JoinsNext}
-use Rattle.h1_app.specs.Turn.{outcome_end}
-use Rattle.h1_app.specs.View.{View}
-use Rattle.h1_app.specs.declared.exchange.Outcome.{Outcome}
-use Rattle.h1_app.specs.declared.exchange.Outcome.TheVariants as outcome
-use Rattle.h1_app.specs.declared.exchange.Stage.{Stage}
-use Rattle.h1_transcript.specs.declared.transcript.Transcript.{Transcript}
-use Rattle.h1_server.specs.SessionView.{SessionView}
-use Rattle.h1_error.specs.declared.error.Error.{Error}
-use Rattle.h1_app.proofs.TurnLemmas.{at_view}
-use Rattle.futures.specs.declared.task.Poll.{Poll}
-use Rattle.futures.specs.declared.task.Poll.TheVariants.{Ready, Pending}
-use Rattle.h1_transfer.specs.Calls.{Called, FaultsBy, no_fault, read_fault_of, read_fault_of_kind, write_fault_of_kind}
+use Rattle.h1_app.proofs.Words.{outcome_end, View, AsksAs, failure_of, lent, ReusesAs, StepReady, Leaves, LeavesOn}
+use Rattle.h1_app.specs.declared.exchange.Stage.TheVariants as at
+use Rattle.h1_transfer.specs.Calls.{no_fault, read_fault_of, read_fault_of_kind, write_fault_of_kind}
 use Rattle.h1_application.specs.Application.{fault_met}
 use Rattle.h1_server.specs.Calls.{is_reused}
-use Rattle.h1_server.specs.Reuse.{ReusesBy, is_replied, keeps_alive, may_go_on}
-use Rattle.h1_app.specs.Asking.{AsksAs}
-use Rattle.h1_app.specs.declared.steps.answering.Asked.{Asked}
-use Rattle.h1_app.specs.Sound.{IsDraining, failure_of, lent}
-use Rattle.h1_app.specs.Draining.{CalledForReuse, ReusesAs, ShutUnless}
+use Rattle.h1_app.specs.Draining.{CalledForReuse, ShutUnless}
+use Rattle.h1_app.proofs.DrainEnds.{at_drain}
 use Rattle.h1_app.proofs.DrainLemmas.{Answered, alive_replied, answered}
 use Rattle.h1_app.proofs.DrainSteps.{StandsDrained}
-use Rattle.h1_app.specs.Leaves.{Leaves, LeavesOn, NotesFault, ReadsHeld, ReadsHeldBy, ShutBy, WritesHeld, WritesHeldBy}
+use Rattle.h1_app.specs.Leaves.{NotesFault, ReadsHeld, ReadsHeldBy, ShutBy, WritesHeld, WritesHeldBy}
 
 -- an exchange that notes a fault goes on to do so
-pub noted_grows : (now : ℕ) (shutdown : Bool) (first second : LinkState) (last behind : Option Entry)
+pub noted_grows : (now : ℕ) (shutdown : Bool) (first second : LinkState)
+    (last behind : Option Entry)
     → ExtendsLast now shutdown first second last behind → NotesFault last → NotesFault behind
 noted_grows now shutdown first second None behind h noted = absurd noted
 noted_grows now shutdown first second (Some e) None h noted = absurd h
 noted_grows now shutdown first second (Some e) (Some f) h noted =
     (noted.0, (rw noted.1 at h.body_error), noted.2)
 
-held_by : (before now : ℕ) (last : Option Entry) (k : ErrorType) → NotesFault last → ReadsHeldBy before now last k
+held_by : (before now : ℕ) (last : Option Entry) (k : ErrorType) → NotesFault last
+    → ReadsHeldBy before now last k
 held_by before now last kind.ReadError noted = tt
 held_by before now last _ noted = inr noted
 
 -- what is noted accounts for every failed read
-held_noted : (before now : ℕ) (last : Option Entry) (reason : Option End) → NotesFault last → ReadsHeld before now last reason
+held_noted : (before now : ℕ) (last : Option Entry) (reason : Option End) → NotesFault last
+    → ReadsHeld before now last reason
 held_noted before now last (Some (end.Failed error)) noted = held_by before now last error.kind noted
 held_noted before now last _ noted = inr noted
 
 -- after steps that went on, one more
-pub leaves_on : (a b c : LinkState) (last behind : Option Entry) (reason : Option End) → Leaves a b last None
+pub leaves_on : (a b c : LinkState) (last behind : Option Entry) (reason : Option End)
+    → Leaves a b last None
     → (NotesFault last → NotesFault behind) → Leaves b c behind reason → Leaves a c behind reason
 leaves_on a b c last behind reason first noted second = record {
   writes = subst (λ n. WritesHeld n c.write_faults reason) first.writes second.writes;
@@ -64,74 +51,48 @@ pub leaves_itself : (s : LinkState) (last : Option Entry) → Leaves s s last No
 leaves_itself s last = record { writes = refl; reads = inl refl; shut = refl }
 
 -- on the way, and one step further
-pub leaves_further : {L C A J : Type 0} (state : L → LinkState) (a b c : View L C A J) → LeavesOn state a b → b.end ≡ None
-    → LeavesOn state b c → LeavesOn state a c
+pub leaves_further : {L C A J : Type 0} (state : L → LinkState) (a b c : View L C A J)
+    → LeavesOn state a b → b.end ≡ None → LeavesOn state b c → LeavesOn state a c
 leaves_further state a b c first alive second = record {
   leaves = leaves_on (state a.session.link) (state b.session.link) (state c.session.link) b.last c.last c.end
       (subst (λ reason. Leaves (state a.session.link) (state b.session.link) b.last reason) alive first.leaves) second.noted second.leaves;
   noted = λ met. second.noted (first.noted met);
 }
 
-pub way_leaves : {L C A J : Type 0} (state : L → LinkState) (at : View L C A J) → at.end ≡ None → LeavesOn state at at
-way_leaves state at alive = record {
-  leaves = subst (λ reason. Leaves (state at.session.link) (state at.session.link) at.last reason) (sym alive) (leaves_itself (state at.session.link) at.last);
-  noted = λ met. met;
-}
-
--- a step of the exchange that is last
-pub leaves_stepped : {L C A J : Type 0} (state : L → LinkState) (now : ℕ) (shutdown : Bool) (app : A) (limit : Option ℕ) (old new : SessionView L C)
-    (done : List Entry) (last behind : Option Entry) (from to : Stage J) (before : Option End) (result : Outcome)
-    → Leaves (state old.link) (state new.link) behind (outcome_end result)
-    → ExtendsLast now shutdown (state old.link) (state new.link) last behind
-    → LeavesOn state (at_view app limit old done last from before) (at_view app limit new done behind to (outcome_end result))
-leaves_stepped state now shutdown app limit old new done last behind from to before result leaves extends = record {
-  leaves = leaves;
-  noted = noted_grows now shutdown (state old.link) (state new.link) last behind extends;
-}
-
-never_noted : (e : Entry) → e.body_error ≡ None → NotesFault (Some e) → ⊥
+-- a body without an error notes no fault
+pub never_noted : (e : Entry) → e.body_error ≡ None → NotesFault (Some e) → ⊥
 never_noted e none noted = let clash = sym none ∙ noted.1 in cc
 
 -- out of memory, nothing happens
-leaves_starved : (s : LinkState) (last : Option Entry) (error : Error) → error.kind ≡ kind.NoMemory → Leaves s s last (Some (end.Failed error))
-leaves_starved s last error is = record { writes = rw is refl; reads = rw is (inl refl); shut = refl }
-
--- the step to the next exchange
-pub leaves_next : {L C A J : Type 0} (state : L → LinkState) (app : A) (limit : Option ℕ) (old new : SessionView L C)
-    (before behind : Transcript) (from to : Stage J) (first : Option End) (result : Outcome)
-    → IsLastOver old before.last → JoinsNext old new before behind from to result
-    → LeavesOn state (at_view app limit old before.done.items before.last from first) (at_view app limit new behind.done.items behind.last to (outcome_end result))
-leaves_next state app limit old new before behind from to first outcome.Done over h = record {
-  leaves = rw (ap (λ s. s.link) h.0.rest) (leaves_itself (state old.link) behind.last);
-  noted = λ met. absurd (never_noted over.0 over.2.unrefused (subst NotesFault over.1 met));
-}
-leaves_next state app limit old new before behind from to first (outcome.Waits what) over h = absurd h
-leaves_next state app limit old new before behind from to first (outcome.Ends (end.Failed error)) over h = record {
-  leaves = rw h.1 (leaves_starved (state old.link) behind.last error h.0);
-  noted = λ met. absurd (never_noted over.0 over.2.unrefused (subst NotesFault over.1 met));
-}
-leaves_next state app limit old new before behind from to first (outcome.Ends _) over h = absurd h
+pub leaves_starved : (s : LinkState) (last : Option Entry) (reason : End)
+    → reason ≡ end.Failed no_memory → Leaves s s last (Some reason)
+leaves_starved s last reason is = rw is (record { writes = refl; reads = inl refl; shut = refl })
 
 pub given_none : {T : Type 0} (o : Option T) (P : Type 0) → P → IfNone o P
 given_none None P p = p
 given_none (Some value) P p = tt
 
 -- a call that reads failed, and the connection ends with that
-reads_failed : (before now : LinkState) (last : Option Entry) (k : ErrorType) → FaultsBy before now (read_fault_of_kind k)
-    → WritesHeldBy before.write_faults now.write_faults k × ReadsHeldBy before.read_faults now.read_faults last k
+reads_failed : (before now : LinkState) (last : Option Entry) (k : ErrorType)
+    → FaultsBy before now (read_fault_of_kind k)
+    → WritesHeldBy before.write_faults now.write_faults k
+    × ReadsHeldBy before.read_faults now.read_faults last k
 reads_failed before now last kind.ReadError h = (h, tt)
 reads_failed before now last kind.WriteError h = (tt, inl h.0)
 reads_failed before now last _ h = (h.1, inl h.0)
 
 -- what reading a body met is noted in the exchange
-met_by : (before now : LinkState) (e : Entry) (r s : Option Error) → FaultsBy before now (fault_met r s) → e.body_error ≡ s
-    → (now.write_faults ≡ before.write_faults) × ((now.read_faults ≡ before.read_faults) ⊎ NotesFault (Some e))
+met_by : (before now : LinkState) (e : Entry) (r s : Option Error)
+    → FaultsBy before now (fault_met r s) → e.body_error ≡ s
+    → (now.write_faults ≡ before.write_faults)
+    × ((now.read_faults ≡ before.read_faults) ⊎ NotesFault (Some e))
 met_by before now e (Some error) s h is = (h.1, inl h.0)
 met_by before now e None None h is = (h.1, inl h.0)
 met_by before now e None (Some error) h is = by_kind error.kind refl h
   where
     by_kind : (k : ErrorType) → error.kind ≡ k → FaultsBy before now (read_fault_of_kind k)
-        → (now.write_faults ≡ before.write_faults) × ((now.read_faults ≡ before.read_faults) ⊎ NotesFault (Some e))
+        → (now.write_faults ≡ before.write_faults)
+        × ((now.read_faults ≡ before.read_faults) ⊎ NotesFault (Some e))
     by_kind kind.ReadError same h = (h, inr (error, is, same))
     by_kind _ same h = (h.1, inl h.0)
 
@@ -139,12 +100,14 @@ held_writes : (before now : ℕ) (k : ErrorType) → now ≡ before → WritesHe
 held_writes before now kind.WriteError same = tt
 held_writes before now _ same = same
 
-held_reads : (before now : ℕ) (last : Option Entry) (k : ErrorType) → ((now ≡ before) ⊎ NotesFault last) → ReadsHeldBy before now last k
+held_reads : (before now : ℕ) (last : Option Entry) (k : ErrorType)
+    → ((now ≡ before) ⊎ NotesFault last) → ReadsHeldBy before now last k
 held_reads before now last kind.ReadError same = tt
 held_reads before now last _ same = same
 
 -- the application was asked
-asked_met : {L C : Type 0} (state : L → LinkState) (old new : SessionView L C) (e e2 e3 : Entry) (answer : Asked)
+asked_met : {L C : Type 0} (state : L → LinkState) (old new : SessionView L C) (e e2 e3 : Entry)
+    (answer : Asked)
     → AsksAs state old new e e2 answer → e3.body_error ≡ e2.body_error
     → ((state new.link).write_faults ≡ (state old.link).write_faults)
     × (((state new.link).read_faults ≡ (state old.link).read_faults) ⊎ NotesFault (Some e3))
@@ -155,13 +118,16 @@ asked_met {L} {C} state old new e e2 e3 answer asks like =
     let met = met_by (state old.link) (state asks.behind.link) e3 old.body.refused asks.behind.body.refused calls.faults noted in
     rw (ap (λ (x : SessionView L C). x.link) asks.session) (met.0, met.1, calls.shut)
 
-pub asked_leaves : {L C : Type 0} (state : L → LinkState) (old new : SessionView L C) (e e2 e3 : Entry) (answer : Asked)
-    → AsksAs state old new e e2 answer → e3.body_error ≡ e2.body_error → Leaves (state old.link) (state new.link) (Some e3) None
+pub asked_leaves : {L C : Type 0} (state : L → LinkState) (old new : SessionView L C)
+    (e e2 e3 : Entry) (answer : Asked)
+    → AsksAs state old new e e2 answer → e3.body_error ≡ e2.body_error
+    → Leaves (state old.link) (state new.link) (Some e3) None
 asked_leaves state old new e e2 e3 answer asks like =
     let met = asked_met state old new e e2 e3 answer asks like in
     record { writes = met.0; reads = met.1; shut = met.2 }
 
-pub asked_fails : {L C : Type 0} (state : L → LinkState) (old new : SessionView L C) (e e2 e3 : Entry) (answer : Asked) (error : Error)
+pub asked_fails : {L C : Type 0} (state : L → LinkState) (old new : SessionView L C)
+    (e e2 e3 : Entry) (answer : Asked) (error : Error)
     → AsksAs state old new e e2 answer → e3.body_error ≡ e2.body_error
     → Leaves (state old.link) (state new.link) (Some e3) (Some (end.Failed error))
 asked_fails state old new e e2 e3 answer error asks like =
@@ -173,10 +139,13 @@ asked_fails state old new e e2 e3 answer error asks like =
     }
 
 -- the session was asked for its link's reuse
-pub called_reuse : {L C : Type 0} (state : L → LinkState) (old asked behind : SessionView L C) (payload : List ℕ) (answer : Poll (Result Bool Error))
-    → asked ≡ lent old payload → is_replied old.reply ≡ true → ReusesBy state asked behind answer (may_go_on asked)
-    → (may_go_on asked ≡ true → Called (state asked.link) (state behind.link) (is_reused answer) (read_fault_of answer))
-    → CalledForReuse (state old.link) (state behind.link) (keeps_alive old) (is_reused answer) (read_fault_of answer)
+pub called_reuse : {L C : Type 0} (state : L → LinkState) (old asked behind : SessionView L C)
+    (payload : List ℕ) (answer : Poll (Result Bool Error))
+    → asked ≡ lent old payload → is_replied old.reply ≡ true
+    → ReusesBy state asked behind answer (may_go_on asked) → (may_go_on asked ≡ true
+    → Called (state asked.link) (state behind.link) (is_reused answer) (read_fault_of answer))
+    → CalledForReuse (state old.link) (state behind.link) (keeps_alive old) (is_reused answer)
+    (read_fault_of answer)
 called_reuse {L} {C} state old asked behind payload answer lent_is replied reuses called =
     subst (λ t. CalledForReuse (state old.link) (state behind.link) t (is_reused answer) (read_fault_of answer))
     (alive_replied (keeps_alive old) (is_replied old.reply) replied)
@@ -184,50 +153,84 @@ called_reuse {L} {C} state old asked behind payload answer lent_is replied reuse
     lent_is (by_alive (may_go_on asked) refl reuses))
   where
     by_alive : (t : Bool) → may_go_on asked ≡ t → ReusesBy state asked behind answer t
-        → CalledForReuse (state asked.link) (state behind.link) t (is_reused answer) (read_fault_of answer)
+        → CalledForReuse (state asked.link) (state behind.link) t (is_reused answer)
+        (read_fault_of answer)
     by_alive true is r = let c = called is in record { others = c.others; faults = c.faults; shut = c.shut }
     by_alive false is r = rw (r.0, r.1) (record { others = omega arith; faults = (refl, refl); shut = refl })
 
 -- the rest of the request's body is read
-pub drain_leaves : {L C J : Type 0} (state : L → LinkState) (old new : SessionView L C) (e f : Entry) (answer : Poll (Result Bool Error)) (alive : Bool)
-    (from to : Stage J) (result : Outcome) → IsDraining e old → IsSome old.budget → ReusesAs state old new e f answer
-    → CalledForReuse (state old.link) (state new.link) (keeps_alive old) (is_reused answer) (read_fault_of answer)
-    → alive ≡ keeps_alive new → StandsDrained answer alive from to result
-    → Leaves (state old.link) (state new.link) (Some f) (outcome_end result)
-drain_leaves state old new e f answer alive from to result d some reuses called lives stands =
-    by_answer answer alive (answered state old new e f answer some d.body reuses) called lives stands
+pub drain_leaves : {L C J : Type 0} (state : L → LinkState) (gives : Given → Reply → Type 0)
+    (runs : J → RequestView → Settings → Settings → List ℕ → Type 0) (now : ℕ)
+    (x : Exchange L J C) (new : SessionView L C) (e f : Entry)
+    (answer told : Poll (Result Bool Error)) (alive : Bool) (to : Stage J) (result : Outcome)
+    → StepReady gives runs now x → x.stage ≡ at.Drain → x.transcript.last ≡ Some e
+    → ReusesAs state x.session new e f answer
+    → CalledForReuse (state x.session.link) (state new.link) (keeps_alive x.session)
+    (is_reused answer) (read_fault_of answer)
+    → alive ≡ keeps_alive new → answer ≡ told → StandsDrained told alive x.stage to result
+    → Leaves (state x.session.link) (state new.link) (Some f) (outcome_end result)
+drain_leaves {L} {C} {J} state gives runs now x new e f answer told alive to result ready stage was
+    reuses called lives is stands =
+    let d = at_drain runs old x.transcript.last x.stage e stage was ready.sound in
+    by_answer told alive
+    (subst (Answered state old new) is
+    (answered state old new e f answer ready.budget d.body reuses))
+    (subst (λ a. CalledForReuse (state old.link) (state new.link) (keeps_alive old) (is_reused a)
+    (read_fault_of a)) is called) lives stands
   where
-    unshut : keeps_alive old ≡ true → ShutUnless (keeps_alive old) (state old.link).shut (state new.link).shut → (state new.link).shut ≡ (state old.link).shut
-    unshut is h = subst (λ t. ShutUnless t (state old.link).shut (state new.link).shut) is h
+    old : SessionView L C
+    old = x.session
 
-    is_shut : keeps_alive old ≡ false → ShutUnless (keeps_alive old) (state old.link).shut (state new.link).shut → (state new.link).shut ≡ true
-    is_shut is h = subst (λ t. ShutUnless t (state old.link).shut (state new.link).shut) is h
+    shut_as : (kept : Bool) → keeps_alive old ≡ kept
+        → ShutUnless (keeps_alive old) (state old.link).shut (state new.link).shut
+        → ShutUnless kept (state old.link).shut (state new.link).shut
+    shut_as kept is h = subst (λ t. ShutUnless t (state old.link).shut (state new.link).shut) is h
 
     by_answer : (answer : Poll (Result Bool Error)) (alive : Bool) → Answered state old new answer
-        → CalledForReuse (state old.link) (state new.link) (keeps_alive old) (is_reused answer) (read_fault_of answer)
-        → alive ≡ keeps_alive new → StandsDrained answer alive from to result
+        → CalledForReuse (state old.link) (state new.link) (keeps_alive old) (is_reused answer)
+        (read_fault_of answer)
+        → alive ≡ keeps_alive new → StandsDrained answer alive x.stage to result
         → Leaves (state old.link) (state new.link) (Some f) (outcome_end result)
-    by_answer Pending alive a called lives stands = rw stands.1
-        (record { writes = called.faults.1; reads = inl called.faults.0; shut = unshut a.0 called.shut })
+    by_answer Pending alive a called lives stands = rw stands.1 (record {
+      writes = called.faults.1;
+      reads = inl called.faults.0;
+      shut = shut_as true a.0 called.shut;
+    })
     by_answer (Ready (Err error)) alive a called lives stands =
-        let held = reads_failed (state old.link) (state new.link) (Some f) error.kind called.faults in
-        rw stands (record { writes = held.0; reads = held.1; shut = unshut a.0 called.shut })
-    by_answer (Ready (Ok true)) alive a called lives stands = rw stands.1
-        (record { writes = called.faults.1; reads = inl called.faults.0; shut = unshut a.0 called.shut })
-    by_answer (Ready (Ok false)) true a called lives stands = rw stands
-        (record { writes = called.faults.1; reads = inl called.faults.0; shut = unshut (sym a.0 ∙ sym lives) called.shut })
-    by_answer (Ready (Ok false)) false a called lives stands = rw stands
-        (record { writes = called.faults.1; reads = inl called.faults.0; shut = is_shut (sym a.0 ∙ sym lives) called.shut })
+        let held = reads_failed (state old.link) (state new.link) (Some f) error.kind called.faults
+        in rw stands (record {
+          writes = held.0;
+          reads = held.1;
+          shut = shut_as true a.0 called.shut;
+        })
+    by_answer (Ready (Ok true)) alive a called lives stands = rw stands.1 (record {
+      writes = called.faults.1;
+      reads = inl called.faults.0;
+      shut = shut_as true a.0 called.shut;
+    })
+    by_answer (Ready (Ok false)) true a called lives stands = rw stands (record {
+      writes = called.faults.1;
+      reads = inl called.faults.0;
+      shut = shut_as true (sym a.0 ∙ sym lives) called.shut;
+    })
+    by_answer (Ready (Ok false)) false a called lives stands = rw stands (record {
+      writes = called.faults.1;
+      reads = inl called.faults.0;
+      shut = shut_as false (sym a.0 ∙ sym lives) called.shut;
+    })
 
 -- a write that was refused ends the connection
-writes_failed : (before now : LinkState) (last : Option Entry) (k : ErrorType) → FaultsBy before now (write_fault_of_kind k)
-    → WritesHeldBy before.write_faults now.write_faults k × ReadsHeldBy before.read_faults now.read_faults last k
+writes_failed : (before now : LinkState) (last : Option Entry) (k : ErrorType)
+    → FaultsBy before now (write_fault_of_kind k)
+    → WritesHeldBy before.write_faults now.write_faults k
+    × ReadsHeldBy before.read_faults now.read_faults last k
 writes_failed before now last kind.WriteError h = (tt, inl h)
 writes_failed before now last kind.ReadError h = (h.1, tt)
 writes_failed before now last _ h = (h.1, inl h.0)
 
 pub write_fails : (before now : LinkState) (last : Option Entry) (done : Bool) (error : Error)
-    → Called before now done (write_fault_of_kind error.kind) → Leaves before now last (Some (end.Failed error))
+    → Called before now done (write_fault_of_kind error.kind)
+    → Leaves before now last (Some (end.Failed error))
 write_fails before now last done error calls =
     let held = writes_failed before now last error.kind calls.faults in
     record { writes = held.0; reads = held.1; shut = calls.shut }
@@ -238,12 +241,15 @@ told_is : (failed error : Error) (k : ErrorType) → error.kind ≡ k
 told_is failed error kind.PrematureBodyEnd is = inl refl
 told_is failed error _ is = inr (rw is refl)
 
-short_told : (failed error : Error) → error.kind ≡ kind.PrematureBodyEnd → failure_of (Some failed) error ≡ failed
+short_told : (failed error : Error) → error.kind ≡ kind.PrematureBodyEnd
+    → failure_of (Some failed) error ≡ failed
 short_told failed error is = rw is refl
 
 -- the same at the end of a reply, where a short one ends with the error of the request's body
-pub finish_fails : (before now : LinkState) (last : Option Entry) (done : Bool) (body_error : Option Error) (error : Error)
-    → Called before now done (write_fault_of_kind error.kind) → Leaves before now last (Some (end.Failed (failure_of body_error error)))
+pub finish_fails : (before now : LinkState) (last : Option Entry) (done : Bool)
+    (body_error : Option Error) (error : Error)
+    → Called before now done (write_fault_of_kind error.kind)
+    → Leaves before now last (Some (end.Failed (failure_of body_error error)))
 finish_fails before now last done None error calls = write_fails before now last done error calls
 finish_fails before now last done (Some failed) error calls = elim (told_is failed error error.kind refl) [
   | inl short ↦

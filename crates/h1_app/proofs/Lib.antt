@@ -11,11 +11,12 @@ pub mod EndSteps
 pub mod FinishReplies
 pub mod GoneLemmas
 pub mod HeadLemmas
-pub mod HeaderReplies
 pub mod HeaderTaken
 pub mod LinkedLemmas
 pub mod ReplyLemmas
 pub mod ReplySteps
+pub mod CallSteps
+pub mod PartLemmas
 pub mod AccountedLemmas
 pub mod JoinLemmas
 pub mod WaitingLemmas
@@ -26,3 +27,4 @@ pub mod StoodLemmas
 pub mod TurnLemmas
 pub mod OthersLemmas
 pub mod LeavesLemmas
+pub mod Words

@@ -1,37 +1,22 @@
 -- What becomes of a connection where its last exchange is over and the next head is awaited.
-use Rattle.std.proofs.Common.{◌≡◌, ℕ, ◌+◌, ◌<◌, ◌≤◌, List, [], ◌∷◌, ◌++◌, length, Bool, false, Option, Some, None, option_to_list, refl, sym, ◌∙◌, ap, subst, append-nil, length-append, arith}
-use Rattle.h1_error.specs.declared.progress.End.{End}
-use Rattle.h1_error.specs.declared.progress.End.TheVariants as end
-use Rattle.h1_link.specs.LinkState.{LinkState}
-use Rattle.h1_head.specs.Views.{RequestView}
-use Rattle.h1_server.specs.Reuse.{AwaitsNext, one_less}
-use Rattle.h1_server.specs.SessionView.{SessionView}
-use Rattle.h1_server.specs.declared.settings.Settings.{Settings}
-use Rattle.h1_transcript.specs.declared.reply.Reply.{Reply}
-use Rattle.h1_transcript.specs.declared.transcript.Entry.{Entry}
-use Rattle.h1_transcript.specs.declared.transcript.Transcript.{Transcript}
-use Rattle.h1_app.specs.declared.exchange.Stage.{Stage}
+use Rattle.std.proofs.Common.{◌≡◌, ℕ, ◌+◌, ◌*◌, ◌<◌, ◌≤◌, List, [], ◌∷◌, ◌++◌, length, Bool, true, false, Option, Some, None, refl, sym, ◌∙◌, ap, subst, append-nil, length-append, arith}
+use Rattle.std.proofs.lemmas.Bool.{false≢true}
+use Rattle.h1_app.specs.Words.{End, LinkState, RequestView, AwaitsNext, AfterRead, WithinRead, may_follow, one_less, SessionView, Settings, Reply, Entry, Exchange, Stage, Outcome, Given, AreBegun, IfTold, IsNextSet, reuses_at, IsAllowed, Extends}
 use Rattle.h1_app.specs.declared.exchange.Stage.TheVariants as stage
-use Rattle.h1_app.specs.declared.exchange.Outcome.{Outcome}
 use Rattle.h1_app.specs.declared.exchange.Outcome.TheVariants as outcome
-use Rattle.h1_transcript.specs.Given.{Given}
-use Rattle.h1_transcript.specs.Begun.{AreBegun, IsNextSet, reuses_at}
-use Rattle.h1_app.specs.Draining.{IsLastOver, JoinsNext}
-use Rattle.h1_transcript.specs.Exchange.{IsAllowed}
-use Rattle.h1_app.specs.Turn.{Gone, TurnCause, outcome_end}
-use Rattle.h1_transcript.specs.Growth.{Extends}
-use Rattle.h1_app.specs.Joins.{IsEnded, IsRestarted}
-use Rattle.h1_app.specs.Sound.{Sound, SoundStage, IsDraining, IsOver, IsUnwritten}
-use Rattle.h1_app.specs.Pace.{ahead}
-use Rattle.h1_app.specs.Waits.{FewReadsNotReady}
-use Rattle.h1_transcript.specs.Entries.{replies}
-use Rattle.h1_app.proofs.GoneLemmas.{job_itself}
+use Rattle.h1_app.proofs.Words.{Accounted, LastMayGoOn, JoinsNext, ReadSo, Turned, TurnCause, outcome_end, stops, still_calls, entries, IsDoneIn, IsRestarted, Sound, SoundStage, IsDraining, MayGoOn, IsUnwritten, View, view_of, ahead}
+use Rattle.h1_app.proofs.AccountedLemmas.{memory_ends}
+use Rattle.h1_app.proofs.GoneLemmas.{turned_stays}
+use Rattle.h1_app.proofs.LeavesLemmas.{leaves_itself, leaves_starved, never_noted}
 use Rattle.h1_app.proofs.ReplyLemmas.{moves_none}
+use Rattle.h1_transcript.proofs.AloneLemmas.{within_all}
+use Rattle.h1_transcript.proofs.BehindLemmas.{told_map}
 use Rattle.h1_transcript.proofs.GrowthLemmas.{extends_itself}
 use Rattle.h1_app.proofs.JoinLemmas.{accounted_joined}
-use Rattle.h1_app.proofs.TurnLemmas.{at_view, all_join, pipelining_last, reuses_last}
+use Rattle.h1_app.proofs.TurnLemmas.{all_join, pipelining_last, reuses_last}
 
-ended_is : {L C : Type 0} (session : SessionView L C) (e : Entry) → IsDraining e session → IsOver e session → IsEnded session e
+ended_is : {L C : Type 0} (session : SessionView L C) (e : Entry) → IsDraining e session
+    → MayGoOn e session → IsDoneIn session e
 ended_is session e d o = record {
   read = o.read;
   unrefused = d.unrefused;
@@ -61,7 +46,8 @@ one_fewer None i = refl
 one_fewer (Some limit) i = ap (λ (n : ℕ). Some n) (omega arith)
 
 -- what is set for the next exchange is what the last one left, with one request fewer to follow
-next_set : {L C : Type 0} (limit : Option ℕ) (old new : SessionView L C) (done : List Entry) (e : Entry) → IsDraining e old
+next_set : {L C : Type 0} (limit : Option ℕ) (old new : SessionView L C) (done : List Entry)
+    (e : Entry) → IsDraining e old
     → AwaitsNext old new → e.left.reuses ≡ e.began.reuses → AreBegun limit 0 false (done ++ e ∷ [])
     → IsNextSet limit (done ++ e ∷ []) new.settings
 next_set limit old new done e d a reuses begun =
@@ -77,9 +63,11 @@ next_set limit old new done e d a reuses begun =
     }
 
 -- the next head is awaited, and the connection is sound
-sound_joined : {L C J : Type 0} (gives : Given → Reply → Type 0) (runs : J → RequestView → Settings → Settings → List ℕ → Type 0) (limit : Option ℕ)
+sound_joined : {L C J : Type 0} (gives : Given → Reply → Type 0)
+    (runs : J → RequestView → Settings → Settings → List ℕ → Type 0) (limit : Option ℕ)
     (old new : SessionView L C) (done : List Entry) (e : Entry) → Sound gives runs limit old done (Some e) stage.Next None
-    → IsDraining e old → AwaitsNext old new → Sound gives runs limit new (done ++ e ∷ []) None stage.Head None
+    → IsDraining e old → AwaitsNext old new
+    → Sound gives runs limit new (done ++ e ∷ []) None stage.Head None
 sound_joined gives runs limit old new done e s d a = record {
   ended = all_join (IsAllowed gives) done e s.ended s.allowed;
   allowed = tt;
@@ -99,104 +87,150 @@ sound_joined gives runs limit old new done e s d a = record {
   next = next_set limit old new done e d a s.allowed.reuses s.begun;
 }
 
-gone_joined : {L C A J : Type 0} (state : L → LinkState) (begins : J → Type 0) (pends : J → ℕ) (same_plan : L → L → Type 0) (now : ℕ) (shutdown : Bool)
-    (app : A) (limit : Option ℕ) (old new : SessionView L C) (done : List Entry) (e : Entry) (before after : Option End)
-    → same_plan old.link old.link → IsDraining e old → IsOver e old → AwaitsNext old new
-    → Gone state begins pends same_plan now shutdown (at_view app limit old done (Some e) stage.Next before) (at_view app limit new (done ++ e ∷ []) None stage.Head after)
-gone_joined state begins pends same_plan now shutdown app limit old new done e before after plan d o a = record {
-  app = refl;
-  limit = refl;
-  plan = rw (ap (λ s. s.link) a.rest) plan;
-  moves = moves_none state old new (ap (λ s. s.link) a.rest) (ap (λ s. s.budget) a.rest) (ap (λ s. s.context) a.rest);
-  accounted = λ since s. accounted_joined state since old new done e (ended_is old e d o) (restarted_is old new a) s;
-  extends = subst (λ xs. Extends now shutdown (state old.link) (state new.link) (done ++ e ∷ []) xs) (sym (append-nil (done ++ e ∷ [])))
-      (extends_itself now shutdown (state old.link) (state new.link) (done ++ e ∷ []));
-  longer = omega (arith, length-append done (e ∷ []));
-  job = record { same = λ same. tt; later = λ less. tt };
-}
+-- an exchange that left pipelining off was alone
+alone_joined : {L C : Type 0} (old new : SessionView L C) (entries : List Entry) (e : Entry)
+    (since : List ℕ) → IsDraining e old → MayGoOn e old → IsRestarted old new
+    → e.left.pipelining ≡ false → AfterRead entries (λ rest. ReadSo rest new None) since
+    → WithinRead since entries
+alone_joined old new entries e since d o again off h =
+    let nothing = again.received ∙ followed old.settings.pipelining old.received o.alone
+    (ap (λ (s : Settings). s.pipelining) (sym d.left) ∙ off) in
+    within_all since h.0 entries h.1 ((rw again.request at h.2) ∙ nothing)
+  where
+    followed : (pipelining : Bool) (received : List ℕ) → may_follow pipelining received ≡ true
+        → pipelining ≡ false → received ≡ []
+    followed true received may off = absurd (false≢true (sym off))
+    followed false [] may off = refl
+    followed false (b ∷ received) may off = absurd (false≢true may)
 
-few_joined : {L C : Type 0} (state : L → LinkState) (old new : SessionView L C) (done : List Entry) (e : Entry) → new.link ≡ old.link
-    → FewReadsNotReady (state old.link) (state new.link) (done ++ e ∷ []) ((done ++ e ∷ []) ++ []) outcome.Done
-few_joined state old new done e link =
-    rw link (subst (λ xs. (state old.link).read_waits + replies (done ++ e ∷ []) ≤ (state old.link).read_waits + replies xs)
-    (sym (append-nil (done ++ e ∷ []))) (omega arith))
-
-nearer : (old new : Option ℕ) (J : Type 0) → new ≡ old → ahead {J = J} new stage.Head < ahead {J = J} old stage.Next
+nearer : (old new : Option ℕ) (J : Type 0) → new ≡ old
+    → ahead {J = J} new stage.Head < ahead {J = J} old stage.Next
 nearer None new J is = rw is (omega arith)
 nearer (Some left) new J is = rw is (omega arith)
 
-turned_joined : {L C A J : Type 0} (state : L → LinkState) (pends : J → ℕ) (app : A) (limit : Option ℕ) (old new : SessionView L C) (done : List Entry) (e : Entry) (before after : Option End)
-    → AwaitsNext old new
-    → TurnCause state pends (at_view app limit old done (Some e) stage.Next before) (at_view app limit new (done ++ e ∷ []) None stage.Head after) outcome.Done
-turned_joined {J = J} state pends app limit old new done e before after a =
-    (nearer old.budget new.budget J (ap (λ s. s.budget) a.rest), λ same. absurd (omega (arith, same, length-append done (e ∷ []))))
-
--- where there is no memory, all stays but the end
-gone_stays : {L C A J : Type 0} (state : L → LinkState) (begins : J → Type 0) (pends : J → ℕ) (same_plan : L → L → Type 0) (now : ℕ) (shutdown : Bool)
-    (app : A) (limit : Option ℕ) (session : SessionView L C) (done : List Entry) (last : Option Entry) (at : Stage J) (before after : Option End)
-    → same_plan session.link session.link
-    → Gone state begins pends same_plan now shutdown (at_view app limit session done last at before) (at_view app limit session done last at after)
-gone_stays state begins pends same_plan now shutdown app limit session done last at before after plan = record {
-  app = refl;
-  limit = refl;
-  plan = plan;
-  moves = moves_none state session session refl refl refl;
-  accounted = λ since s. s;
-  extends = extends_itself now shutdown (state session.link) (state session.link) (done ++ option_to_list last);
-  longer = omega arith;
-  job = record { same = λ same. job_itself begins pends at; later = λ less. absurd (omega (arith, less)) };
-}
+-- what the step to the next exchange leaves
+turned_joined : {L C A J : Type 0} (state : L → LinkState) (same_plan : L → L → Type 0)
+    (now : ℕ) (shutdown : Bool) (from : View L C A J)
+    (new : SessionView L C) (e : Entry)
+    → same_plan from.session.link from.session.link → IsDraining e from.session
+    → MayGoOn e from.session → AwaitsNext from.session new → Turned state same_plan now shutdown
+    (record from { last = Some e; stage = stage.Next })
+    (record from {
+      session = new;
+      done = from.done ++ e ∷ [];
+      last = None;
+      stage = stage.Head;
+      end = None;
+    }) false
+turned_joined state same_plan now shutdown from new e plan d o a =
+    let again = restarted_is from.session new a in
+    let link = ap state again.link in
+    let all = from.done ++ e ∷ [] in
+    let joined : (since : LinkState) → Accounted state since from.session from.done (Some e)
+    → Accounted state since new all None =
+    λ since s. accounted_joined state since from.session new from.done e
+    (ended_is from.session e d o) again s in
+    record {
+      gone = record {
+        app = refl;
+        limit = refl;
+        plan = rw again.link plan;
+        moves = moves_none state from.session new again.link (ap (λ s. s.budget) a.rest)
+            (ap (λ s. s.context) a.rest);
+        accounted = joined;
+        alone = λ since s. (
+          e ∷ [],
+          refl,
+          (
+            λ off. told_map since.given (state from.session.link).given
+                (AfterRead all (λ rest. ReadSo rest new None)) (λ xs. WithinRead xs all)
+                (λ xs h. alone_joined from.session new all e xs d o again off h)
+                (subst (λ at. IfTold since.given at.given
+                (AfterRead all (λ rest. ReadSo rest new None))) link (joined since s).read),
+            tt,
+          ),
+        );
+        extends = subst (λ xs. Extends now shutdown (state from.session.link) (state new.link)
+            all xs) (sym (append-nil all))
+            (extends_itself now shutdown (state from.session.link) (state new.link) all);
+        longer = omega (arith, length-append from.done (e ∷ []));
+      };
+      reads_not_ready = rw (again.link, append-nil all) (omega arith);
+      others = rw again.link (omega (arith, length-append from.done (e ∷ [])));
+      leaves = record {
+        leaves = rw again.link (leaves_itself (state from.session.link) None);
+        noted = λ met. absurd (never_noted e d.unrefused met);
+      };
+    }
 
 -- the last exchange is over where the next one begins
-pub over_next : {L C J : Type 0} (gives : Given → Reply → Type 0) (runs : J → RequestView → Settings → Settings → List ℕ → Type 0) (limit : Option ℕ)
+pub over_next : {L C J : Type 0} (gives : Given → Reply → Type 0)
+    (runs : J → RequestView → Settings → Settings → List ℕ → Type 0) (limit : Option ℕ)
     (session : SessionView L C) (done : List Entry) (last : Option Entry) (at : Stage J)
-    → Sound gives runs limit session done last at None → at ≡ stage.Next → IsLastOver session last
+    → Sound gives runs limit session done last at None → at ≡ stage.Next → LastMayGoOn session last
 over_next gives runs limit session done last at sound is = over_at sound.stage where
-  over_at : SoundStage runs session last at → IsLastOver session last
+  over_at : SoundStage runs session last at → LastMayGoOn session last
   over_at h = rw is at h
 
-pub sound_next : {L C J : Type 0} (gives : Given → Reply → Type 0) (runs : J → RequestView → Settings → Settings → List ℕ → Type 0) (limit : Option ℕ)
-    (old new : SessionView L C) (before behind : Transcript) (from to : Stage J) (result : Outcome)
-    → Sound gives runs limit old before.done.items before.last from None → from ≡ stage.Next → JoinsNext old new before behind from to result
-    → Sound gives runs limit new behind.done.items behind.last to (outcome_end result)
-sound_next gives runs limit old new before behind from to outcome.Done s is h =
-    let over = over_next gives runs limit old before.done.items before.last from s is in
-    let sound : Sound gives runs limit old before.done.items (Some over.0) stage.Next None =
-    subst (λ at. Sound gives runs limit old before.done.items (Some over.0) at None) is
-    (subst (λ last. Sound gives runs limit old before.done.items last from None) over.1 s) in
-    rw (h.1, over.1, h.2, h.3) (sound_joined gives runs limit old new before.done.items over.0 sound over.2 h.0)
-sound_next gives runs limit old new before behind from to (outcome.Waits what) s is h = absurd h
-sound_next gives runs limit old new before behind from to (outcome.Ends (end.Failed error)) s is h =
-    rw (h.1, h.2, h.3, h.4) (record { ended = s.ended; allowed = s.allowed; kept = s.kept; begun = s.begun; stage = tt; next = tt })
-sound_next gives runs limit old new before behind from to (outcome.Ends _) s is h = absurd h
+pub sound_next : {L C J : Type 0} (gives : Given → Reply → Type 0)
+    (runs : J → RequestView → Settings → Settings → List ℕ → Type 0) (limit : Option ℕ)
+    (x y : Exchange L J C) (result : Outcome)
+    → Sound gives runs limit x.session x.transcript.done.items x.transcript.last x.stage None
+    → x.stage ≡ stage.Next → JoinsNext x y result
+    → Sound gives runs limit y.session y.transcript.done.items y.transcript.last y.stage
+    (outcome_end result)
+sound_next gives runs limit x y outcome.Done s is h =
+    let over = over_next gives runs limit x.session x.transcript.done.items x.transcript.last
+    x.stage s is in
+    rw (h.1, over.1, h.2, h.3) (sound_joined gives runs limit x.session y.session
+    x.transcript.done.items over.0 (rw (is, over.1) at s) over.2 h.0)
+sound_next gives runs limit x y (outcome.Ends reason) s is h =
+    rw (h.1, h.2, h.3, h.4) (record {
+      ended = s.ended;
+      allowed = s.allowed;
+      kept = s.kept;
+      begun = s.begun;
+      stage = tt;
+      next = tt;
+    })
+sound_next gives runs limit x y (outcome.Waits what) s is h = absurd h
 
-pub gone_next : {L C A J : Type 0} (state : L → LinkState) (begins : J → Type 0) (pends : J → ℕ) (same_plan : L → L → Type 0) (now : ℕ) (shutdown : Bool)
-    (app : A) (limit : Option ℕ) (old new : SessionView L C) (before behind : Transcript) (from to : Stage J) (first second : Option End) (result : Outcome)
-    → same_plan old.link old.link → IsLastOver old before.last → from ≡ stage.Next → JoinsNext old new before behind from to result
-    → Gone state begins pends same_plan now shutdown (at_view app limit old before.done.items before.last from first)
-    (at_view app limit new behind.done.items behind.last to second)
-gone_next state begins pends same_plan now shutdown app limit old new before behind from to first second outcome.Done plan over is h =
-    rw (h.1, over.1, h.2, h.3, is) (gone_joined state begins pends same_plan now shutdown app limit old new before.done.items over.0 first second plan over.2 over.3 h.0)
-gone_next state begins pends same_plan now shutdown app limit old new before behind from to first second (outcome.Waits what) plan over is h = absurd h
-gone_next state begins pends same_plan now shutdown app limit old new before behind from to first second (outcome.Ends (end.Failed error)) plan over is h =
-    rw (h.1, h.2, h.3, h.4) (gone_stays state begins pends same_plan now shutdown app limit old before.done.items before.last from first second plan)
-gone_next state begins pends same_plan now shutdown app limit old new before behind from to first second (outcome.Ends _) plan over is h = absurd h
+-- what the step to the next exchange leaves: it joined, or there is no memory
+pub turned_next : {L C A J : Type 0} (state : L → LinkState) (same_plan : L → L → Type 0)
+    (now : ℕ) (shutdown : Bool) (app : A) (limit : Option ℕ)
+    (x y : Exchange L J C) (first : Option End) (result : Outcome)
+    → same_plan x.session.link x.session.link → LastMayGoOn x.session x.transcript.last
+    → x.stage ≡ stage.Next → JoinsNext x y result
+    → Turned state same_plan now shutdown (view_of app limit x first)
+    (view_of app limit y (outcome_end result)) (stops result)
+turned_next state same_plan now shutdown app limit x y first outcome.Done plan over is
+    h = rw (h.1, over.1, h.2, h.3, is) (turned_joined state same_plan now shutdown
+    (view_of app limit x first) y.session over.0 plan over.2 over.3 h.0)
+turned_next state same_plan now shutdown app limit x y first
+    (outcome.Ends reason) plan over is h =
+    let more : still_calls (view_of app limit x first) false
+    ≤ 3 * length (entries (view_of app limit x first)) + 1 =
+    rw (over.1, is) (omega (arith, length-append x.transcript.done.items (over.0 ∷ []))) in
+    rw (h.1, h.2, h.3, h.4) (turned_stays state same_plan now shutdown
+    (view_of app limit x first) (Some reason) true plan more
+    (leaves_starved (state x.session.link) x.transcript.last reason h.0))
+turned_next state same_plan now shutdown app limit x y first (outcome.Waits what) plan over is h =
+    absurd h
 
-pub few_next : {L C J : Type 0} (state : L → LinkState) (old new : SessionView L C) (before behind : Transcript) (from to : Stage J) (result : Outcome)
-    → IsLastOver old before.last → JoinsNext old new before behind from to result
-    → FewReadsNotReady (state old.link) (state new.link) (before.done.items ++ option_to_list before.last) (behind.done.items ++ option_to_list behind.last) result
-few_next state old new before behind from to outcome.Done over h =
-    rw (h.1, h.2, over.1) (few_joined state old new before.done.items over.0 (ap (λ s. s.link) h.0.rest))
-few_next state old new before behind from to (outcome.Waits what) over h = absurd h
-few_next state old new before behind from to (outcome.Ends (end.Failed error)) over h = rw (h.1, h.2, h.3) (omega arith)
-few_next state old new before behind from to (outcome.Ends _) over h = absurd h
-
-pub turned_next : {L C A J : Type 0} (state : L → LinkState) (pends : J → ℕ) (app : A) (limit : Option ℕ)
-    (old new : SessionView L C) (before behind : Transcript) (from to : Stage J) (first second : Option End) (result : Outcome)
-    → IsLastOver old before.last → from ≡ stage.Next → JoinsNext old new before behind from to result
-    → TurnCause state pends (at_view app limit old before.done.items before.last from first) (at_view app limit new behind.done.items behind.last to second) result
-turned_next state pends app limit old new before behind from to first second outcome.Done over is h =
-    rw (h.1, over.1, h.3, is) (turned_joined state pends app limit old new before.done.items over.0 first second h.0)
-turned_next state pends app limit old new before behind from to first second (outcome.Waits what) over is h = absurd h
-turned_next state pends app limit old new before behind from to first second (outcome.Ends (end.Failed error)) over is h = λ since s. rw h.0 tt
-turned_next state pends app limit old new before behind from to first second (outcome.Ends _) over is h = absurd h
+-- and why it goes on or ends
+pub caused_next : {L C A J : Type 0} (state : L → LinkState) (begins : J → Type 0) (pends : J → ℕ)
+    (app : A) (limit : Option ℕ) (x y : Exchange L J C) (first second : Option End)
+    (result : Outcome) → LastMayGoOn x.session x.transcript.last → x.stage ≡ stage.Next
+    → JoinsNext x y result
+    → TurnCause state begins pends (view_of app limit x first) (view_of app limit y second) result
+caused_next {J = J} state begins pends app limit x y first second outcome.Done over is h =
+    rw (h.1, over.1, h.3, is) (
+      nearer x.session.budget y.session.budget J (ap (λ s. s.budget) h.0.rest),
+      (λ same. absurd (omega (arith, same, length-append x.transcript.done.items (over.0 ∷ [])))),
+      tt,
+    )
+caused_next state begins pends app limit x y first second (outcome.Ends reason) over is h =
+    λ since s. memory_ends since (state x.session.link) (state y.session.link)
+    y.transcript.done.items y.transcript.last reason h.0
+caused_next state begins pends app limit x y first second (outcome.Waits what) over is
+    h = absurd h

@@ -1,274 +1,288 @@
 -- The steps that write the header and the body of a reply, whole.
-use Rattle.std.proofs.Common.{◌≡◌, ℕ, ◌/◌, List, [], Bool, true, false, not, Option, Some, None, Result, Ok, Err, IfSome, IfNone, is_some, refl, arith}
-use Rattle.futures.specs.declared.task.Poll.{Poll}
-use Rattle.futures.specs.declared.task.Poll.TheVariants.{Ready, Pending}
-use Rattle.h1_error.specs.declared.error.Error.{Error}
-use Rattle.h1_link.specs.LinkState.{LinkState}
-use Rattle.h1_head.specs.Views.{RequestView, ResponseView}
-use Rattle.h1_head.specs.Date.{IsDateAt}
-use Rattle.h1_transfer.specs.Budget.{allowance}
-use Rattle.h1_server.specs.SessionView.{SessionView}
-use Rattle.h1_server.specs.HeaderWrites.{HeaderCall, HeaderWrite, is_passed_over}
-use Rattle.h1_server.specs.Writes.{WritesPiece}
-use Rattle.h1_server.specs.declared.request.Request.{Request}
-use Rattle.h1_server.specs.declared.settings.Settings.{Settings}
-use Rattle.h1_transcript.specs.declared.reply.Reply.{Reply}
-use Rattle.h1_transcript.specs.declared.transcript.Entry.{Entry}
-use Rattle.h1_app.specs.declared.exchange.Exchange.{Exchange}
-use Rattle.h1_app.specs.declared.exchange.Stage.{Stage}
+use Rattle.std.proofs.Common.{Bool, Err, IfNone, IfSome, List, None, Ok, Option, Result, Some, [], ap, arith, false, is_some, not, refl, sym, true, ℕ, ◌||◌, ◌∙◌, ◌≡◌}
+use Rattle.std.proofs.lemmas.Bool.{false≢true}
+use Rattle.std.proofs.lemmas.Option.{none-some, same_Some}
+use Rattle.h1_app.specs.Words.{Entry, Error, ErrorType, Exchange, FailureCause, Given, HeaderAnswer, HeaderCall, HeaderWrite, IsAllowed, IsLawful, LinkState, Outcome, Outgoing, Pending, Poll, Ready, Reply, Request, RequestView, ResponseView, SessionView, Settings, WritesHeader, WritesPiece, after_piece, allowance, given_to, is_passed_over}
+use Rattle.h1_body.specs.Writer.{piece_bytes}
+use Rattle.h1_error.specs.declared.head_fault.HeadFault.TheVariants.{UnsupportedVersion}
+use Rattle.h1_head.specs.Versions.{is_http_1, is_http_10, is_http_11}
+use Rattle.h1_server.specs.HeaderWrites.{HeaderRefusal}
+use Rattle.h1_transfer.specs.BodyWrites.{piece_count}
+use Rattle.h1_transfer.specs.PieceWrites.{PieceAnswer}
+use Rattle.http.specs.declared.version.Http.{Http}
+use Rattle.http.specs.declared.version.Http.TheVariants.{Http10, Http11}
+use Rattle.http.specs.declared.version.Version.{Version}
+use Rattle.h1_app.proofs.BodyReplies.{body_part, empty_body, empty_part, some_body}
+use Rattle.h1_app.proofs.CallSteps.{AnswersCall, call_stepped, goes_on_stepped, lower}
+use Rattle.h1_app.proofs.HeaderTaken.{headed_noted, header_ahead, header_allowed, header_begins, header_part, taken_up, taking_header}
+use Rattle.h1_app.proofs.PartLemmas.{Part, WritesPart, more_of, part_replied, replying}
+use Rattle.h1_app.proofs.ReplyLemmas.{at_none, at_some, headed_on}
+use Rattle.h1_app.proofs.StepLemmas.{allowed_written, unchanged_stepped}
+use Rattle.h1_app.proofs.Words.{IsPieceOf, IsReplied, SoundStage, StepReady, Stepped, filled}
+use Rattle.h1_app.specs.Replying.{NotesHeader, StandsAfter}
 use Rattle.h1_app.specs.declared.exchange.Stage.TheVariants as at
-use Rattle.h1_app.specs.declared.exchange.Outcome.{Outcome}
+use Rattle.h1_error.specs.declared.error.ErrorType.TheVariants as kind
 use Rattle.h1_app.specs.declared.exchange.Outcome.TheVariants as outcome
-use Rattle.h1_transcript.specs.Given.{Given}
-use Rattle.h1_transcript.specs.Exchange.{IsAllowed}
-use Rattle.h1_app.specs.Sound.{SoundStage, IsKept, IsPieceOf}
-use Rattle.h1_app.specs.Step.{StepReady, Stepped}
-use Rattle.h1_app.proofs.BodyReplies.{at_take_body, at_body, untouched, empty_body, some_body, no_body_accounted, no_body_done, body_grows, taking_call, taken_accounted, taken_grows, taken_waits, taken_done, body_call, piece_accounted, piece_grows, piece_waits, piece_done, piece_fails}
-use Rattle.h1_app.proofs.HeaderReplies.{at_header, header_call, header_accounted, header_grows, header_waits, header_done, header_fails}
-use Rattle.h1_app.proofs.HeaderTaken.{at_take_header, headed_as, out_where_done, out_where_pending, same_where_kept, taking_header, writes_header, headed_accounted, headed_grows, headed_allowed, headed_waits, headed_done, headed_ahead, headed_fails}
-use Rattle.h1_app.proofs.ReplyLemmas.{at_some, ahead_down, moves_wrote}
-use Rattle.h1_app.proofs.StepLemmas.{StandsAfter, allowed_written, written_outcome, wrote_stepped}
+use Rattle.h1_transfer.specs.declared.outgoing.Step.TheVariants as step
 
--- a header that is taken up by the call: where the call failed, the header was taken out
-abbrev pub IsOut : Poll (Result (Unit {0}) Error) → Option ResponseView → Type 0
-IsOut Pending kept = Unit {0}
-IsOut (Ready (Ok done)) kept = Unit {0}
-IsOut (Ready (Err error)) kept = kept ≡ None
+header_answered : (before now : LinkState) (new : Outgoing) (left : ℕ)
+    (answer : Poll (Result (Unit {0}) Error))
+    → HeaderAnswer before now new left answer → AnswersCall before now new step.Head left answer
+header_answered before now new left Pending told = told.0
+header_answered before now new left (Ready (Ok done)) told = told.0
+header_answered before now new left (Ready (Err error)) told = told
 
-out_of : {L C : Type 0} (state : L → LinkState) (old new : SessionView L C) (request : Request)
-    (header kept : Option ResponseView) (now : ℕ)
-    (answer : Poll (Result (Unit {0}) Error)) → HeaderWrite state old new request header kept now
-    answer → IsOut answer kept → kept ≡ None
-out_of state old new request header kept now Pending w out = out_where_pending state old new request
-    header kept now Pending w refl
-out_of state old new request header kept now (Ready (Ok done)) w out = out_where_done state old new
-    request header kept now (Ready (Ok done)) done w refl
-out_of state old new request header kept now (Ready (Err error)) w out = out
+piece_answered : (before now : LinkState) (new : Outgoing) (count : Option ℕ) (left : ℕ)
+    (answer : Poll (Result (Option ℕ) Error))
+    → PieceAnswer before now new count left answer
+    → AnswersCall before now new (step.Piece count) left answer
+piece_answered before now new count left Pending told = told.0
+piece_answered before now new count left (Ready (Ok taken)) told = told.0
+piece_answered before now new count left (Ready (Err error)) told = told
 
--- the header is taken up
-pub taken_header_stepped : {L C J : Type 0} (state : L → LinkState) (pends : J → ℕ)
-    (gives : Given → Reply → Type 0)
-    (runs : J → RequestView → Settings → Settings → List ℕ → Type 0)
-    (now : ℕ) (shutdown : Bool) (x y : Exchange L J C) (e : Entry) (sent : ResponseView)
-    (header kept : Option ResponseView) (answer : Poll (Result (Unit {0}) Error))
-    (text : List ℕ) (keep : Bool) (written : ℕ) (result : Outcome)
-    → StepReady gives runs now x → x.stage ≡ at.TakeHeader → x.transcript.last ≡ Some e
-    → y.transcript.last ≡ Some (headed_as e sent (now / 1000) text keep written)
-    → IsDateAt (now / 1000) text
-    → IfSome e.reply (λ reply. (sent ≡ reply.header) × (header ≡ Some reply.header))
-    → IfNone x.session.reply.refused
-    (IfSome x.session.request
-    (λ request. HeaderCall state x.session y.session request header kept now answer
-    (is_passed_over header x.session.reply.headed)))
-    → keep ≡ y.session.reply.keep → written ≡ y.session.reply.sent
-    → IsOut answer kept → StandsAfter answer at.Header at.TakeBody y.stage result
-    → Stepped state pends gives runs now shutdown x y result
-taken_header_stepped {L} {C} {J} state pends gives runs now shutdown x y e sent header kept answer
-    text keep written result ready stage was is dated headers call keeps count out stands =
-    let h = at_take_header runs x.session x.transcript.last x.stage e stage was ready.sound in
-    let b = at_some (λ reply. (sent ≡ reply.header) × (header ≡ Some reply.header)) e.reply h.reply
-    h.replied.is headers in
-    let t = taking_header state x.session y.session e header kept now answer h b.1 call in
-    let w = writes_header state x.session y.session h.request
-    (Some h.reply.header) kept now answer t
-    (out_of state x.session y.session h.request (Some h.reply.header) kept now answer t out) in
-    let f : Entry = headed_as e sent (now / 1000) text keep written in
-    wrote_stepped state pends gives runs now shutdown x y e f w.taking w.left result ready was is
-    w.writes refl
-    (λ before done s. headed_accounted state before done x.session y.session e now answer sent text keep
-    written h w b.0 dated keeps s)
-    (headed_allowed gives state x.session y.session e now answer sent text keep written h w b.0
-    dated ready.moment keeps ready.lawful
-    (at_some (IsAllowed gives) x.transcript.last e was ready.allowed))
-    count (headed_grows state x.session y.session e now answer sent
-    (now / 1000) text keep written h w count refl)
-    (written_outcome state pends runs x.session y.session (Some f) answer x.stage at.Header
-    at.TakeBody y.stage result
-    (λ pending. headed_waits runs state x.session y.session e now answer sent
-    (now / 1000) text keep written h w b.0 keeps count pending ready.budget)
-    (λ done told. (
-      headed_done runs state x.session y.session e now answer done sent
-          (now / 1000) text keep written h w b.0 keeps count told,
-      rw stage (omega arith),
-      headed_ahead state x.session y.session e now answer done x.stage h w told ready.budget stage,
-    ))
-    (λ error failed before done. headed_fails state before done x.session y.session
-    (Some f) h.request (Some h.reply.header) now answer error w failed) stands)
+-- nothing is handed in, and nothing back
+none_back : {L C : Type 0} (state : L → LinkState) (old new : SessionView L C) (request : Request)
+    (kept : Option ResponseView) (now : ℕ) (answer : Poll (Result (Unit {0}) Error))
+    → HeaderWrite state old new request None kept now answer
+    → WritesHeader state old new request None now answer
+none_back state old new request None now answer w = w
+none_back state old new request (Some header) now answer w = absurd (none-some header w.back)
 
--- a header that stays handed in changes nothing
-pub header_unchanged : {L C J : Type 0} (state : L → LinkState)
-    (runs : J → RequestView → Settings → Settings → List ℕ → Type 0) (old new : SessionView L C)
-    (last : Option Entry) (stage : Stage J)
-    (e : Entry) (sent : ResponseView) (header kept : Option ResponseView) (now : ℕ)
-    (answer : Poll (Result (Unit {0}) Error)) (none : Bool)
-    → SoundStage runs old last stage → stage ≡ at.TakeHeader → last ≡ Some e
-    → IfSome e.reply (λ reply. (sent ≡ reply.header) × (header ≡ Some reply.header))
-    → IfNone old.reply.refused
-    (IfSome old.request
-    (λ request. HeaderCall state old new request header kept now answer
-    (is_passed_over header old.reply.headed)))
-    → is_some kept ≡ not none → none ≡ false → new ≡ old
-header_unchanged state runs old new last stage e sent header kept now answer none sound at_stage was
-    headers call tells some =
-    let h = at_take_header runs old last stage e at_stage was sound in
-    let b = at_some (λ reply. (sent ≡ reply.header) × (header ≡ Some reply.header)) e.reply h.reply
-    h.replied.is headers in
-    same_where_kept state old new h.request (Some h.reply.header) kept now answer none
-    (taking_header state old new e header kept now answer h b.1 call) tells some
+-- a lawful reply has a version that may be written
+one_is_written : (version : Version) → (is_http_10 version || is_http_11 version) ≡ true
+    → is_http_1 version ≡ true
+one_is_written version one = by_name version.0 refl one
+  where
+    by_name : (name : Http) → version.0 ≡ name
+        → (is_http_10 version || is_http_11 version) ≡ true → is_http_1 version ≡ true
+    by_name Http10 is one = rw is refl
+    by_name Http11 is one = rw is refl
+    by_name _ is one = absurd (false≢true (rw is at one))
 
--- the header goes on
-pub header_stepped : {L C J : Type 0} (state : L → LinkState) (pends : J → ℕ)
-    (gives : Given → Reply → Type 0)
-    (runs : J → RequestView → Settings → Settings → List ℕ → Type 0)
-    (now : ℕ) (shutdown : Bool) (x y : Exchange L J C) (e : Entry) (kept : Option ResponseView)
-    (answer : Poll (Result (Unit {0}) Error)) (written : ℕ) (result : Outcome)
-    → StepReady gives runs now x → x.stage ≡ at.Header → x.transcript.last ≡ Some e
-    → y.transcript.last ≡ Some (record e { written = written })
-    → IfNone x.session.reply.refused
-    (IfSome x.session.request
-    (λ request. HeaderCall state x.session y.session request None kept now answer false))
-    → written ≡ y.session.reply.sent → StandsAfter answer at.Header at.TakeBody y.stage result
-    → Stepped state pends gives runs now shutdown x y result
-header_stepped {L} {C} {J} state pends gives runs now shutdown x y e kept answer written result
-    ready stage was is call count stands =
-    let h = at_header runs x.session x.transcript.last x.stage e stage was ready.sound in
-    let w = header_call state x.session y.session e kept now answer h call in
-    let f : Entry = record e { written = written } in
-    let a = at_some (IsAllowed gives) x.transcript.last e was ready.allowed in
-    wrote_stepped state pends gives runs now shutdown x y e f w.taking w.left result ready was is
-    w.writes refl
-    (λ before done s. header_accounted state before done x.session y.session e now answer written h w s)
-    (allowed_written gives e e.sent_body e.owed written a a.sent_body (λ owed. owed)) count
-    (header_grows state x.session y.session e now answer written h w count)
-    (written_outcome state pends runs x.session y.session (Some f) answer x.stage at.Header
-    at.TakeBody y.stage result
-    (λ pending. header_waits runs state x.session y.session at.Header e now answer written h w count
-    pending refl ready.budget)
-    (λ done told. (
-      header_done runs state x.session y.session e now answer done written h w count told,
-      rw stage (omega arith),
-      ahead_down state x.session y.session x.stage at.TakeBody
-          (moves_wrote state x.session y.session w.taking w.left ready.budget w.writes)
-          (rw stage (omega arith)),
-    ))
-    (λ error failed before done. header_fails state before done x.session y.session
-    (Some f) e now answer error h w failed) stands)
+-- a lawful header is handed back only where there is no memory
+back_cause : (header : ResponseView) (before old now : LinkState) (done : List Entry)
+    (last : Option Entry) (error : Error) (k : ErrorType)
+    → IsLawful header → HeaderRefusal header k → FailureCause before old now done last error k
+back_cause header before old now done last error (kind.InvalidHTTPHeader UnsupportedVersion) lawful
+    refused =
+    absurd (false≢true (sym refused ∙ one_is_written header.version lawful.version))
+back_cause header before old now done last error kind.NoMemory lawful refused = tt
+back_cause header before old now done last error _ lawful refused = absurd refused
 
--- a body without bytes needs no call
-pub empty_body_stepped : {L C J : Type 0} (state : L → LinkState) (pends : J → ℕ)
-    (gives : Given → Reply → Type 0)
-    (runs : J → RequestView → Settings → Settings → List ℕ → Type 0)
-    (now : ℕ) (shutdown : Bool) (x y : Exchange L J C) (e : Entry) (sent : List ℕ)
-    (piece : Option (List ℕ)) (none : Bool)
-    → StepReady gives runs now x → x.stage ≡ at.TakeBody → x.transcript.last ≡ Some e
-    → y.transcript.last ≡ Some (record e { sent_body = Some sent })
-    → IfSome e.reply (λ reply. (sent ≡ reply.body) × IsPieceOf reply.body piece)
-    → is_some piece ≡ not none → none ≡ true
-    → y.session ≡ x.session → y.stage ≡ at.Finish
-    → Stepped state pends gives runs now shutdown x y outcome.Done
-empty_body_stepped {L} {C} {J} state pends gives runs now shutdown x y e sent piece none ready stage
-    was is bodies tells empty same finish =
-    let h = at_take_body runs x.session x.transcript.last x.stage e stage was ready.sound in
-    let b = at_some (λ reply. (sent ≡ reply.body) × IsPieceOf reply.body piece) e.reply h.reply
-    h.replied.is bodies in
-    let no_bytes = empty_body h.reply.body piece none b.1 tells empty in
-    let f : Entry = record e { sent_body = Some sent } in
-    let a = at_some (IsAllowed gives) x.transcript.last e was ready.allowed in
-    let w = untouched state x.session e h in
-    let went = moves_wrote state x.session x.session [] (allowance x.session.budget) ready.budget
-    w in
-    wrote_stepped state pends gives runs now shutdown x y e f []
-    (allowance x.session.budget) outcome.Done ready was is (rw same w) refl
-    (λ before done s. rw same (no_body_accounted state before done x.session e sent h b.0 no_bytes s))
-    (allowed_written gives e (Some sent) e.owed e.written a (h.reply, h.replied.is, b.0)
-    (λ owed. owed))
-    (rw same (at_some (IsKept x.session) x.transcript.last e was ready.kept))
-    (body_grows now (state x.session.link) (state y.session.link) e sent e.written h.sent_body
-    (omega arith))
-    (rw (same, finish) (
-      no_body_done runs state x.session e sent h b.0 no_bytes,
-      rw stage (omega arith),
-      ahead_down state x.session x.session x.stage at.Finish went (rw stage (omega arith)),
-    ))
+module _ {L C J : Type 0} (state : L → LinkState) (pends : J → ℕ) (gives : Given → Reply → Type 0)
+    (runs : J → RequestView → Settings → Settings → List ℕ → Type 0) (now : ℕ) (shutdown : Bool)
+    (x y : Exchange L J C) (result : Outcome) (ready : StepReady gives runs now x) where
+  -- the header goes on
+  pub header_stepped : (kept : Option ResponseView) (answer : Poll (Result (Unit {0}) Error))
+      (written : ℕ) (h : SoundStage runs x.session x.transcript.last at.Header)
+      → x.stage ≡ at.Header
+      → IfSome x.transcript.last
+      (λ e. y.transcript.last ≡ Some (record e { written = written }))
+      → IfNone x.session.reply.refused (IfSome x.session.request
+      (λ request. HeaderCall state x.session y.session request None kept now answer false))
+      → written ≡ y.session.reply.sent
+      → StandsAfter answer at.Header at.TakeBody x.stage y.stage result
+      → Stepped state pends gives runs now shutdown x y result
+  header_stepped kept answer written h stage is call count stands =
+      let e : Entry = h.0 in
+      let f : Entry = record e { written = written } in
+      let made : HeaderWrite state x.session y.session h.2 None kept now answer =
+      at_some (λ request. HeaderCall state x.session y.session request None kept now answer false)
+      x.session.request h.2 h.4.asked.is (at_none _ x.session.reply.refused h.5.refused call) in
+      let w = none_back state x.session y.session h.2 kept now answer made in
+      let begun = w.takes.1.writer ∙ h.7 in
+      goes_on_stepped state pends gives runs now shutdown x y result ready e h.1 h.2 h.3 w.taking
+      w.left written step.Head answer at.Header at.TakeBody stage (omega arith) (omega arith)
+      (rw h.1 at is) count h.4 h.5 w.writes w.takes
+      (header_answered (state x.session.link) (state y.session.link) y.session.reply w.left answer
+      w.answer)
+      (λ r headed at_step. (f, refl, h.2, h.3, r, headed, h.6, begun, at_step))
+      (λ r headed done. (f, refl, h.2, h.3, r, headed, h.6, begun, done.free, done.owed))
+      stands
 
--- the body is taken up
-pub taken_body_stepped : {L C J : Type 0} (state : L → LinkState) (pends : J → ℕ)
-    (gives : Given → Reply → Type 0)
-    (runs : J → RequestView → Settings → Settings → List ℕ → Type 0)
-    (now : ℕ) (shutdown : Bool) (x y : Exchange L J C) (e : Entry) (sent : List ℕ)
-    (piece kept : Option (List ℕ)) (none : Bool) (answer : Poll (Result (Option ℕ) Error))
-    (written : ℕ)
-    (result : Outcome)
-    → StepReady gives runs now x → x.stage ≡ at.TakeBody → x.transcript.last ≡ Some e
-    → y.transcript.last ≡ Some (record e { sent_body = Some sent; written = written })
-    → IfSome e.reply (λ reply. (sent ≡ reply.body) × IsPieceOf reply.body piece)
-    → is_some piece ≡ not none → none ≡ false
-    → IfNone x.session.reply.refused (WritesPiece state x.session y.session piece kept answer)
-    → written ≡ y.session.reply.sent → StandsAfter answer at.Body at.Finish y.stage result
-    → Stepped state pends gives runs now shutdown x y result
-taken_body_stepped {L} {C} {J} state pends gives runs now shutdown x y e sent piece kept none answer
-    written result ready stage was is bodies tells some call count stands =
-    let h = at_take_body runs x.session x.transcript.last x.stage e stage was ready.sound in
-    let b = at_some (λ reply. (sent ≡ reply.body) × IsPieceOf reply.body piece) e.reply h.reply
-    h.replied.is bodies in
-    let w = taking_call state x.session y.session e piece kept answer h
-    (some_body h.reply.body piece none b.1 tells some) call in
-    let f : Entry = record e { sent_body = Some sent; written = written } in
-    let a = at_some (IsAllowed gives) x.transcript.last e was ready.allowed in
-    wrote_stepped state pends gives runs now shutdown x y e f w.taking w.left result ready was is
-    w.writes refl
-    (λ before done s. taken_accounted state before done x.session y.session e kept answer sent written h
-    w b.0 s)
-    (allowed_written gives e (Some sent) e.owed written a (h.reply, h.replied.is, b.0)
-    (λ owed. owed)) count
-    (taken_grows state now x.session y.session e kept answer sent written h w count)
-    (written_outcome state pends runs x.session y.session (Some f) answer x.stage at.Body at.Finish
-    y.stage result
-    (λ pending. taken_waits runs state x.session y.session e kept answer sent written h w count
-    pending b.0 ready.budget)
-    (λ told_count told. (
-      taken_done runs state x.session y.session e kept answer told_count sent written h w count told
-          b.0,
-      rw stage (omega arith),
-      ahead_down state x.session y.session x.stage at.Finish
-          (moves_wrote state x.session y.session w.taking w.left ready.budget w.writes)
-          (rw stage (omega arith)),
-    ))
-    (λ error failed before done. piece_fails state before done x.session y.session (Some f)
-    (Some h.reply.body) kept answer error w failed) stands)
+  -- the body goes on
+  pub body_stepped : (kept : Option (List ℕ)) (answer : Poll (Result (Option ℕ) Error))
+      (written : ℕ) (h : SoundStage runs x.session x.transcript.last at.Body)
+      → x.stage ≡ at.Body
+      → IfSome x.transcript.last
+      (λ e. y.transcript.last ≡ Some (record e { written = written }))
+      → IfNone x.session.reply.refused (WritesPiece state x.session y.session None kept answer)
+      → written ≡ y.session.reply.sent
+      → StandsAfter answer at.Body at.Finish x.stage y.stage result
+      → Stepped state pends gives runs now shutdown x y result
+  body_stepped kept answer written h stage is call count stands =
+      let e : Entry = h.0 in
+      let f : Entry = record e { written = written } in
+      let w : WritesPiece state x.session y.session None kept answer =
+      at_none _ x.session.reply.refused h.5.refused call in
+      let filled_is = w.takes.1.writer ∙ h.7 in
+      let count_is : Option ℕ = piece_count x.session.reply None in
+      goes_on_stepped state pends gives runs now shutdown x y result ready e h.1 h.2 h.3 w.taking
+      w.left written (step.Piece count_is) answer at.Body at.Finish stage (omega arith)
+      (omega arith) (rw h.1 at is) count h.4 h.5 w.writes w.takes
+      (piece_answered (state x.session.link) (state y.session.link) y.session.reply count_is w.left
+      answer w.answer)
+      (λ r headed at_step. (f, refl, h.2, h.3, r, headed, h.6, filled_is, (count_is, at_step)))
+      (λ r headed done. (f, refl, h.2, h.3, r, headed, h.6, rw done.free (done.owed, filled_is)))
+      stands
 
--- the body goes on
-pub body_stepped : {L C J : Type 0} (state : L → LinkState) (pends : J → ℕ)
-    (gives : Given → Reply → Type 0)
-    (runs : J → RequestView → Settings → Settings → List ℕ → Type 0)
-    (now : ℕ) (shutdown : Bool) (x y : Exchange L J C) (e : Entry) (kept : Option (List ℕ))
-    (answer : Poll (Result (Option ℕ) Error)) (written : ℕ) (result : Outcome)
-    → StepReady gives runs now x → x.stage ≡ at.Body → x.transcript.last ≡ Some e
-    → y.transcript.last ≡ Some (record e { written = written })
-    → IfNone x.session.reply.refused (WritesPiece state x.session y.session None kept answer)
-    → written ≡ y.session.reply.sent → StandsAfter answer at.Body at.Finish y.stage result
-    → Stepped state pends gives runs now shutdown x y result
-body_stepped {L} {C} {J} state pends gives runs now shutdown x y e kept answer written result ready
-    stage was is call count stands =
-    let h = at_body runs x.session x.transcript.last x.stage e stage was ready.sound in
-    let w = body_call state x.session y.session e kept answer h call in
-    let f : Entry = record e { written = written } in
-    let a = at_some (IsAllowed gives) x.transcript.last e was ready.allowed in
-    wrote_stepped state pends gives runs now shutdown x y e f w.taking w.left result ready was is
-    w.writes refl
-    (λ before done s. piece_accounted state before done x.session y.session e kept answer written h w s)
-    (allowed_written gives e e.sent_body e.owed written a a.sent_body (λ owed. owed)) count
-    (piece_grows state now x.session y.session e kept answer written h w count)
-    (written_outcome state pends runs x.session y.session (Some f) answer x.stage at.Body at.Finish
-    y.stage result
-    (λ pending. piece_waits runs state x.session y.session at.Body e kept answer written h w count
-    pending refl ready.budget)
-    (λ told_count told. (
-      piece_done runs state x.session y.session e kept answer told_count written h w count told,
-      rw stage (omega arith),
-      ahead_down state x.session y.session x.stage at.Finish
-          (moves_wrote state x.session y.session w.taking w.left ready.budget w.writes)
-          (rw stage (omega arith)),
-    ))
-    (λ error failed before done. piece_fails state before done x.session y.session
-    (Some f) None kept answer error w failed) stands)
+  -- the header is taken up, or it is handed back
+  pub taken_header_stepped : (sent : ResponseView) (header kept : Option ResponseView)
+      (answer : Poll (Result (Unit {0}) Error)) (keep : Bool) (written : ℕ) (f : Entry)
+      (h : SoundStage runs x.session x.transcript.last at.TakeHeader)
+      → x.stage ≡ at.TakeHeader
+      → IfSome x.transcript.last (λ e. IfSome e.reply (λ reply. (sent ≡ reply.header)
+      × (header ≡ Some reply.header)))
+      → IfSome x.transcript.last (λ e. NotesHeader kept sent now keep written e f)
+      → y.transcript.last ≡ Some f
+      → IfNone x.session.reply.refused (IfSome x.session.request
+      (λ request. HeaderCall state x.session y.session request header kept now answer
+      (is_passed_over header x.session.reply.headed)))
+      → keep ≡ y.session.keep → written ≡ y.session.reply.sent
+      → StandsAfter answer at.Header at.TakeBody x.stage y.stage result
+      → Stepped state pends gives runs now shutdown x y result
+  taken_header_stepped sent header kept answer keep written f h stage headers notes is call keeps
+      count stands =
+      let b = at_some (λ reply. (sent ≡ reply.header) × (header ≡ Some reply.header)) h.0.reply
+      h.3 h.4.is (rw h.1 at headers) in
+      by_back b.0 kept
+      (taking_header state x.session y.session h.2 h.3 header kept now answer h.4.asked.is h.5 b.1
+      call)
+      (rw h.1 at notes)
+    where
+      by_back : sent ≡ h.3.header → (kept : Option ResponseView)
+          → HeaderWrite state x.session y.session h.2 (Some h.3.header) kept now answer
+          → NotesHeader kept sent now keep written h.0 f
+          → Stepped state pends gives runs now shutdown x y result
+      by_back same (Some back) w notes =
+          let lawful : IsLawful h.3.header =
+          ready.lawful (given_to h.0 h.0.head) h.3
+          (at_some (λ reply. (h.0.filtered ≡ Some h.0.head) × gives (given_to h.0 h.0.head) reply)
+          h.0.reply h.3 h.4.is (at_some (IsAllowed gives) x.transcript.last h.0 h.1
+          ready.allowed).reply).1 in
+          let ends = rw w.answer at stands in
+          let back_is : h.3.header ≡ back = same_Some h.3.header back w.back in
+          unchanged_stepped state pends gives runs now shutdown x y h.0 result ready h.1
+          (is ∙ ap Some notes) w.same
+          (rw ends.1 (λ before done s. (
+            w.retry,
+            back_cause h.3.header before (state x.session.link) (state y.session.link) done
+                (Some h.0) w.error w.error.kind lawful (rw (sym back_is) at w.cause),
+          )))
+      by_back same None w notes =
+          let text : List ℕ = f.date_text in
+          let p : Part = taken_up h.0 h.3.header now text y.session in
+          let g : Entry = replying h.0 p in
+          let f_is : f ≡ g = rw (same, keeps, count) at notes.1 in
+          let part = header_part state now x.session y.session h.0 h.2 h.3 answer text h.4 w notes.0
+          h.6 h.7 in
+          let r = part_replied state now x.session y.session w.taking w.left h.0 p h.2 h.3
+          part h.4 in
+          let begun = header_begins state now x.session y.session h.0 h.2 h.3 answer text h.4 w in
+          let noted = headed_noted state now x.session y.session h.0 h.2 h.3 answer text h.4 w in
+          call_stepped state pends gives runs now shutdown x y result ready h.0 h.1 p w.taking
+          w.left step.Head answer at.Header at.TakeBody part (is ∙ ap Some f_is) refl
+          (header_allowed state now x.session y.session h.0 h.2 h.3 answer text h.4 w gives notes.0
+          ready.moment ready.lawful
+          (at_some (IsAllowed gives) x.transcript.last h.0 h.1 ready.allowed))
+          (header_answered (state x.session.link) (state y.session.link) y.session.reply w.left
+          answer w.answer)
+          (λ refused at_step. (g, refl, h.2, h.3, r, noted refused, h.7, begun, at_step))
+          (λ done. (
+            (g, refl, h.2, h.3, r, noted done.refused, h.7, begun, done.free, done.owed),
+            rw stage (omega arith),
+            header_ahead state now x.session y.session h.0 h.2 h.3 answer text h.4 w x.stage
+                ready.budget done.owed stage,
+          ))
+          stands
+
+  -- the body is taken up: by a call that writes it, or without one where it is empty
+  body_taken_stepped : (answer : Poll (Result (Option ℕ) Error)) (written : ℕ)
+      (count : Option ℕ) (taking : List ℕ) (left : ℕ)
+      (h : SoundStage runs x.session x.transcript.last at.TakeBody)
+      → x.stage ≡ at.TakeBody
+      → y.transcript.last ≡ Some (record h.0 { sent_body = Some h.3.body; written = written })
+      → WritesPart state now x.session y.session taking left h.0
+      (record (more_of h.0 h.0.owed written) { body = Some h.3.body })
+      → y.session.reply.headed ≡ x.session.reply.headed
+      → y.session.keep ≡ x.session.keep
+      → y.session.reply.writer ≡ filled h.0 h.3
+      → AnswersCall (state x.session.link) (state y.session.link) y.session.reply (step.Piece count)
+      left answer
+      → StandsAfter answer at.Body at.Finish x.stage y.stage result
+      → Stepped state pends gives runs now shutdown x y result
+  body_taken_stepped answer written count taking left h stage is part headed keep writer told
+      stands =
+      let p : Part = record (more_of h.0 h.0.owed written) { body = Some h.3.body } in
+      let f : Entry = replying h.0 p in
+      let r : IsReplied f y.session h.2 h.3 =
+      part_replied state now x.session y.session taking left h.0 p h.2 h.3 part h.4 in
+      let noted = λ (refused : y.session.reply.refused ≡ None).
+      headed_on x.session y.session h.0 f h.3 refl refl refl headed keep refused h.5 in
+      let below = lower state pends gives runs now shutdown x y result ready h.0 h.1 p taking left
+      at.TakeBody at.Finish part stage (omega arith) (omega arith) in
+      call_stepped state pends gives runs now shutdown x y result ready h.0 h.1 p taking left
+      (step.Piece count) answer at.Body at.Finish part is h.5.owed
+      (allowed_written gives h.0 (Some h.3.body) h.0.owed written
+      (at_some (IsAllowed gives) x.transcript.last h.0 h.1 ready.allowed) (h.3, h.4.is, refl)
+      (λ owed. owed))
+      told
+      (λ refused at_step. (f, refl, h.2, h.3, r, noted refused, refl, writer, (count, at_step)))
+      (λ done. (
+        (f, refl, h.2, h.3, r, noted done.refused, refl, rw done.free (done.owed, writer)),
+        below.0,
+        below.1,
+      ))
+      stands
+
+  -- a body without bytes needs no call
+  pub empty_body_stepped : (piece : Option (List ℕ)) (none : Bool) (f : Entry)
+      (h : SoundStage runs x.session x.transcript.last at.TakeBody)
+      → x.stage ≡ at.TakeBody
+      → IfSome x.transcript.last (λ e. IfSome e.reply (λ reply. IsPieceOf reply.body piece
+      × (f ≡ record e { sent_body = Some reply.body })))
+      → y.transcript.last ≡ Some f
+      → is_some piece ≡ not none → none ≡ true
+      → y.session ≡ x.session → y.stage ≡ at.Finish → result ≡ outcome.Done
+      → Stepped state pends gives runs now shutdown x y result
+  empty_body_stepped piece none f h stage bodies is tells empty same finish done =
+      let b = at_some (λ reply. IsPieceOf reply.body piece
+      × (f ≡ record h.0 { sent_body = Some reply.body })) h.0.reply h.3 h.4.is
+      (rw h.1 at bodies) in
+      let nothing : h.3.body ≡ [] = empty_body h.3.body piece none b.0 tells empty in
+      let part = empty_part state now x.session h.0 h.2 h.3 h.4 h.5.sent_head h.6 h.7 nothing in
+      body_taken_stepped (Ready (Ok None)) h.0.written None [] (allowance x.session.budget) h stage
+      (is ∙ ap Some b.1) (rw same part.0) (rw same refl) (rw same refl) (rw same part.1)
+      (rw same (record { owed = h.9; free = h.8; refused = h.5.refused }))
+      (finish, done)
+
+  -- the body is taken up as one piece
+  pub taken_body_stepped : (piece kept : Option (List ℕ)) (none : Bool)
+      (answer : Poll (Result (Option ℕ) Error)) (written : ℕ) (f : Entry)
+      (h : SoundStage runs x.session x.transcript.last at.TakeBody)
+      → x.stage ≡ at.TakeBody
+      → IfSome x.transcript.last (λ e. IfSome e.reply (λ reply. IsPieceOf reply.body piece
+      × (f ≡ record e { sent_body = Some reply.body })))
+      → y.transcript.last ≡ Some (record f { written = written })
+      → is_some piece ≡ not none → none ≡ false
+      → IfNone x.session.reply.refused (WritesPiece state x.session y.session piece kept answer)
+      → written ≡ y.session.reply.sent
+      → StandsAfter answer at.Body at.Finish x.stage y.stage result
+      → Stepped state pends gives runs now shutdown x y result
+  taken_body_stepped piece kept none answer written f h stage bodies is tells some call count
+      stands =
+      let b = at_some (λ reply. IsPieceOf reply.body piece
+      × (f ≡ record h.0 { sent_body = Some reply.body })) h.0.reply h.3 h.4.is
+      (rw h.1 at bodies) in
+      let w : WritesPiece state x.session y.session (Some h.3.body) kept answer =
+      rw (some_body h.3.body piece none b.0 tells some) at
+      (at_none _ x.session.reply.refused h.5.refused call) in
+      let writer = w.takes.2 ∙ ap (λ x. after_piece x h.3.body) h.7 in
+      body_taken_stepped answer written (piece_count x.session.reply (Some h.3.body)) w.taking
+      w.left h stage (is ∙ ap (λ (e : Entry). Some (record e { written = written })) b.1)
+      (body_part state now x.session y.session h.0 h.2 h.3 w.taking w.left written h.4
+      h.5.sent_head h.6 w.writes (w.takes.0 ∙ ap (λ x. piece_bytes x h.3.body) h.7) writer count)
+      w.takes.1 (ap (λ s. s.keep) w.writes.rest) writer
+      (piece_answered (state x.session.link) (state y.session.link) y.session.reply
+      (piece_count x.session.reply (Some h.3.body)) w.left answer w.answer)
+      stands

@@ -1,52 +1,39 @@
 -- What one step makes of a connection: the exchange that is last goes on, or the next one is awaited.
-use Rattle.std.proofs.Common.{◌≡◌, ℕ, ◌+◌, List, [], ◌∷◌, ◌++◌, length, Bool, false, Option, Some, None, IfSome, IfNone, option_to_list, refl, sym, ◌∙◌, ap, subst, append-nil, arith}
-use Rattle.std.specs.List.{AllByRecursion}
-use Rattle.h1_error.specs.declared.progress.End.{End}
-use Rattle.h1_link.specs.LinkState.{LinkState}
-use Rattle.h1_head.specs.Views.{RequestView}
-use Rattle.h1_server.specs.SessionView.{SessionView}
-use Rattle.h1_server.specs.declared.settings.Settings.{Settings}
-use Rattle.h1_transcript.specs.declared.reply.Reply.{Reply}
-use Rattle.h1_transcript.specs.declared.transcript.Entry.{Entry}
-use Rattle.h1_app.specs.declared.exchange.Stage.{Stage}
+use Rattle.std.proofs.Common.{◌≡◌, ℕ, ◌+◌, ◌<◌, ◌≤◌, inl, inr, List, [], ◌∷◌, ◌++◌, length, Bool, false, Option, Some, None, IfNone, option_to_list, refl, sym, ◌∙◌, ap, subst, append-nil, arith}
+use Rattle.h1_app.specs.Words.{AllByRecursion, End, LinkState, RequestView, SessionView, Settings, Reply, Entry, Exchange, Stage, Outcome, Given, AreBegun, BeginsWith, IsNextSet, IsSetAlike, reuses_at, ExtendsLast, replies}
 use Rattle.h1_app.specs.declared.exchange.Stage.TheVariants as stage
-use Rattle.h1_app.specs.declared.exchange.Outcome.{Outcome}
 use Rattle.h1_app.specs.declared.exchange.Outcome.TheVariants as outcome
-use Rattle.h1_transcript.specs.Given.{Given}
-use Rattle.h1_transcript.specs.Begun.{AreBegun, BeginsWith, IsNextSet, IsSetAlike, IsSetFor, pipelining_behind, reuses_at}
-use Rattle.h1_transcript.specs.Exchange.{IsAllowed}
-use Rattle.h1_app.specs.Turn.{Gone, TurnCause, outcome_end}
-use Rattle.h1_app.specs.Accounted.{Accounted}
-use Rattle.h1_app.specs.Sound.{Sound, SoundStage, IsKept, IfAwaiting}
-use Rattle.h1_transcript.specs.Growth.{ExtendsLast}
-use Rattle.h1_app.specs.Step.{JobFrom, MovesWithin}
-use Rattle.h1_app.specs.Outcome.{OutcomeCause}
-use Rattle.h1_app.specs.View.{View}
-use Rattle.h1_app.specs.Waits.{FewReadsNotReady}
+use Rattle.h1_transcript.specs.Begun.{IsSetFor, pipelining_behind}
+use Rattle.h1_app.proofs.Words.{JobFrom, rank, Turned, TurnCause, outcome_end, stops, Sound, SoundStage, Stepped, OutcomeCause, FewReadsNotReady, view_of}
+use Rattle.h1_app.specs.Sound.{IfAwaiting}
+use Rattle.h1_app.specs.Step.{Continues}
+use Rattle.h1_app.specs.Turn.{JobNew, LeavesBy, one_where}
+use Rattle.h1_app.proofs.LeavesLemmas.{noted_grows}
+use Rattle.h1_app.proofs.OthersLemmas.{awaits_head, still_last, others_stepped}
+use Rattle.h1_transcript.proofs.AloneLemmas.{join_none}
 use Rattle.h1_transcript.proofs.GrowthLemmas.{extends_last, replies_append}
 
--- what contracts see of a connection with these parts
-abbrev pub at_view : {L C A J : Type 0} → A → Option ℕ → SessionView L C → List Entry → Option Entry → Stage J → Option End → View L C A J
-at_view app limit session done last at end =
-    record { session = session; app = app; limit = limit; done = done; last = last; stage = at; end = end }
-
-pub all_join : (P : Entry → Type 0) (done : List Entry) (e : Entry) → AllByRecursion P done → P e → AllByRecursion P (done ++ e ∷ [])
+pub all_join : (P : Entry → Type 0) (done : List Entry) (e : Entry) → AllByRecursion P done → P e
+    → AllByRecursion P (done ++ e ∷ [])
 all_join P [] e all h = (h, tt)
 all_join P (f ∷ more) e all h = (all.0, all_join P more e all.1 h)
 
-pub pipelining_last : (first : Bool) (done : List Entry) (e : Entry) → pipelining_behind first (done ++ e ∷ []) ≡ e.left.pipelining
+pub pipelining_last : (first : Bool) (done : List Entry) (e : Entry)
+    → pipelining_behind first (done ++ e ∷ []) ≡ e.left.pipelining
 pipelining_last first [] e = refl
 pipelining_last first (f ∷ more) e = pipelining_last f.left.pipelining more e
 
-pub reuses_last : (limit : Option ℕ) (i : ℕ) (first : Bool) (done : List Entry) (e : Entry) → AreBegun limit i first (done ++ e ∷ [])
-    → e.began.reuses ≡ reuses_at limit (i + length done)
+pub reuses_last : (limit : Option ℕ) (i : ℕ) (first : Bool) (done : List Entry) (e : Entry)
+    → AreBegun limit i first (done ++ e ∷ []) → e.began.reuses ≡ reuses_at limit (i + length done)
 reuses_last limit i first [] e h = let same : i ≡ i + 0 = omega arith in h.0.reuses ∙ ap (reuses_at limit) same
 reuses_last limit i first (f ∷ more) e h =
     let same : i + 1 + length more ≡ i + length (f ∷ more) = omega arith in
     reuses_last limit (i + 1) f.left.pipelining more e h.1 ∙ ap (reuses_at limit) same
 
-begun_join : (limit : Option ℕ) (i : ℕ) (first : Bool) (done : List Entry) (e : Entry) → AreBegun limit i first done
-    → IsSetFor limit (i + length done) (pipelining_behind first done) e.began → AreBegun limit i first (done ++ e ∷ [])
+begun_join : (limit : Option ℕ) (i : ℕ) (first : Bool) (done : List Entry) (e : Entry)
+    → AreBegun limit i first done
+    → IsSetFor limit (i + length done) (pipelining_behind first done) e.began
+    → AreBegun limit i first (done ++ e ∷ [])
 begun_join limit i first [] e h is =
     let same : i + 0 ≡ i = omega arith in
     (subst (λ n. IsSetFor limit n first e.began) same is, tt)
@@ -57,13 +44,14 @@ begun_join limit i first (f ∷ more) e h is =
           (subst (λ n. IsSetFor limit n (pipelining_behind f.left.pipelining more) e.began) same is),
     )
 
-begun_grows : (limit : Option ℕ) (i : ℕ) (first : Bool) (done : List Entry) (a b : Entry) → b.began ≡ a.began
+begun_grows : (limit : Option ℕ) (i : ℕ) (first : Bool) (done : List Entry) (a b : Entry)
+    → b.began ≡ a.began
     → AreBegun limit i first (done ++ a ∷ []) → AreBegun limit i first (done ++ b ∷ [])
 begun_grows limit i first [] a b is h = (subst (λ s. IsSetFor limit i first s) (sym is) h.0, tt)
 begun_grows limit i first (f ∷ more) a b is h = (h.0, begun_grows limit (i + 1) f.left.pipelining more a b is h.1)
 
-set_alike : (limit : Option ℕ) (i : ℕ) (pipelining : Bool) (old new : Settings) → IsSetFor limit i pipelining old → IsSetAlike old new
-    → IsSetFor limit i pipelining new
+set_alike : (limit : Option ℕ) (i : ℕ) (pipelining : Bool) (old new : Settings)
+    → IsSetFor limit i pipelining old → IsSetAlike old new → IsSetFor limit i pipelining new
 set_alike limit i pipelining old new h alike = record {
   closing = alike.closing ∙ h.closing;
   pipelining_is = alike.pipelining ∙ h.pipelining_is;
@@ -71,9 +59,12 @@ set_alike limit i pipelining old new h alike = record {
 }
 
 -- each exchange began as the one before it left what is set, after a step too
-begun_stepped : (limit : Option ℕ) (now : ℕ) (shutdown : Bool) (first second : LinkState) (old new : Settings) (done : List Entry) (last behind : Option Entry)
-    → AreBegun limit 0 false (done ++ option_to_list last) → ExtendsLast now shutdown first second last behind
-    → BeginsWith old new last behind → (last ≡ None → IsNextSet limit done old) → AreBegun limit 0 false (done ++ option_to_list behind)
+begun_stepped : (limit : Option ℕ) (now : ℕ) (shutdown : Bool) (first second : LinkState)
+    (old new : Settings) (done : List Entry) (last behind : Option Entry)
+    → AreBegun limit 0 false (done ++ option_to_list last)
+    → ExtendsLast now shutdown first second last behind
+    → BeginsWith old new last behind → (last ≡ None → IsNextSet limit done old)
+    → AreBegun limit 0 false (done ++ option_to_list behind)
 begun_stepped limit now shutdown first second old new done None None h extends begins next = h
 begun_stepped limit now shutdown first second old new done None (Some e) h extends begins next =
     let same : length done ≡ 0 + length done = omega arith in
@@ -84,97 +75,145 @@ begun_stepped limit now shutdown first second old new done (Some a) None h exten
 begun_stepped limit now shutdown first second old new done (Some a) (Some b) h extends begins next =
     begun_grows limit 0 false done a b extends.began h
 
-none_some : (last : Option Entry) (e : Entry) → last ≡ None → last ≡ Some e → ⊥
-none_some last e none some = cc
-
--- what was set for the next exchange, where there is none yet
-next_before : {L C J : Type 0} (runs : J → RequestView → Settings → Settings → List ℕ → Type 0) (session : SessionView L C) (last : Option Entry) (at : Stage J) (P : Type 0)
-    → SoundStage runs session last at → IfAwaiting at P → last ≡ None → P
-next_before runs session last stage.Head P h p none = p
-next_before runs session last (stage.Answer job) P h p none = absurd (none_some last h.0 none h.1)
-next_before runs session last stage.TakeHeader P h p none = absurd (none_some last h.0 none h.1)
-next_before runs session last stage.Header P h p none = absurd (none_some last h.0 none h.1)
-next_before runs session last stage.TakeBody P h p none = absurd (none_some last h.0 none h.1)
-next_before runs session last stage.Body P h p none = absurd (none_some last h.0 none h.1)
-next_before runs session last stage.Finish P h p none = absurd (none_some last h.0 none h.1)
-next_before runs session last stage.Drain P h p none = absurd (none_some last h.0 none h.1)
-next_before runs session last stage.Next P h p none = absurd (none_some last h.0 none h.1)
-
 -- and after a step it is still set so
-next_stepped : {L C J : Type 0} (runs : J → RequestView → Settings → Settings → List ℕ → Type 0) (limit : Option ℕ) (now : ℕ) (shutdown : Bool) (first second : LinkState)
+next_stepped : {L C J : Type 0} (runs : J → RequestView → Settings → Settings → List ℕ → Type 0)
+    (limit : Option ℕ) (now : ℕ) (shutdown : Bool) (first second : LinkState)
     (old : Settings) (session : SessionView L C) (done : List Entry) (last behind : Option Entry) (to : Stage J)
-    → SoundStage runs session behind to → ExtendsLast now shutdown first second last behind → BeginsWith old session.settings last behind
-    → (last ≡ None → IsNextSet limit done old) → IfAwaiting to (IsNextSet limit done session.settings)
+    → SoundStage runs session behind to → ExtendsLast now shutdown first second last behind
+    → BeginsWith old session.settings last behind → (last ≡ None → IsNextSet limit done old)
+    → IfAwaiting to (IsNextSet limit done session.settings)
 next_stepped runs limit now shutdown first second old session done None None stage.Head h extends begins next =
     set_alike limit (length done) (pipelining_behind false done) old session.settings (next refl) begins
 next_stepped runs limit now shutdown first second old session done (Some a) None stage.Head h extends begins next = absurd extends
 next_stepped runs limit now shutdown first second old session done last (Some b) stage.Head h extends begins next =
-    absurd (none_some (Some b) b h.0 refl)
+    let clash = h.0 in cc
 next_stepped runs limit now shutdown first second old session done last behind _ h extends begins next = tt
 
 if_none : {T : Type 0} (end : Option T) (P Q : Type 0) → (P → Q) → IfNone end P → IfNone end Q
 if_none None P Q on p = on p
 if_none (Some reason) P Q on p = tt
 
-stage_stepped : {L C J : Type 0} (state : L → LinkState) (pends : J → ℕ) (runs : J → RequestView → Settings → Settings → List ℕ → Type 0) (old new : SessionView L C) (behind : Option Entry) (from to : Stage J) (result : Outcome)
-    → OutcomeCause state pends runs old new behind from to result → IfNone (outcome_end result) (SoundStage runs new behind to)
+stage_stepped : {L C J : Type 0} (state : L → LinkState) (pends : J → ℕ)
+    (runs : J → RequestView → Settings → Settings → List ℕ → Type 0) (old new : SessionView L C)
+    (behind : Option Entry) (from to : Stage J) (result : Outcome)
+    → OutcomeCause state pends runs old new behind from to result
+    → IfNone (outcome_end result) (SoundStage runs new behind to)
 stage_stepped state pends runs old new behind from to outcome.Done h = h.0
 stage_stepped state pends runs old new behind from to (outcome.Waits what) h = h.0
 stage_stepped state pends runs old new behind from to (outcome.Ends reason) h = tt
 
 -- a step of the exchange that is last leaves a sound connection
-pub sound_stepped : {L C J : Type 0} (gives : Given → Reply → Type 0) (runs : J → RequestView → Settings → Settings → List ℕ → Type 0) (limit : Option ℕ)
-    (state : L → LinkState) (pends : J → ℕ) (now : ℕ) (shutdown : Bool) (old new : SessionView L C) (done : List Entry) (last behind : Option Entry) (from to : Stage J) (result : Outcome)
-    → Sound gives runs limit old done last from None
-    → IfSome behind (IsAllowed gives) → IfSome behind (IsKept new)
-    → ExtendsLast now shutdown (state old.link) (state new.link) last behind → BeginsWith old.settings new.settings last behind
-    → OutcomeCause state pends runs old new behind from to result
-    → Sound gives runs limit new done behind to (outcome_end result)
-sound_stepped {L} {C} {J} gives runs limit state pends now shutdown old new done last behind from to result s allowed kept extends begins cause = record {
+pub sound_stepped : {L C J : Type 0} (gives : Given → Reply → Type 0)
+    (runs : J → RequestView → Settings → Settings → List ℕ → Type 0) (limit : Option ℕ)
+    (state : L → LinkState) (pends : J → ℕ) (now : ℕ) (shutdown : Bool) (x y : Exchange L J C)
+    (result : Outcome)
+    → Sound gives runs limit x.session x.transcript.done.items x.transcript.last x.stage None
+    → Stepped state pends gives runs now shutdown x y result → y.transcript.done ≡ x.transcript.done
+    → Sound gives runs limit y.session y.transcript.done.items y.transcript.last y.stage
+    (outcome_end result)
+sound_stepped gives runs limit state pends now shutdown x y result s made same = rw same (record {
   ended = s.ended;
-  allowed = allowed;
-  kept = kept;
-  begun = begun_stepped limit now shutdown (state old.link) (state new.link) old.settings new.settings done last behind s.begun extends begins next;
+  allowed = made.allowed;
+  kept = made.kept;
+  begun = begun_stepped limit now shutdown (state x.session.link) (state y.session.link)
+      x.session.settings y.session.settings x.transcript.done.items x.transcript.last
+      y.transcript.last s.begun made.extends made.begins_with next;
   stage = staged;
-  next = if_none (outcome_end result) (SoundStage runs new behind to) (IfAwaiting to (IsNextSet limit done new.settings))
-      (λ h. next_stepped runs limit now shutdown (state old.link) (state new.link) old.settings new done last behind to h extends begins next) staged;
-} where
-  next : last ≡ None → IsNextSet limit done old.settings
-  next none = next_before runs old last from (IsNextSet limit done old.settings) s.stage s.next none
+  next = if_none (outcome_end result) (SoundStage runs y.session y.transcript.last y.stage)
+      (IfAwaiting y.stage (IsNextSet limit x.transcript.done.items y.session.settings))
+      (λ h. next_stepped runs limit now shutdown (state x.session.link) (state y.session.link)
+      x.session.settings y.session x.transcript.done.items x.transcript.last y.transcript.last
+      y.stage h made.extends made.begins_with next) staged;
+}) where
+  next : x.transcript.last ≡ None
+      → IsNextSet limit x.transcript.done.items x.session.settings
+  next none =
+      rw (awaits_head runs x.session x.transcript.last x.stage s.stage none) at s.next
 
-  staged : IfNone (outcome_end result) (SoundStage runs new behind to)
-  staged = stage_stepped state pends runs old new behind from to result cause
+  staged : IfNone (outcome_end result) (SoundStage runs y.session y.transcript.last y.stage)
+  staged = stage_stepped state pends runs x.session y.session y.transcript.last x.stage y.stage
+      result made.outcome
 
--- and the connection went on by it
-pub gone_stepped : {L C A J : Type 0} (state : L → LinkState) (begins : J → Type 0) (pends : J → ℕ) (same_plan : L → L → Type 0) (now : ℕ) (shutdown : Bool)
-    (app : A) (limit : Option ℕ) (old new : SessionView L C) (done : List Entry) (last behind : Option Entry) (from to : Stage J) (before after : Option End)
-    → MovesWithin state old new → same_plan old.link new.link
-    → ((before : LinkState) (done : List Entry) → Accounted state before old done last → Accounted state before new done behind)
-    → ExtendsLast now shutdown (state old.link) (state new.link) last behind → JobFrom begins pends from to
-    → Gone state begins pends same_plan now shutdown (at_view app limit old done last from before) (at_view app limit new done behind to after)
-gone_stepped state begins pends same_plan now shutdown app limit old new done last behind from to before after went plan since extends job = record {
-  app = refl;
-  limit = refl;
-  plan = plan;
-  moves = went;
-  accounted = λ before s. since before done s;
-  extends = extends_last now shutdown (state old.link) (state new.link) done last behind extends;
-  longer = omega arith;
-  job = record { same = λ same. job; later = λ less. absurd (omega (arith, less)) };
-}
-
-pub few_stepped : (old now : LinkState) (done : List Entry) (last behind : Option Entry) (result : Outcome)
+few_stepped : (old now : LinkState) (done : List Entry) (last behind : Option Entry)
+    (result : Outcome)
     → FewReadsNotReady old now (option_to_list last) (option_to_list behind) result
-    → FewReadsNotReady old now (done ++ option_to_list last) (done ++ option_to_list behind) result
+    → now.read_waits + replies (done ++ option_to_list last)
+    ≤ old.read_waits + replies (done ++ option_to_list behind) + one_where (stops result)
 few_stepped old now done last behind outcome.Done h =
-    omega (arith, h, replies_append done (option_to_list last), replies_append done (option_to_list behind))
+    omega (
+      arith,
+      h,
+      replies_append done (option_to_list last),
+      replies_append done (option_to_list behind),
+    )
 few_stepped old now done last behind _ h =
-    omega (arith, h, replies_append done (option_to_list last), replies_append done (option_to_list behind))
+    omega (
+      arith,
+      h,
+      replies_append done (option_to_list last),
+      replies_append done (option_to_list behind),
+    )
 
-pub turned_stepped : {L C A J : Type 0} (state : L → LinkState) (pends : J → ℕ) (runs : J → RequestView → Settings → Settings → List ℕ → Type 0)
-    (app : A) (limit : Option ℕ) (old new : SessionView L C) (done : List Entry) (last behind : Option Entry) (from to : Stage J) (before after : Option End) (result : Outcome)
-    → OutcomeCause state pends runs old new behind from to result
-    → TurnCause state pends (at_view app limit old done last from before) (at_view app limit new done behind to after) result
-turned_stepped state pends runs app limit old new done last behind from to before after outcome.Done h = (h.2, λ same. h.1)
-turned_stepped state pends runs app limit old new done last behind from to before after (outcome.Waits what) h = (refl, h.1)
-turned_stepped state pends runs app limit old new done last behind from to before after (outcome.Ends reason) h = λ since s. h since done s
+-- and what it leaves, whole
+pub turned_stepped : {L C A J : Type 0} {gives : Given → Reply → Type 0}
+    {runs : J → RequestView → Settings → Settings → List ℕ → Type 0} (state : L → LinkState)
+    (begins : J → Type 0) (pends : J → ℕ) (same_plan : L → L → Type 0) (now : ℕ) (shutdown : Bool)
+    (app : A) (limit : Option ℕ) (x y : Exchange L J C) (first : Option End) (result : Outcome)
+    → SoundStage runs x.session x.transcript.last x.stage
+    → Stepped state pends gives runs now shutdown x y result
+    → Continues state same_plan begins pends x y result → LeavesBy state x y result
+    → Turned state same_plan now shutdown (view_of app limit x first)
+    (view_of app limit y (outcome_end result)) (stops result)
+turned_stepped {runs = runs} state begins pends same_plan now shutdown app limit x y first result
+    sound s c leaves =
+    let from = view_of app limit x first in
+    let to = record (view_of app limit y (outcome_end result))
+    { done = x.transcript.done.items } in
+    let made : Turned state same_plan now shutdown from to (stops result) = record {
+      gone = record {
+        app = refl;
+        limit = refl;
+        plan = c.plan;
+        moves = s.moves;
+        accounted = λ before h. s.accounted before x.transcript.done.items h;
+        alone = λ before h. join_none before (state x.session.link) x.transcript.done.items;
+        extends = extends_last now shutdown (state x.session.link) (state y.session.link)
+            x.transcript.done.items x.transcript.last y.transcript.last s.extends;
+        longer = omega arith;
+      };
+      reads_not_ready = few_stepped (state x.session.link) (state y.session.link)
+          x.transcript.done.items x.transcript.last y.transcript.last result s.reads_not_ready;
+      others = others_stepped (state x.session.link) (state y.session.link) from to result refl
+          (still_last runs x.session now shutdown (state x.session.link) (state y.session.link)
+          x.transcript.last y.transcript.last x.stage sound s.extends) c.others;
+      leaves = record {
+        leaves = leaves;
+        noted = noted_grows now shutdown (state x.session.link) (state y.session.link)
+            x.transcript.last y.transcript.last s.extends;
+      };
+    } in
+    subst (λ done. Turned state same_plan now shutdown from
+    (record to { done = done }) (stops result)) (sym (ap (λ done. done.items) c.done)) made
+
+-- a step that is done came nearer to the end of the exchange, so it asked no job that it leaves
+new_job : {J : Type 0} (begins : J → Type 0) (pends : J → ℕ) (from to : Stage J)
+    → rank to < rank from → JobFrom begins pends from to → JobNew begins to
+new_job begins pends from (stage.Answer job) less (inl there) =
+    let falls = rw there.1 at less in absurd (omega (arith, falls))
+new_job begins pends from (stage.Answer job) less (inr new) = new
+new_job begins pends from _ less h = tt
+
+-- and why it goes on, waits or ends
+pub caused_stepped : {L C A J : Type 0} (state : L → LinkState) (begins : J → Type 0)
+    (pends : J → ℕ) (runs : J → RequestView → Settings → Settings → List ℕ → Type 0)
+    (same_plan : L → L → Type 0) (app : A) (limit : Option ℕ) (x y : Exchange L J C)
+    (first second : Option End) (result : Outcome)
+    → Continues state same_plan begins pends x y result
+    → OutcomeCause state pends runs x.session y.session y.transcript.last x.stage y.stage result
+    → TurnCause state begins pends (view_of app limit x first) (view_of app limit y second) result
+caused_stepped state begins pends runs same_plan app limit x y first second outcome.Done c h =
+    (h.2, (λ _. h.1), new_job begins pends x.stage y.stage h.1 c.job)
+caused_stepped state begins pends runs same_plan app limit x y first second (outcome.Waits what) c
+    h = (ap (λ done. done.items) c.done, h.1)
+caused_stepped state begins pends runs same_plan app limit x y first second (outcome.Ends reason) c
+    h = λ since s. h since y.transcript.done.items s

@@ -1,29 +1,8 @@
 -- What a connection read and wrote since its link had a state: the bytes of the link, taken apart
 -- into the exchanges and what is still to be used or written.
 use Rattle.std.specs.Prelude.{◌≡◌, ℕ, ◌+◌, ◌-◌, ◌^◌, List, [], ◌++◌, length, drop, min, true, false, Option, Some, None, IfSome, IsSome}
-use Rattle.h1_error.specs.declared.error.ErrorType.{ErrorType}
-use Rattle.h1_error.specs.declared.error.ErrorType.TheVariants as kind
-use Rattle.h1_link.specs.LinkState.{LinkState}
-use Rattle.h1_link.specs.Counts.{RoseBy}
-use Rattle.h1_link.specs.Later.{Later}
-use Rattle.h1_head.specs.RequestHead.{HeadAt}
-use Rattle.h1_body.specs.Body.{broken}
-use Rattle.h1_server.specs.Persistence.{is_whole}
-use Rattle.h1_transfer.specs.declared.body.BodyState.{BodyState}
-use Rattle.h1_transcript.specs.declared.transcript.How.{How}
-use Rattle.h1_transcript.specs.declared.transcript.How.TheVariants.{Open, Whole, Failed}
-use Rattle.h1_body.specs.Reader.{reads}
-use Rattle.h1_head.specs.Wish.{wish}
-use Rattle.h1_body.specs.Read.{HasRead}
-use Rattle.h1_body.specs.Writer.{WriterView, end_bytes}
-use Rattle.h1_body.specs.Framing.{framing}
-use Rattle.h1_transfer.specs.Decoding.{Lacks}
-use Rattle.h1_server.specs.SessionView.{SessionView}
-use Rattle.h1_server.specs.declared.request.Request.{Request}
-use Rattle.h1_transcript.specs.declared.transcript.Entry.{Entry}
-use Rattle.h1_transcript.specs.Behind.{AfterRead, AfterWrote, DoneBehind, FlushedBy, IsBelow, written_of}
-use Rattle.h1_transcript.specs.Exchange.{render}
-use Rattle.h1_transcript.specs.Told.{IfTold}
+use Rattle.h1_app.specs.Words.{Error, ErrorType, LinkState, RoseBy, Later, HeadAt, broken, is_whole, BodyState, How, Open, Whole, Failed, reads, wish, HasRead, WriterView, end_bytes, framing, Lacks, SessionView, Request, Entry, AfterRead, AfterWrote, DoneBehind, FlushedBy, IsBelow, written_of, render, IfTold}
+use Rattle.h1_transcript.specs.BodyErrors.{SaysOfBody}
 
 -- how the body stood when the application replied, of a body that is read on after the reply
 abbrev pub StoodSo : How → Entry → BodyState → Type 0
@@ -33,7 +12,8 @@ StoodSo Open e body = (e.body_error ≡ None) × IsBelow (framing e.head) e.hand
 StoodSo Failed e body = IsSome e.body_error
 
 -- the head of the request is used, and a part of its body became the payload
-pub record ReadEntry {L C : Type 0} (since : List ℕ) (e : Entry) (session : SessionView L C) : Type 0 where
+pub record ReadEntry {L C : Type 0} (since : List ℕ) (e : Entry)
+    (session : SessionView L C) : Type 0 where
   pub n : ℕ
   pub used : List ℕ
   pub head : HeadAt since n e.head e.both
@@ -64,21 +44,22 @@ coming (Some sent) writer = end_bytes writer
 
 abbrev pub WroteSo : {L C : Type 0} → List ℕ → SessionView L C → Option Entry → Type 0
 WroteSo since session None = (since ≡ []) × (session.reply.owed ≡ [])
-WroteSo since session (Some e) = since ++ session.reply.owed ++ coming e.sent_body session.reply.writer ≡ render e
+WroteSo since session (Some e) =
+    since ++ session.reply.owed ++ coming e.sent_body session.reply.writer ≡ render e
 
--- the body can't be read on: it is broken, or the link ended or failed inside it
+-- what an error of this kind says of a body that can't be read on
 abbrev pub StopsBody : {L C : Type 0} → (L → LinkState) → SessionView L C → ErrorType → Type 0
-StopsBody state session kind.InvalidBody = reads session.body.reader [] ≡ broken []
-StopsBody state session kind.ConnectionClosed =
-    ((state session.link).ended ≡ true) × Lacks session.body.reader session.received
-StopsBody state session kind.ReadError = Lacks session.body.reader session.received
-StopsBody state session kind.NoMemory = Unit {0}
-StopsBody state session _ = ⊥
+StopsBody state session kind = SaysOfBody (reads session.body.reader [] ≡ broken [])
+    (((state session.link).ended ≡ true) × Lacks session.body.reader session.received)
+    (Lacks session.body.reader session.received) kind
 
--- the error of the request's body has its cause
+-- the error of the request's body has its cause, and isn't for a retry
+abbrev pub StopsWith : {L C : Type 0} → (L → LinkState) → SessionView L C → Error → Type 0
+StopsWith state session error = StopsBody state session error.kind × (error.retry ≡ false)
+
 abbrev pub StoppedSo : {L C : Type 0} → (L → LinkState) → SessionView L C → Option Entry → Type 0
 StoppedSo state session None = Unit {0}
-StoppedSo state session (Some e) = IfSome e.body_error (λ error. StopsBody state session error.kind)
+StoppedSo state session (Some e) = IfSome e.body_error (StopsWith state session)
 
 -- a reply of which nothing is owed any more was flushed
 abbrev pub SettledSo : LinkState → LinkState → List Entry → Option Entry → Type 0
@@ -89,11 +70,16 @@ SettledSo before now done (Some e) =
 -- The bytes given are the requests of the exchanges that ended, and after them the last request and
 -- what is received; the bytes written are their replies, and after them the last reply but for what
 -- is owed and what is to be taken up.
-pub record Accounted {L C : Type 0} (state : L → LinkState) (before : LinkState) (session : SessionView L C) (done : List Entry) (last : Option Entry) : Type 0 where
+pub record Accounted {L C : Type 0} (state : L → LinkState) (before : LinkState)
+    (session : SessionView L C) (done : List Entry) (last : Option Entry) : Type 0 where
   pub later : Later before (state session.link)
-  pub read : IfTold before.given (state session.link).given (AfterRead done (λ rest. ReadSo rest session last))
-  pub wrote : IfTold before.written (state session.link).written (AfterWrote done (λ rest. WroteSo rest session last × (session.reply.sent ≡ min (length rest) (2 ^ 64 - 1))))
+  pub read : IfTold before.given (state session.link).given
+      (AfterRead done (λ rest. ReadSo rest session last))
+  pub wrote : IfTold before.written (state session.link).written
+      (AfterWrote done (λ rest. WroteSo rest session last
+      × (session.reply.sent ≡ min (length rest) (2 ^ 64 - 1))))
   pub stopped : StoppedSo state session last
   pub flushed : DoneBehind (FlushedBy before (state session.link)) 0 done
   pub settled : SettledSo before (state session.link) done last
-  pub out : RoseBy (written_of done + session.reply.sent) before.bytes_out (state session.link).bytes_out
+  pub out : RoseBy (written_of done + session.reply.sent) before.bytes_out
+      (state session.link).bytes_out

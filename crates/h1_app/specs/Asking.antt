@@ -1,26 +1,23 @@
 -- What asking the application comes to.
 use Rattle.std.specs.Prelude.{◌≡◌, ℕ, length, Bool, true, false, None, Result, Ok, Err}
-use Rattle.futures.specs.declared.task.Poll.{Poll}
-use Rattle.futures.specs.declared.task.Poll.TheVariants.{Ready, Pending}
-use Rattle.h1_error.specs.declared.error.Error.{Error}
-use Rattle.h1_error.specs.declared.error.ErrorType.TheVariants.{NoMemory}
-use Rattle.h1_link.specs.LinkState.{LinkState}
-use Rattle.h1_link.specs.Counts.{Rose}
-use Rattle.h1_server.specs.SessionView.{SessionView}
-use Rattle.h1_transcript.specs.declared.reply.Reply.{Reply}
-use Rattle.h1_transcript.specs.declared.transcript.Entry.{Entry}
-use Rattle.h1_app.specs.declared.steps.answering.Asked.{Asked}
+use Rattle.h1_app.specs.Words.{Poll, Ready, Pending, Error, no_memory, LinkState, raised, SessionView, Reply, Entry, Asked, Given, ReadsOnly, payload_of, how_of}
 use Rattle.h1_app.specs.declared.steps.answering.Asked.TheVariants as asked
-use Rattle.h1_transcript.specs.Given.{Given}
-use Rattle.h1_application.specs.Application.{ReadsOnly, payload_of, how_of}
-use Rattle.h1_app.specs.Sound.{lent}
+use Rattle.h1_app.specs.Answering.{lent}
 
 -- the exchange with what the session read for it
 abbrev pub noted : {L C : Type 0} → Entry → SessionView L C → Entry
-noted e session = record e { body = payload_of session; handed = length (payload_of session); body_error = session.body.refused; how = how_of session.body; left = session.settings }
+noted e session =
+    record e {
+      body = payload_of session;
+      handed = length (payload_of session);
+      body_error = session.body.refused;
+      how = how_of session.body;
+      left = session.settings;
+    }
 
 -- the application read with the session as it is lent, and the payload went back to the exchange
-pub record AsksAs {L C : Type 0} (state : L → LinkState) (old new : SessionView L C) (e noted_e : Entry) (answer : Asked) : Type 0 where
+pub record AsksAs {L C : Type 0} (state : L → LinkState) (old new : SessionView L C)
+    (e noted_e : Entry) (answer : Asked) : Type 0 where
   pub behind : SessionView L C
   pub reads : ReadsOnly state (lent old e.body) behind
   pub session : new ≡ record behind { body = record behind.body { kept = None; waits = false } }
@@ -39,11 +36,12 @@ abbrev pub GivesAsked : (Given → Reply → Type 0) → Given → Asked → Typ
 GivesAsked gives given asked.Reads = Unit {0}
 GivesAsked gives given asked.Pends = Unit {0}
 GivesAsked gives given (asked.Replied reply) = gives given reply
-GivesAsked gives given (asked.Failed error) = error.kind ≡ NoMemory
+GivesAsked gives given (asked.Failed error) = error ≡ no_memory
 
+-- the count of a job rises by one where it waits for something of its own
 abbrev pub PendsAsked : ℕ → ℕ → Asked → Type 0
-PendsAsked before now asked.Pends = Rose before now
-PendsAsked before now _ = Unit {0}
+PendsAsked before now asked.Pends = now ≡ raised before 1
+PendsAsked before now _ = now ≡ before
 
 abbrev pub IsAskedOf : Poll (Result Reply Error) → Bool → Asked → Type 0
 IsAskedOf (Ready (Ok reply)) waits answer = answer ≡ asked.Replied reply

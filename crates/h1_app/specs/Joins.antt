@@ -1,15 +1,13 @@
 -- How an exchange that is over joins those before it (RFC 9112, section 9.3.2).
-use Rattle.std.specs.Prelude.{◌≡◌, [], true, false, None, IsSome}
-use Rattle.h1_body.specs.Body.{whole}
-use Rattle.h1_body.specs.Reader.{reads}
-use Rattle.h1_server.specs.SessionView.{SessionView}
-use Rattle.h1_transcript.specs.declared.transcript.Entry.{Entry}
-use Rattle.h1_transcript.specs.Behind.{is_until_close}
-use Rattle.h1_transcript.specs.Exchange.{is_short}
+use Rattle.std.specs.Prelude.{◌≡◌, ◌++◌, [], true, false, None, IsSome, option_to_list}
+use Rattle.h1_app.specs.Words.{whole, reads, AwaitsNext, no_memory, SessionView, Entry, Exchange, Outcome, is_until_close, is_short}
+use Rattle.h1_error.specs.declared.progress.End.TheVariants as end
+use Rattle.h1_app.specs.declared.exchange.Stage.TheVariants as stage
+use Rattle.h1_app.specs.declared.exchange.Outcome.TheVariants as outcome
 use Rattle.h1_app.specs.Accounted.{coming}
 
 -- the request was read whole, and the reply was written whole and flushed
-pub record IsEnded {L C : Type 0} (session : SessionView L C) (e : Entry) : Type 0 where
+pub record IsDoneIn {L C : Type 0} (session : SessionView L C) (e : Entry) : Type 0 where
   pub read : reads session.body.reader [] ≡ whole [] 0
   pub unrefused : e.body_error ≡ None
   pub owed : session.reply.owed ≡ []
@@ -29,3 +27,15 @@ pub record IsRestarted {L C : Type 0} (old new : SessionView L C) : Type 0 where
   pub request : new.request ≡ None
   pub owed : new.reply.owed ≡ []
   pub sent : new.reply.sent ≡ 0
+
+-- the last exchange joined those that ended, and the next head is awaited; or there is no memory
+abbrev pub JoinsNext : {L C J : Type 0} → Exchange L J C → Exchange L J C → Outcome → Type 0
+JoinsNext old new outcome.Done =
+    AwaitsNext old.session new.session
+    × (new.transcript.done.items ≡ old.transcript.done.items ++ option_to_list old.transcript.last)
+    × (new.transcript.last ≡ None) × (new.stage ≡ stage.Head)
+JoinsNext old new (outcome.Ends reason) =
+    (reason ≡ end.Failed no_memory) × (new.session ≡ old.session)
+    × (new.transcript.done.items ≡ old.transcript.done.items)
+    × (new.transcript.last ≡ old.transcript.last) × (new.stage ≡ old.stage)
+JoinsNext old new (outcome.Waits what) = ⊥

@@ -1,15 +1,10 @@
 -- What steps and polls leave of the link beside the bytes that moved: the counts of faults, and the
 -- mark that it was shut.
-use Rattle.std.specs.Prelude.{◌≡◌, ◌⊎◌, ℕ, Bool, true, false, Option, Some, None}
+use Rattle.std.specs.Prelude.{◌≡◌, ◌⊎◌, ℕ, Bool, true, Option, Some}
 use Rattle.h1_app.specs.View.{View}
-use Rattle.h1_error.specs.declared.error.Error.{Error}
-use Rattle.h1_error.specs.declared.error.ErrorType.{ErrorType}
+use Rattle.h1_app.specs.Words.{Error, ErrorType, End, LinkState, Entry, OfLast}
 use Rattle.h1_error.specs.declared.error.ErrorType.TheVariants as kind
-use Rattle.h1_error.specs.declared.progress.End.{End}
 use Rattle.h1_error.specs.declared.progress.End.TheVariants as end
-use Rattle.h1_link.specs.LinkState.{LinkState}
-use Rattle.h1_transcript.specs.declared.transcript.Entry.{Entry}
-use Rattle.h1_transcript.specs.Ends.{OfLast}
 
 -- the last exchange notes that reading its request's body met a fault of the link
 abbrev pub NotesFault : Option Entry → Type 0
@@ -41,13 +36,15 @@ ShutBy before now (Some end.NotKept) = now ≡ true
 ShutBy before now _ = now ≡ before
 
 -- `last` is the last exchange then, and `reason` the end, where one came
-pub record Leaves (before now : LinkState) (last : Option Entry) (reason : Option End) : Type 0 where
+pub record Leaves (before now : LinkState) (last : Option Entry)
+    (reason : Option End) : Type 0 where
   pub writes : WritesHeld before.write_faults now.write_faults reason
   pub reads : ReadsHeld before.read_faults now.read_faults last reason
   pub shut : ShutBy before.shut now.shut reason
 
 -- what a connection leaves of its link on the way from one view to the other
-pub record LeavesOn {L C A J : Type 0} (state : L → LinkState) (from to : View L C A J) : Type 0 where
+pub record LeavesOn {L C A J : Type 0} (state : L → LinkState)
+    (from to : View L C A J) : Type 0 where
   pub leaves : Leaves (state from.session.link) (state to.session.link) to.last to.end
   -- what the last exchange notes stays noted
   pub noted : NotesFault from.last → NotesFault to.last

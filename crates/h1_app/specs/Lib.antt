@@ -1,5 +1,8 @@
 pub mod View
 pub mod Accounted
+pub mod Answering
+pub mod Replied
+pub mod Beginning
 pub mod Sound
 pub mod Waits
 pub mod Causes
@@ -12,3 +15,5 @@ pub mod Leaves
 pub mod Persistent
 pub mod Draining
 pub mod Step
+pub mod Replying
+pub mod Words

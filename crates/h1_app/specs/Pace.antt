@@ -1,6 +1,6 @@
 -- How many steps may follow: where each stage stands in an exchange, and in a round.
 use Rattle.std.specs.Prelude.{ℕ, ◌+◌, ◌*◌, Option, Some, None}
-use Rattle.h1_app.specs.declared.exchange.Stage.{Stage}
+use Rattle.h1_app.specs.Words.{Stage}
 use Rattle.h1_app.specs.declared.exchange.Stage.TheVariants as stage
 
 -- how far an exchange is from its end

@@ -1,29 +1,15 @@
 -- What each step of an exchange asks for, and what it leaves.
 use Rattle.std.specs.Prelude.{◌≡◌, ℕ, ◌<◌, List, Bool, IsSome, IfSome, option_to_list, ◌-◌, ◌≤◌, ◌⊎◌, option_map}
-use Rattle.h1_error.specs.declared.moment.TheConstants.{YEAR_10000}
-use Rattle.h1_link.specs.LinkState.{LinkState}
-use Rattle.h1_head.specs.Views.{RequestView}
-use Rattle.h1_server.specs.declared.settings.Settings.{Settings}
-use Rattle.h1_transcript.specs.declared.reply.Reply.{Reply}
-use Rattle.h1_transcript.specs.declared.transcript.Entry.{Entry}
-use Rattle.h1_app.specs.declared.exchange.Exchange.{Exchange}
-use Rattle.h1_app.specs.declared.exchange.Outcome.{Outcome}
-use Rattle.h1_transcript.specs.Given.{Given}
-use Rattle.h1_transcript.specs.Lawful.{LawfulReplies}
-use Rattle.h1_transcript.specs.Begun.{BeginsWith}
-use Rattle.h1_transcript.specs.Exchange.{IsAllowed}
+use Rattle.h1_app.specs.Words.{YEAR_10000, LinkState, RequestView, Settings, Reply, Entry, Exchange, Outcome, Given, LawfulReplies, BeginsWith, IsAllowed, ExtendsLast, Moved, SessionView, Stage}
 use Rattle.h1_app.specs.Accounted.{Accounted}
 use Rattle.h1_app.specs.Sound.{SoundStage, IsKept}
 use Rattle.h1_app.specs.Outcome.{OutcomeCause}
-use Rattle.h1_transcript.specs.Growth.{ExtendsLast}
 use Rattle.h1_app.specs.Waits.{FewReadsNotReady, OthersFew}
-use Rattle.h1_transfer.specs.Moved.{Moved}
-use Rattle.h1_server.specs.SessionView.{SessionView}
-use Rattle.h1_app.specs.declared.exchange.Stage.{Stage}
 use Rattle.h1_app.specs.declared.exchange.Stage.TheVariants as stage
 
 -- what was moved over the link, within the budget
-pub record MovesWithin {L C : Type 0} (state : L → LinkState) (old new : SessionView L C) : Type 0 where
+pub record MovesWithin {L C : Type 0} (state : L → LinkState)
+    (old new : SessionView L C) : Type 0 where
   pub read : List ℕ
   pub wrote : List ℕ
   pub spent : ℕ
@@ -36,11 +22,12 @@ pub record MovesWithin {L C : Type 0} (state : L → LinkState) (old new : Sessi
 -- where the job of the stage comes from: it was there, or it began in this step
 abbrev pub JobFrom : {J : Type 0} → (J → Type 0) → (J → ℕ) → Stage J → Stage J → Type 0
 JobFrom {J} begins pends from (stage.Answer job) =
-    (before : J) × ((from ≡ stage.Answer before) ⊎ begins before) × (pends before ≤ pends job)
+    ((before : J) × (from ≡ stage.Answer before) × (pends before ≤ pends job)) ⊎ begins job
 JobFrom begins pends from _ = Unit {0}
 
 -- what holds before each step
-pub record StepReady {L C J : Type 0} (gives : Given → Reply → Type 0) (runs : J → RequestView → Settings → Settings → List ℕ → Type 0)
+pub record StepReady {L C J : Type 0} (gives : Given → Reply → Type 0)
+    (runs : J → RequestView → Settings → Settings → List ℕ → Type 0)
     (now : ℕ) (x : Exchange L J C) : Type 0 where
   -- the stage stands where the session and the last exchange do
   pub sound : SoundStage runs x.session x.transcript.last x.stage
@@ -55,25 +42,34 @@ pub record StepReady {L C J : Type 0} (gives : Given → Reply → Type 0) (runs
   pub moment : now < YEAR_10000
 
 -- what each step leaves of the exchange that is last, and why it goes on, waits or ends
-pub record Stepped {L C J : Type 0} (state : L → LinkState) (pends : J → ℕ) (gives : Given → Reply → Type 0)
-    (runs : J → RequestView → Settings → Settings → List ℕ → Type 0) (now : ℕ) (shutdown : Bool) (old new : Exchange L J C) (result : Outcome) : Type 0 where
+pub record Stepped {L C J : Type 0} (state : L → LinkState) (pends : J → ℕ)
+    (gives : Given → Reply → Type 0)
+    (runs : J → RequestView → Settings → Settings → List ℕ → Type 0) (now : ℕ) (shutdown : Bool)
+    (old new : Exchange L J C) (result : Outcome) : Type 0 where
   -- bytes moved only within the budget, and what the caller keeps stayed
   pub moves : MovesWithin state old.session new.session
   -- what was read and written since any moment is still the exchanges'
-  pub accounted : (before : LinkState) (done : List Entry) → Accounted state before old.session done old.transcript.last → Accounted state before new.session done new.transcript.last
+  pub accounted : (before : LinkState) (done : List Entry)
+      → Accounted state before old.session done old.transcript.last
+      → Accounted state before new.session done new.transcript.last
   pub allowed : IfSome new.transcript.last (IsAllowed gives)
   pub kept : IfSome new.transcript.last (IsKept new.session)
   -- the exchange that is last grew, or began
-  pub extends : ExtendsLast now shutdown (state old.session.link) (state new.session.link) old.transcript.last new.transcript.last
+  pub extends : ExtendsLast now shutdown (state old.session.link)
+      (state new.session.link) old.transcript.last new.transcript.last
   -- an exchange that began took what was set
-  pub begins_with : BeginsWith old.session.settings new.session.settings old.transcript.last new.transcript.last
+  pub begins_with : BeginsWith old.session.settings new.session.settings
+      old.transcript.last new.transcript.last
   -- reads that were not ready
-  pub reads_not_ready : FewReadsNotReady (state old.session.link) (state new.session.link) (option_to_list old.transcript.last) (option_to_list new.transcript.last) result
+  pub reads_not_ready : FewReadsNotReady (state old.session.link) (state new.session.link)
+      (option_to_list old.transcript.last) (option_to_list new.transcript.last) result
   -- why it goes on, waits or ends
-  pub outcome : OutcomeCause state pends runs old.session new.session new.transcript.last old.stage new.stage result
+  pub outcome : OutcomeCause state pends runs old.session new.session new.transcript.last old.stage
+      new.stage result
 
 -- what continues through each step: the exchanges that ended, the link's plan and the job
-pub record Continues {L C J : Type 0} (state : L → LinkState) (same_plan : L → L → Type 0) (begins : J → Type 0) (pends : J → ℕ)
+pub record Continues {L C J : Type 0} (state : L → LinkState) (same_plan : L → L → Type 0)
+    (begins : J → Type 0) (pends : J → ℕ)
     (old new : Exchange L J C) (result : Outcome) : Type 0 where
   -- the exchanges that ended stay
   pub done : new.transcript.done ≡ old.transcript.done
@@ -82,4 +78,5 @@ pub record Continues {L C J : Type 0} (state : L → LinkState) (same_plan : L �
   -- the job was there, or it began in this step
   pub job : JobFrom begins pends old.stage new.stage
   -- link calls that moved no byte: those that the stages allow for, and one more at a wait or an end
-  pub others : OthersFew (state old.session.link) (state new.session.link) old.stage new.stage result
+  pub others : OthersFew (state old.session.link)
+      (state new.session.link) old.stage new.stage result

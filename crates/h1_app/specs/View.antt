@@ -1,9 +1,6 @@
 -- What contracts see of a connection.
 use Rattle.std.specs.Prelude.{◌≡◌, ℕ, List, [], ◌++◌, option_to_list, Option, Some, None}
-use Rattle.h1_error.specs.declared.progress.End.{End}
-use Rattle.h1_server.specs.SessionView.{SessionView}
-use Rattle.h1_transcript.specs.declared.transcript.Entry.{Entry}
-use Rattle.h1_app.specs.declared.exchange.Stage.{Stage}
+use Rattle.h1_app.specs.Words.{End, SessionView, Entry, Exchange, Stage}
 use Rattle.h1_app.specs.declared.options.HttpServerOptions.{HttpServerOptions}
 
 pub record View (L C A J : Type 0) : Type 0 where
@@ -21,13 +18,27 @@ pub record View (L C A J : Type 0) : Type 0 where
 abbrev pub entries : {L C A J : Type 0} → View L C A J → List Entry
 entries view = view.done ++ option_to_list view.last
 
+-- the view of a connection with this exchange
+abbrev pub view_of : {L C A J : Type 0} → A → Option ℕ → Exchange L J C → Option End → View L C A J
+view_of app limit x end =
+    record {
+      session = x.session;
+      app = app;
+      limit = limit;
+      done = x.transcript.done.items;
+      last = x.transcript.last;
+      stage = x.stage;
+      end = end;
+    }
+
 -- the limit that is set on a server
 abbrev pub limit_of : Option HttpServerOptions → Option ℕ
 limit_of None = None
 limit_of (Some options) = options.keepalive_request_limit
 
 -- a connection that read and wrote nothing yet
-pub record IsNewConnection {L C A J : Type 0} (application : A) (options : Option HttpServerOptions) (start : L) (made : View L C A J) : Type 0 where
+pub record IsNewConnection {L C A J : Type 0} (application : A) (options : Option HttpServerOptions)
+    (start : L) (made : View L C A J) : Type 0 where
   pub link : made.session.link ≡ start
   pub app : made.app ≡ application
   pub limit : made.limit ≡ limit_of options

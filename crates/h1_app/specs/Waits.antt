@@ -1,12 +1,8 @@
 -- How often reads of a connection were not ready, and how many of its link calls moved no byte.
 use Rattle.std.specs.Prelude.{ℕ, ◌+◌, ◌≤◌, List}
-use Rattle.h1_link.specs.LinkState.{LinkState}
-use Rattle.h1_transcript.specs.declared.transcript.Entry.{Entry}
-use Rattle.h1_app.specs.declared.exchange.Stage.{Stage}
+use Rattle.h1_app.specs.Words.{LinkState, Entry, Stage, Outcome, replies}
 use Rattle.h1_app.specs.declared.exchange.Stage.TheVariants as stage
-use Rattle.h1_app.specs.declared.exchange.Outcome.{Outcome}
 use Rattle.h1_app.specs.declared.exchange.Outcome.TheVariants as outcome
-use Rattle.h1_transcript.specs.Entries.{replies}
 
 -- Reads that were not ready: at most one for each reply that was made, since the application may
 -- have met one and replied all the same, and one more where the connection waits or ends.

@@ -1,6 +1,7 @@
 //! The connection: it moves an exchange on, step by step.
-ghost use Rattle.std.specs.Prelude.{[], ◌≡◌, ◌<◌, ◌≤◌, ◌+◌, ◌*◌, length, IfOk, IfSome, IfNone, IsSome, IsOkAnd, None, Some};
+ghost use Rattle.std.specs.Prelude.{◌≡◌, ◌<◌, ◌≤◌, ◌+◌, ◌*◌, length, true, IfOk, IfSome, IfNone, IsSome, IsOkAnd, None, Some};
 ghost use Rattle.h1_error.specs.declared.moment.TheConstants.{YEAR_10000};
+ghost use Rattle.h1_transfer.specs.declared.budget.TheConstants.{CALL_BUDGET};
 ghost use Rattle.h1_error.specs.declared.progress.Progress.TheVariants as answer;
 ghost use Rattle.h1_app.specs.Turn.{outcome_end};
 
@@ -9,13 +10,10 @@ use crate::steps::{next_exchange, step};
 use crate::{HttpServer, ServeHttp, Transcript};
 use h1_error::{End, Error, Progress, Waiting};
 use h1_link::Link;
-use h1_server::HttpSession;
+use h1_server::{CALL_BUDGET, HttpSession};
 use std::alloc::Global;
 use std::marker::Model;
 use std::sync::Arc;
-
-/// How many link calls of one poll may move bytes.
-pub const POLL_BUDGET: u32 = 64;
 
 /// A connection: a link, the application behind it, and what was read and written so far.
 #[derive(Drop)]
@@ -35,31 +33,43 @@ impl<L: Link + Drop, SV: ServeHttp<L, C> + Drop, B: Drop, C: Drop> Model
 
     ghost use Rattle.h1_app.specs.Sound.{Sound};
 
-    ghost view = { λ c. record { session = c.exchange.session; app = (arc_value c.server).app; limit = limit_of (arc_value c.server).server_options; done = c.exchange.transcript.done.items; last = c.exchange.transcript.last; stage = c.exchange.stage; end = c.end } };
+    ghost view = { λ c. record {
+      session = c.exchange.session;
+      app = (arc_value c.server).app;
+      limit = limit_of (arc_value c.server).server_options;
+      done = c.exchange.transcript.done.items;
+      last = c.exchange.transcript.last;
+      stage = c.exchange.stage;
+      end = c.end;
+    } };
 
-    ghost invariant = { λ c. Sound (SV.gives (arc_value c.server).app) (SV.runs (arc_value c.server).app) (limit_of (arc_value c.server).server_options) c.exchange.session c.exchange.transcript.done.items c.exchange.transcript.last c.exchange.stage c.end };
+    ghost invariant = { λ c. Sound (SV.gives (arc_value c.server).app)
+        (SV.runs (arc_value c.server).app)
+        (limit_of (arc_value c.server).server_options) c.exchange.session
+        c.exchange.transcript.done.items c.exchange.transcript.last c.exchange.stage c.end };
 }
 
 impl<L: Link + Drop, SV: ServeHttp<L, C> + Drop, B: Drop, C: Drop> Connection<L, SV, B, C> {
     ghost use Rattle.std.specs.Arc.{arc_value};
     ghost use Rattle.std.specs.Fn.{FnOnceTakesAtMut, FnOnceReturnsAtMut};
-    ghost use Rattle.h1_link.specs.LinkState.{LinkState};
     ghost use Rattle.h1_link.specs.Later.{Later, KeepsBytes};
     ghost use Rattle.h1_app.specs.View.{View, entries, IsNewConnection};
     ghost use Rattle.h1_transcript.specs.Entries.{transcript_entries, replies};
     ghost use Rattle.h1_app.specs.Accounted.{Accounted};
     ghost use Rattle.h1_transcript.specs.Agrees.{Agrees};
+    ghost use Rattle.h1_transcript.specs.Alone.{JoinAlone};
     ghost use Rattle.h1_transcript.specs.Growth.{Extends};
-    ghost use Rattle.h1_app.specs.Waits.{FewReadsNotReady};
     ghost use Rattle.h1_app.specs.Causes.{Cause};
-    ghost use Rattle.h1_app.specs.Leaves.{Leaves, LeavesOn};
+    ghost use Rattle.h1_app.specs.Leaves.{Leaves};
     ghost use Rattle.h1_app.specs.Sound.{Sound};
-    ghost use Rattle.h1_app.specs.Turn.{Gone, TurnCause, TurnOthers, outcome_end, waiting_for};
+    ghost use Rattle.h1_app.specs.Turn.{AccountedFrom, Turned, TurnCause, outcome_end, stops, waiting_for};
 
     /// A connection of this server over a link.
     pub fn new(alloc: Global, server: Arc<HttpServer<SV, B>>, link: L) -> Result<Self, Error>
-        ensures fresh { IsOkAnd result (IsNewConnection (arc_value server).app (arc_value server).server_options link) }
-        ensures accounted { IfOk result (λ made. Accounted L.state (L.state link) made.session made.done made.last) }
+        ensures fresh { IsOkAnd result
+            (IsNewConnection (arc_value server).app (arc_value server).server_options link) }
+        ensures accounted { IfOk result
+            (λ made. Accounted L.state (L.state link) made.session made.done made.last) }
     {
         let mut session = HttpSession::new(alloc, link)?;
         session.set_keepalive_reuses_remaining(server.request_limit());
@@ -84,40 +94,49 @@ impl<L: Link + Drop, SV: ServeHttp<L, C> + Drop, B: Drop, C: Drop> Connection<L,
         ensures later { Later (L.state self.old.session.link) (L.state self.new.session.link) }
         ensures plan { L.same_plan self.old.session.link self.new.session.link }
         ensures context { self.new.session.context ≡ self.old.session.context }
-        ensures accounted { (before : LinkState) → Accounted L.state before self.old.session self.old.done self.old.last
-            → Accounted L.state before self.new.session self.new.done self.new.last }
-        ensures agrees { (before : LinkState) → Accounted L.state before self.old.session self.old.done self.old.last
-            → Agrees (SV.gives self.new.app) self.new.limit before (L.state self.new.session.link) (entries self.new) }
-        ensures extends { Extends now shutdown (L.state self.old.session.link) (L.state self.new.session.link) (entries self.old) (entries self.new) }
-        // At most 64 link calls move bytes. One read more than there were replies may not be ready, and
-        // three link calls of each exchange may move no byte, and one more.
-        ensures moves { (L.state self.new.session.link).moves ≤ (L.state self.old.session.link).moves + 64 }
-        ensures reads_not_ready { (L.state self.new.session.link).read_waits + replies (entries self.old) ≤ (L.state self.old.session.link).read_waits + replies (entries self.new) + 1 }
-        ensures others { (L.state self.new.session.link).others + 3 * length self.old.done ≤ (L.state self.old.session.link).others + 3 * length (entries self.new) + 1 }
-        ensures ended { IfSome self.old.end (λ reason. (result ≡ answer.Ready reason) × (self.new ≡ self.old)) }
-        ensures leaves { IfNone self.old.end (Leaves (L.state self.old.session.link) (L.state self.new.session.link) self.new.last self.new.end) }
-        ensures cause { IfNone self.old.end ((before : LinkState) → Accounted L.state before self.old.session self.old.done self.old.last
-            → Cause L.state SV.begins SV.pends before self.old self.new result) }
+        ensures accounted { AccountedFrom L.state self.old (λ before.
+            Accounted L.state before self.new.session self.new.done self.new.last) }
+        ensures agrees { AccountedFrom L.state self.old (λ before. Agrees (SV.gives self.new.app)
+            self.new.limit before (L.state self.new.session.link) (entries self.new)) }
+        ensures extends { Extends now shutdown (L.state self.old.session.link)
+            (L.state self.new.session.link) (entries self.old) (entries self.new) }
+        ensures alone { AccountedFrom L.state self.old (λ before.
+            JoinAlone before (L.state self.old.session.link) self.old.done self.new.done) }
+        // So many link calls may move bytes. One read more than there were replies may not be
+        // ready, and three link calls of each exchange may move no byte, and one more.
+        ensures moves { (L.state self.new.session.link).moves
+            ≤ (L.state self.old.session.link).moves + CALL_BUDGET }
+        ensures reads_not_ready { (L.state self.new.session.link).read_waits
+            + replies (entries self.old)
+            ≤ (L.state self.old.session.link).read_waits + replies (entries self.new) + 1 }
+        ensures others { (L.state self.new.session.link).others + 3 * length self.old.done
+            ≤ (L.state self.old.session.link).others + 3 * length (entries self.new) + 1 }
+        ensures ended { IfSome self.old.end (λ reason. (result ≡ answer.Ready reason)
+            × (self.new ≡ self.old)) }
+        ensures leaves { IfNone self.old.end
+            (Leaves (L.state self.old.session.link)
+            (L.state self.new.session.link) self.new.last self.new.end) }
+        ensures cause { IfNone self.old.end (AccountedFrom L.state self.old (λ before.
+            Cause L.state SV.begins SV.pends before self.old self.new result)) }
     {
         if let Some(end) = self.end {
             return Progress::Ready(end);
         }
-        self.exchange.session.set_poll_budget(Some(POLL_BUDGET));
+        self.exchange.session.set_poll_budget(Some(CALL_BUDGET));
         self.go_on(now, shutdown)
     }
 
     // Makes steps until one of them waits or ends the connection.
     fn go_on(&mut self, now: u64, shutdown: bool) -> Progress
         requires alive { self.old.end ≡ None }
-        requires budget { self.old.session.budget ≡ Some 64 }
+        requires budget { self.old.session.budget ≡ Some CALL_BUDGET }
         requires moment { now < YEAR_10000 }
-        ensures gone { Gone L.state SV.begins SV.pends L.same_plan now shutdown self.old self.new }
-        ensures sound { Sound (SV.gives self.new.app) (SV.runs self.new.app) self.new.limit self.new.session self.new.done self.new.last self.new.stage self.new.end }
-        ensures reads_not_ready { (L.state self.new.session.link).read_waits + replies (entries self.old) ≤ (L.state self.old.session.link).read_waits + replies (entries self.new) + 1 }
-        ensures others { (L.state self.new.session.link).others + 3 * length self.old.done ≤ (L.state self.old.session.link).others + 3 * length (entries self.new) + 1 }
-        ensures leaves { LeavesOn L.state self.old self.new }
-        ensures cause { (before : LinkState) → Accounted L.state before self.old.session self.old.done self.old.last
-            → Cause L.state SV.begins SV.pends before self.old self.new result }
+        ensures turned { Turned L.state L.same_plan now shutdown self.old self.new true }
+        ensures sound { Sound (SV.gives self.new.app)
+            (SV.runs self.new.app) self.new.limit self.new.session self.new.done self.new.last
+            self.new.stage self.new.end }
+        ensures cause { AccountedFrom L.state self.old (λ before.
+            Cause L.state SV.begins SV.pends before self.old self.new result) }
     {
         loop {
             match self.turn(now, shutdown) {
@@ -134,13 +153,13 @@ impl<L: Link + Drop, SV: ServeHttp<L, C> + Drop, B: Drop, C: Drop> Connection<L,
         requires alive { self.old.end ≡ None }
         requires budget { IsSome self.old.session.budget }
         requires moment { now < YEAR_10000 }
-        ensures gone { Gone L.state SV.begins SV.pends L.same_plan now shutdown self.old self.new }
-        ensures sound { Sound (SV.gives self.new.app) (SV.runs self.new.app) self.new.limit self.new.session self.new.done self.new.last self.new.stage self.new.end }
+        ensures turned { Turned L.state L.same_plan now shutdown self.old self.new
+            (stops result) }
+        ensures sound { Sound (SV.gives self.new.app)
+            (SV.runs self.new.app) self.new.limit self.new.session self.new.done self.new.last
+            self.new.stage self.new.end }
         ensures end { self.new.end ≡ outcome_end result }
-        ensures reads_not_ready { FewReadsNotReady (L.state self.old.session.link) (L.state self.new.session.link) (entries self.old) (entries self.new) result }
-        ensures others { TurnOthers L.state self.old self.new result }
-        ensures leaves { LeavesOn L.state self.old self.new }
-        ensures outcome { TurnCause L.state SV.pends self.old self.new result }
+        ensures outcome { TurnCause L.state SV.begins SV.pends self.old self.new result }
     {
         let outcome = match self.exchange.stage {
             Stage::Next => next_exchange(&mut self.exchange),
@@ -184,13 +203,17 @@ impl<L: Link + Drop, SV: ServeHttp<L, C> + Drop, B: Drop, C: Drop> Connection<L,
     /// Calls a function on the link, which may move none of its bytes.
     pub fn with_link<T, F: FnOnce(&mut L) -> T>(&mut self, f: F) -> T
         requires may { FnOnceTakesAtMut F.FnOnce f self.old.session.link }
-        requires keeps { (answer : T) (link : L) → FnOnceReturnsAtMut F.FnOnce f self.old.session.link answer link
+        requires keeps { (answer : T) (link : L)
+            → FnOnceReturnsAtMut F.FnOnce f self.old.session.link answer link
             → KeepsBytes (L.state self.old.session.link) (L.state link) }
-        ensures called { FnOnceReturnsAtMut F.FnOnce f self.old.session.link result self.new.session.link }
-        ensures rest { self.new ≡ record self.old { session = record self.old.session { link = self.new.session.link } } }
+        ensures called { FnOnceReturnsAtMut F.FnOnce f self.old.session.link result
+            self.new.session.link }
+        ensures rest { self.new
+            ≡ record self.old
+            { session = record self.old.session { link = self.new.session.link } } }
         ensures keeps { KeepsBytes (L.state self.old.session.link) (L.state self.new.session.link) }
-        ensures accounted { (before : LinkState) → Accounted L.state before self.old.session self.old.done self.old.last
-            → Accounted L.state before self.new.session self.new.done self.new.last }
+        ensures accounted { AccountedFrom L.state self.old (λ before.
+            Accounted L.state before self.new.session self.new.done self.new.last) }
     {
         self.exchange.session.with_link(f)
     }

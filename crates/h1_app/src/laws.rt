@@ -5,6 +5,7 @@ ghost use Rattle.h1_error.specs.declared.progress.End.{End};
 ghost use Rattle.h1_error.specs.declared.progress.Waiting.{Waiting};
 ghost use Rattle.h1_error.specs.declared.progress.Waiting.TheVariants as waiting;
 ghost use Rattle.h1_error.specs.declared.progress.Progress.TheVariants as progress;
+ghost use Rattle.h1_transfer.specs.declared.budget.TheConstants.{CALL_BUDGET};
 ghost use Rattle.h1_link.specs.Counts.{Rose, RoseBy};
 ghost use Rattle.h1_link.specs.LinkState.{LinkState};
 ghost use Rattle.bytes.specs.Filled.{Filled};
@@ -13,7 +14,7 @@ ghost use Rattle.h1_server.specs.SessionView.{SessionView, IsNewSession};
 ghost use Rattle.h1_transcript.specs.declared.transcript.Entry.{Entry};
 ghost use Rattle.h1_app.specs.declared.reused.HttpPersistentSettings.{HttpPersistentSettings};
 ghost use Rattle.h1_app.specs.Persistent.{applied, with_prefix};
-ghost use Rattle.h1_app.specs.Joins.{IsEnded, IsRestarted};
+ghost use Rattle.h1_app.specs.Joins.{IsDoneIn, IsRestarted};
 ghost use Rattle.h1_app.specs.Accounted.{Accounted};
 ghost use Rattle.h1_transcript.specs.Agrees.{Agrees};
 ghost use Rattle.h1_app.specs.Causes.{Cause, PendedBy};
@@ -29,36 +30,45 @@ use h1_link::Link;
 /// were received and not used are the input of the next one, and nothing is owed any more.
 pub fn the_next_exchange_begins_behind_the_last<L: Link, C>()
     ensures { (before : LinkState) (old new : SessionView L C) (done : List Entry) (e : Entry)
-        → IsEnded old e → IsRestarted old new
-        → Accounted L.state before old done (Some e) → Accounted L.state before new (done ++ e ∷ []) None }
+        → IsDoneIn old e → IsRestarted old new
+        → Accounted L.state before old done (Some e)
+        → Accounted L.state before new (done ++ e ∷ []) None }
 {}
 
 /// A link that is handed on with what was received holds the input after the request: a new session
 /// that is set so goes on where the last one stood.
 pub fn a_link_that_is_handed_on_goes_on<L: Link, C>()
-    ensures { (old fresh : SessionView L C) (prefix : Option Filled) (settings : HttpPersistentSettings C)
-        → IsNewSession old.link fresh → option_map (λ bytes. bytes.items) prefix ≡ prefix_of old.received
-        → settings.pipelined_prefix ≡ None → IsRestarted old (applied (with_prefix settings prefix) fresh) }
+    ensures { (old fresh : SessionView L C) (prefix : Option Filled)
+        (settings : HttpPersistentSettings C)
+        → IsNewSession old.link fresh
+        → option_map (λ bytes. bytes.items) prefix ≡ prefix_of old.received
+        → settings.pipelined_prefix ≡ None
+        → IsRestarted old (applied (with_prefix settings prefix) fresh) }
 {}
 
 /// Valid input is served: where the application keeps the connection, the limit allows so many
 /// requests and no call of the link failed, every end is that of a connection whose requests were
 /// all served, or out of memory.
 pub fn valid_input_is_served<L: Link + Drop, SV: ServeHttp<L, C> + Drop, C: Drop>()
-    ensures { (app : SV) (limit : Option ℕ) (before old now : LinkState) (input : List ℕ) (requests : List Message)
+    ensures { (app : SV) (limit : Option ℕ) (before old now : LinkState) (input : List ℕ)
+        (requests : List Message)
         → (done : List Entry) (last : Option Entry) (reason : End)
-        → IsValid input requests → GaveOf input before now → AreWithin limit (length requests) → NoFault old now
-        → Agrees (SV.gives app) limit before now (done ++ option_to_list last) → AllByRecursion KeepsOn (done ++ option_to_list last)
-        → EndCause before old now done last reason → ServesAll before now requests done last reason }
+        → IsValid input requests → GaveOf input before now → AreWithin limit (length requests)
+        → NoFault old now
+        → Agrees (SV.gives app) limit before now (done ++ option_to_list last)
+        → AllByRecursion KeepsOn (done ++ option_to_list last)
+        → EndCause before old now done last reason
+        → ServesAll before now requests done last reason }
 {}
 
 /// A poll that met nothing that wasn't ready, in the link or in the application, waits for its budget
-/// alone: it moved at least 64 bytes.
+/// alone: each of its calls moved bytes until it was spent.
 pub fn only_the_budget_is_awaited<L: Link + Drop, SV: ServeHttp<L, C> + Drop, C: Drop>()
     ensures { (before : LinkState) (from to : View L C SV SV.Job) (what : Waiting)
         → Cause L.state SV.begins SV.pends before from to (progress.Pending what)
         → (Rose (L.state from.session.link).read_waits (L.state to.session.link).read_waits → ⊥)
         → (Rose (L.state from.session.link).write_waits (L.state to.session.link).write_waits → ⊥)
         → (PendedBy SV.begins SV.pends from.done to.done from.stage to.stage → ⊥)
-        → (what ≡ waiting.Budget) × RoseBy 64 (L.state from.session.link).moves (L.state to.session.link).moves }
+        → (what ≡ waiting.Budget)
+        × RoseBy CALL_BUDGET (L.state from.session.link).moves (L.state to.session.link).moves }
 {}

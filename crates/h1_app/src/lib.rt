@@ -14,13 +14,13 @@ mod reused;
 mod server;
 mod steps;
 
-pub use connection::{Connection, POLL_BUDGET};
+pub use connection::Connection;
 pub use exchange::{Outcome, Stage};
 pub use h1_application::ServeHttp;
 pub use h1_body::BodyBytes;
 pub use h1_echo::{EchoApp, EchoJob};
 pub use h1_error::{End, Error, ErrorType, HeadFault, Progress, Waiting};
-pub use h1_server::HttpSession;
+pub use h1_server::{CALL_BUDGET, HttpSession};
 pub use h1_transcript::{Entry, How, Reply, Transcript};
 pub use laws::{
     a_link_that_is_handed_on_goes_on, only_the_budget_is_awaited,

@@ -103,7 +103,8 @@ impl<L: Link + Drop, C: Drop> ReusedHttpStream<L, C> {
         persistent_settings: HttpPersistentSettings<C>,
     ) -> Self
         ensures stream { result.stream ≡ reusable.stream }
-        ensures settings { result.persistent_settings ≡ Some (with_prefix persistent_settings reusable.prefix) }
+        ensures settings { result.persistent_settings
+            ≡ Some (with_prefix persistent_settings reusable.prefix) }
     {
         let (stream, prefix) = reusable.into_parts();
         let mut settings = persistent_settings;

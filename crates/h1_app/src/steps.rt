@@ -1,7 +1,6 @@
 //! The steps of an exchange: each makes the calls of one stage.
-ghost use Rattle.h1_app.specs.Sound.{NotOver};
-ghost use Rattle.h1_app.specs.Leaves.{Leaves};
-ghost use Rattle.h1_app.specs.Turn.{outcome_end};
+ghost use Rattle.h1_app.specs.Sound.{IsInWork};
+ghost use Rattle.h1_app.specs.Turn.{LeavesBy};
 ghost use Rattle.h1_app.specs.Step.{StepReady, Stepped, Continues};
 
 mod answering;
@@ -25,11 +24,13 @@ pub(crate) fn step<L: Link + Drop, SV: ServeHttp<L, C> + Drop, B: Drop, C: Drop>
     shutdown: bool,
 ) -> Outcome
     requires ready { StepReady (SV.gives server.now.app) (SV.runs server.now.app) now exchange.old }
-    requires unfinished { NotOver exchange.old.stage }
-    ensures stepped { Stepped L.state SV.pends (SV.gives server.now.app) (SV.runs server.now.app) now shutdown
+    requires unfinished { IsInWork exchange.old.stage }
+    ensures stepped { Stepped L.state SV.pends (SV.gives server.now.app)
+        (SV.runs server.now.app) now shutdown
         exchange.old exchange.new result }
-    ensures continues { Continues L.state L.same_plan SV.begins SV.pends exchange.old exchange.new result }
-    ensures leaves { Leaves (L.state exchange.old.session.link) (L.state exchange.new.session.link) exchange.new.transcript.last (outcome_end result) }
+    ensures continues { Continues L.state L.same_plan SV.begins SV.pends exchange.old exchange.new
+        result }
+    ensures leaves { LeavesBy L.state exchange.old exchange.new result }
 {
     match exchange.stage {
         Stage::Head => reading_head::read_head(alloc, server, exchange, now, shutdown),

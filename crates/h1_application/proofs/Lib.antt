@@ -1,2 +1,3 @@
 pub mod SettingLemmas
 pub mod ReadLemmas
+pub mod Words

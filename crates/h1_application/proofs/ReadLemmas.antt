@@ -3,62 +3,61 @@ use Rattle.std.proofs.Common.{◌≡◌, ℕ, ◌+◌, ◌-◌, ◌≤◌, ◌�
 use Rattle.h1_transfer.proofs.CalledLemmas.{called_itself, called_on, called_undone}
 use Rattle.std.proofs.lemmas.Bool.{false≢true}
 use Rattle.std.specs.Prelude.{option_map, Result, Ok, Err}
-use Rattle.futures.specs.declared.task.Poll.{Poll}
-use Rattle.futures.specs.declared.task.Poll.TheVariants.{Ready, Pending}
-use Rattle.h1_error.specs.declared.error.Error.{Error}
-use Rattle.h1_error.specs.declared.error.ErrorType.{ErrorType}
+use Rattle.h1_application.specs.Words.{Poll, Ready, Pending, Error, ErrorType, LinkState, Rose, reads, Called, read_fault_of_kind, no_fault, Decoded, BodyRefusal, SessionView}
 use Rattle.h1_error.specs.declared.error.ErrorType.TheVariants as kind
-use Rattle.h1_link.specs.LinkState.{LinkState}
-use Rattle.h1_link.specs.Counts.{Rose}
 use Rattle.h1_link.specs.Later.{Later}
-use Rattle.h1_body.specs.Reader.{reads}
 use Rattle.h1_body.specs.declared.reader.BodyReader.{BodyReader}
 use Rattle.h1_body.proofs.RunLemmas.{ahead-ahead, ahead_none}
-use Rattle.h1_transfer.specs.Calls.{Called, is_done, read_fault_of, read_fault_of_kind, no_fault}
-use Rattle.h1_transfer.specs.Decoding.{Decoded}
-use Rattle.h1_server.specs.Payload.{BodyRefusal, PayloadAnswer, ReadsPayload}
+use Rattle.h1_transfer.specs.Calls.{succeeds, read_fault_of}
+use Rattle.h1_server.specs.Payload.{PayloadAnswer, ReadsPayload}
 use Rattle.h1_transfer.specs.Payload.{refused_behind}
-use Rattle.h1_server.specs.SessionView.{SessionView}
 use Rattle.h1_transfer.specs.Budget.{allowance}
-use Rattle.h1_server.specs.declared.settings.Settings.{Settings}
 use Rattle.h1_transfer.proofs.MovedLemmas.{moved_itself, moved_on}
-use Rattle.h1_application.specs.Application.{ReadsOnly, RefusedBy, WaitsBy, fault_met, ReadsAtOnce}
+use Rattle.h1_application.proofs.Words.{ReadsOnly, RefusedBy, WaitsBy}
+use Rattle.h1_application.specs.Application.{fault_met, ReadsAtOnce, RefusesWith}
 
--- budgets
-budget_itself : (budget : Option ℕ) → budget ≡ option_map (λ left. left - 0) budget
+-- nothing of a budget was spent
+pub budget_itself : (budget : Option ℕ) → budget ≡ option_map (λ left. left - 0) budget
 budget_itself None = refl
 budget_itself (Some left) = ap Some (omega arith)
 
-budget_on : (a b c : Option ℕ) (spent more : ℕ) → b ≡ option_map (λ left. left - spent) a → c ≡ option_map (λ left. left - more) b
+budget_on : (a b c : Option ℕ) (spent more : ℕ) → b ≡ option_map (λ left. left - spent) a
+    → c ≡ option_map (λ left. left - more) b
     → c ≡ option_map (λ left. left - (spent + more)) a
 budget_on a b c spent more first second = second ∙ ap (option_map (λ left. left - more)) first ∙ twice a
   where
-    twice : (a : Option ℕ) → option_map (λ left. left - more) (option_map (λ left. left - spent) a) ≡ option_map (λ left. left - (spent + more)) a
+    twice : (a : Option ℕ)
+        → option_map (λ left. left - more) (option_map (λ left. left - spent) a) ≡ option_map
+        (λ left. left - (spent + more)) a
     twice None = refl
     twice (Some left) = ap Some (omega arith)
 
-within_itself : (budget : Option ℕ) → IfSome budget (λ left. 0 ≤ left)
+pub within_itself : (budget : Option ℕ) → IfSome budget (λ left. 0 ≤ left)
 within_itself None = tt
 within_itself (Some left) = omega arith
 
-within_on : (a b : Option ℕ) (spent more : ℕ) → b ≡ option_map (λ left. left - spent) a → IfSome a (λ left. spent ≤ left) → IfSome b (λ left. more ≤ left)
+within_on : (a b : Option ℕ) (spent more : ℕ) → b ≡ option_map (λ left. left - spent) a
+    → IfSome a (λ left. spent ≤ left) → IfSome b (λ left. more ≤ left)
     → IfSome a (λ left. spent + more ≤ left)
 within_on None b spent more step first second = tt
 within_on (Some left) b spent more step first second =
     let behind : more ≤ left - spent = subst (λ x. IfSome x (λ left. more ≤ left)) step second in
     omega arith
 
--- a budget that is there and of which so much is left
-budget_spent : (old new : Option ℕ) (left : ℕ) → IsSome old → left ≤ allowance old → new ≡ option_map (λ _. left) old
+-- a budget of which so much is left
+pub budget_spent : (old new : Option ℕ) (left : ℕ) → left ≤ allowance old
+    → new ≡ option_map (λ _. left) old
     → new ≡ option_map (λ had. had - (allowance old - left)) old
-budget_spent None new left there within step = absurd (false≢true there)
-budget_spent (Some had) new left there within step = step ∙ ap Some (omega arith)
+budget_spent None new left within step = step
+budget_spent (Some had) new left within step = step ∙ ap Some (omega arith)
 
-within_spent : (old : Option ℕ) (left : ℕ) → IsSome old → left ≤ allowance old → IfSome old (λ had. allowance old - left ≤ had)
-within_spent None left there within = tt
-within_spent (Some had) left there within = omega arith
+pub within_spent : (old : Option ℕ) (left : ℕ) → IfSome old (λ had. allowance old - left ≤ had)
+within_spent None left = tt
+within_spent (Some had) left = omega arith
 
-budget_none : (old new : Option ℕ) (left : ℕ) → IsSome old → new ≡ option_map (λ _. left) old → left ≡ 0 → new ≡ Some 0
+-- and one of which nothing is left
+pub budget_none : (old new : Option ℕ) (left : ℕ) → IsSome old → new ≡ option_map (λ _. left) old
+    → left ≡ 0 → new ≡ Some 0
 budget_none None new left there step none = absurd (false≢true there)
 budget_none (Some had) new left there step none = step ∙ ap Some none
 
@@ -67,16 +66,20 @@ kept_itself : (kept : Option (List ℕ)) → kept ≡ option_map (λ front. fron
 kept_itself None = refl
 kept_itself (Some front) = ap Some (sym (append-nil front))
 
-kept_on : (a b c : Option (List ℕ)) (x y : List ℕ) → b ≡ option_map (λ front. front ++ x) a → c ≡ option_map (λ front. front ++ y) b
+kept_on : (a b c : Option (List ℕ)) (x y : List ℕ) → b ≡ option_map (λ front. front ++ x) a
+    → c ≡ option_map (λ front. front ++ y) b
     → c ≡ option_map (λ front. front ++ (x ++ y)) a
 kept_on a b c x y first second = second ∙ ap (option_map (λ front. front ++ y)) first ∙ twice a
   where
-    twice : (a : Option (List ℕ)) → option_map (λ front. front ++ y) (option_map (λ front. front ++ x) a) ≡ option_map (λ front. front ++ (x ++ y)) a
+    twice : (a : Option (List ℕ))
+        → option_map (λ front. front ++ y) (option_map (λ front. front ++ x) a) ≡ option_map
+        (λ front. front ++ (x ++ y)) a
     twice None = refl
     twice (Some front) = ap Some (append_assoc front x y)
 
 -- a reading goes on after the one before
-decoded_on : (a b c : BodyReader) (used more payload further : List ℕ) → Decoded a b used payload → Decoded b c more further
+decoded_on : (a b c : BodyReader) (used more payload further : List ℕ) → Decoded a b used payload
+    → Decoded b c more further
     → Decoded a c (used ++ more) (payload ++ further)
 decoded_on a b c used more payload further first second = record {
   reads = λ rest.
@@ -90,7 +93,8 @@ decoded_on a b c used more payload further first second = record {
 }
 
 -- the causes of refusals and waits go on
-refusal_on : {L C : Type 0} (state : L → LinkState) (a b c : SessionView L C) (k : ErrorType) → Later (state a.link) (state b.link)
+refusal_on : {L C : Type 0} (state : L → LinkState) (a b c : SessionView L C) (k : ErrorType)
+    → Later (state a.link) (state b.link)
     → BodyRefusal state b c k → BodyRefusal state a c k
 refusal_on state a b c kind.InvalidBody later h = h
 refusal_on state a b c kind.ConnectionClosed later h = h
@@ -98,22 +102,26 @@ refusal_on state a b c kind.ReadError later h = (let counts = later.counts in om
 refusal_on state a b c kind.NoMemory later h = tt
 refusal_on state a b c _ later h = absurd h
 
-refused_on : {L C : Type 0} (state : L → LinkState) (a b c : SessionView L C) (refused : Option Error) → Later (state a.link) (state b.link)
-    → b.body.refused ≡ refused → RefusedBy state a b refused → RefusedBy state b c refused → RefusedBy state a c refused
+refused_on : {L C : Type 0} (state : L → LinkState) (a b c : SessionView L C)
+    (refused : Option Error) → Later (state a.link) (state b.link)
+    → b.body.refused ≡ refused → RefusedBy state a b refused → RefusedBy state b c refused
+    → RefusedBy state a c refused
 refused_on state a b c (Some error) later is first second =
     (second.0, second.1 ∙ first.1, second.2 ∙ first.2, second.3 ∙ first.3)
 refused_on state a b c None later is first second = on c.body.refused second
   where
-    on : (o : Option Error) → IfSome o (λ error. BodyRefusal state b c error.kind) → IfSome o (λ error. BodyRefusal state a c error.kind)
+    on : (o : Option Error) → IfSome o (RefusesWith state b c) → IfSome o (RefusesWith state a c)
     on None h = tt
-    on (Some error) h = refusal_on state a b c error.kind later h
+    on (Some error) h = (refusal_on state a b c error.kind later h.0, h.1)
 
-waits_on : {L C : Type 0} (state : L → LinkState) (a b c : SessionView L C) (waits : Bool) → (state b.link).read_waits ≡ (state a.link).read_waits
+waits_on : {L C : Type 0} (state : L → LinkState) (a b c : SessionView L C) (waits : Bool)
+    → (state b.link).read_waits ≡ (state a.link).read_waits
     → WaitsBy state b c waits → WaitsBy state a c waits
 waits_on state a b c false same h = h ∙ same
 waits_on state a b c true same h = (h.0, h.1, subst (λ n. Rose n (state c.link).read_waits ⊎ (c.budget ≡ Some 0)) same h.2)
 
-refused_itself : {L C : Type 0} (state : L → LinkState) (s : SessionView L C) (refused : Option Error) → s.body.refused ≡ refused → RefusedBy state s s refused
+refused_itself : {L C : Type 0} (state : L → LinkState) (s : SessionView L C)
+    (refused : Option Error) → s.body.refused ≡ refused → RefusedBy state s s refused
 refused_itself state s (Some error) is = (is, refl, refl, refl)
 refused_itself state s None is = rw is tt
 
@@ -122,7 +130,8 @@ met_itself None = refl
 met_itself (Some error) = refl
 
 -- reading nothing
-pub reads_itself : {L C : Type 0} (state : L → LinkState) (s : SessionView L C) → ReadsOnly state s s
+pub reads_itself : {L C : Type 0} (state : L → LinkState) (s : SessionView L C)
+    → ReadsOnly state s s
 reads_itself state s = record {
   piece = [];
   used = [];
@@ -147,7 +156,8 @@ reads_itself state s = record {
 }
 
 -- reading on, where no read was pending or refused before
-pub reads_on : {L C : Type 0} (state : L → LinkState) (a b c : SessionView L C) → ReadsOnly state a b → ReadsAtOnce state a b → ReadsOnly state b c
+pub reads_on : {L C : Type 0} (state : L → LinkState) (a b c : SessionView L C)
+    → ReadsOnly state a b → ReadsAtOnce state a b → ReadsOnly state b c
     → ReadsOnly state a c
 reads_on state a b c first free second = record {
   piece = first.piece ++ second.piece;
@@ -176,33 +186,37 @@ reads_on state a b c first free second = record {
 }
 
 -- what a call that reads says of refusals and waits
-payload_refused : {L C : Type 0} (state : L → LinkState) (old new : SessionView L C) (payload : List ℕ) (left : ℕ) (outcome : Poll (Result (Option (List ℕ)) Error))
-    → PayloadAnswer state old new payload left outcome → IfSome new.body.refused (λ error. BodyRefusal state old new error.kind)
+payload_refused : {L C : Type 0} (state : L → LinkState) (old new : SessionView L C)
+    (payload : List ℕ) (left : ℕ) (outcome : Poll (Result (Option (List ℕ)) Error))
+    → PayloadAnswer state old new payload left outcome
+    → IfSome new.body.refused (RefusesWith state old new)
 payload_refused state old new payload left (Ready (Ok (Some piece))) h = rw h.2 tt
 payload_refused state old new payload left (Ready (Ok None)) h = rw h.2 tt
 payload_refused state old new payload left (Ready (Err error)) h =
-    subst (λ o. IfSome o (λ error. BodyRefusal state old new error.kind)) (sym h.1) (by_kind new.body.kept error error.kind refl h.2)
+    subst (λ o. IfSome o (RefusesWith state old new)) (sym h.1)
+    (behind new.body.kept error error.kind refl (h.2, h.4))
   where
-    by_kind : (kept : Option (List ℕ)) (error : Error) (k : ErrorType) → error.kind ≡ k → BodyRefusal state old new k
-        → IfSome (refused_behind kept error) (λ error. BodyRefusal state old new error.kind)
-    by_kind None error kind.NoMemory is h = rw is tt
-    by_kind (Some bytes) error kind.NoMemory is h = rw is tt
-    by_kind kept error kind.InvalidBody is h = rw is h
-    by_kind kept error kind.ConnectionClosed is h = rw is h
-    by_kind kept error kind.ReadError is h = rw is h
-    by_kind kept error _ is h = absurd h
+    behind : (kept : Option (List ℕ)) (error : Error) (k : ErrorType) → error.kind ≡ k
+        → RefusesWith state old new error
+        → IfSome (refused_behind kept error) (RefusesWith state old new)
+    behind None error kind.NoMemory is h = rw is tt
+    behind (Some bytes) error kind.NoMemory is h = rw is (tt, h.1)
+    behind kept error _ is h = rw is (rw is at h)
 payload_refused state old new payload left Pending h = rw h.2 tt
 
-payload_waits : {L C : Type 0} (state : L → LinkState) (old new : SessionView L C) (payload : List ℕ) (left : ℕ) (outcome : Poll (Result (Option (List ℕ)) Error))
+payload_waits : {L C : Type 0} (state : L → LinkState) (old new : SessionView L C)
+    (payload : List ℕ) (left : ℕ) (outcome : Poll (Result (Option (List ℕ)) Error))
     → IsSome old.budget → new.budget ≡ option_map (λ _. left) old.budget
-    → PayloadAnswer state old new payload left outcome → old.body.waits ≡ false → WaitsBy state old new new.body.waits
+    → PayloadAnswer state old new payload left outcome → old.body.waits ≡ false
+    → WaitsBy state old new new.body.waits
 payload_waits state old new payload left (Ready (Ok (Some piece))) there step h none = rw (h.3.waits, none) h.3.link_waits
 payload_waits state old new payload left (Ready (Ok None)) there step h none = rw (h.3.waits, none) h.3.link_waits
 payload_waits state old new payload left (Ready (Err error)) there step h none = rw (h.3.waits, none) h.3.link_waits
 payload_waits state old new payload left Pending there step h none =
     rw h.3 (h.1, h.2, why h.4)
   where
-    why : Rose (state old.link).read_waits (state new.link).read_waits ⊎ (left ≡ 0) → Rose (state old.link).read_waits (state new.link).read_waits ⊎ (new.budget ≡ Some 0)
+    why : Rose (state old.link).read_waits (state new.link).read_waits ⊎ (left ≡ 0)
+        → Rose (state old.link).read_waits (state new.link).read_waits ⊎ (new.budget ≡ Some 0)
     why (inl rose) = inl rose
     why (inr spent) = inr (budget_none old.budget new.budget left there step spent)
 
@@ -213,25 +227,29 @@ refusal_fault None error kind.NoMemory is = rw is refl
 refusal_fault (Some payload) error kind.NoMemory is = rw is refl
 refusal_fault kept error _ is = rw is refl
 
-payload_fault : {L C : Type 0} (state : L → LinkState) (old new : SessionView L C) (payload : List ℕ) (left : ℕ) (outcome : Poll (Result (Option (List ℕ)) Error))
-    → PayloadAnswer state old new payload left outcome → read_fault_of outcome ≡ fault_met None new.body.refused
+payload_fault : {L C : Type 0} (state : L → LinkState) (old new : SessionView L C)
+    (payload : List ℕ) (left : ℕ) (outcome : Poll (Result (Option (List ℕ)) Error))
+    → PayloadAnswer state old new payload left outcome
+    → read_fault_of outcome ≡ fault_met None new.body.refused
 payload_fault state old new payload left (Ready (Ok (Some piece))) h = rw h.2 refl
 payload_fault state old new payload left (Ready (Ok None)) h = rw h.2 refl
 payload_fault state old new payload left (Ready (Err error)) h = rw h.1 (refusal_fault new.body.kept error error.kind refl)
 payload_fault state old new payload left Pending h = rw h.2 refl
 
 -- one call that reads
-pub reads_payload : {L C : Type 0} (state : L → LinkState) (old new : SessionView L C) (outcome : Poll (Result (Option (List ℕ)) Error))
+pub reads_payload : {L C : Type 0} (state : L → LinkState) (old new : SessionView L C)
+    (outcome : Poll (Result (Option (List ℕ)) Error))
     → IsSome old.budget → old.body.refused ≡ None → ReadsPayload state old new outcome
-    → Called (state old.link) (state new.link) (is_done outcome) (read_fault_of outcome) → ReadsOnly state old new
+    → Called (state old.link) (state new.link) (succeeds outcome) (read_fault_of outcome)
+    → ReadsOnly state old new
 reads_payload state old new outcome there none call calls = record {
   piece = call.reads.piece;
   used = call.reads.used;
   payload = call.payload;
   spent = allowance old.budget - call.left;
   moved = call.reads.moved;
-  budget = budget_spent old.budget new.budget call.left there call.reads.within call.budget;
-  within = within_spent old.budget call.left there call.reads.within;
+  budget = budget_spent old.budget new.budget call.left call.reads.within call.budget;
+  within = within_spent old.budget call.left;
   flushed = call.reads.flushed;
   bytes = call.reads.bytes;
   decoded = call.reads.decoded;
@@ -239,7 +257,7 @@ reads_payload state old new outcome there none call calls = record {
   request = ap (λ s. s.request) call.rest;
   few = call.few;
   calls = rw none (subst (λ f. Called (state old.link) (state new.link) false f) (payload_fault state old new call.payload call.left outcome call.answer)
-      (called_undone (state old.link) (state new.link) (is_done outcome) (read_fault_of outcome) calls));
+      (called_undone (state old.link) (state new.link) (succeeds outcome) (read_fault_of outcome) calls));
   head_refused = ap (λ s. s.refused) call.rest;
   reuses = ap (λ s. s.settings.reuses) call.rest;
   reply = ap (λ s. s.reply) call.rest;
@@ -249,12 +267,17 @@ reads_payload state old new outcome there none call calls = record {
 }
 
 -- one call, which answers a refusal again
-pub reads_call : {L C : Type 0} (state : L → LinkState) (old new : SessionView L C) (outcome : Poll (Result (Option (List ℕ)) Error))
-    → IsSome old.budget → IfSome old.body.refused (λ error. (outcome ≡ Ready (Err error)) × (new ≡ old))
-    → IfNone old.body.refused (ReadsPayload state old new outcome) → Called (state old.link) (state new.link) (is_done outcome) (read_fault_of outcome) → ReadsOnly state old new
+pub reads_call : {L C : Type 0} (state : L → LinkState) (old new : SessionView L C)
+    (outcome : Poll (Result (Option (List ℕ)) Error))
+    → IsSome old.budget
+    → IfSome old.body.refused (λ error. (outcome ≡ Ready (Err error)) × (new ≡ old))
+    → IfNone old.body.refused (ReadsPayload state old new outcome)
+    → Called (state old.link) (state new.link) (succeeds outcome) (read_fault_of outcome)
+    → ReadsOnly state old new
 reads_call {L} {C} state old new outcome there again reads calls = by_refused old.body.refused refl again reads
   where
-    by_refused : (o : Option Error) → old.body.refused ≡ o → IfSome o (λ error. (outcome ≡ Ready (Err error)) × (new ≡ old))
+    by_refused : (o : Option Error) → old.body.refused ≡ o
+        → IfSome o (λ error. (outcome ≡ Ready (Err error)) × (new ≡ old))
         → IfNone o (ReadsPayload state old new outcome) → ReadsOnly state old new
     by_refused None is again reads = reads_payload state old new outcome there is reads calls
     by_refused (Some error) is again reads = subst (ReadsOnly state old) (sym again.1) (reads_itself state old)

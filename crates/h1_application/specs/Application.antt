@@ -1,20 +1,12 @@
 -- What an application may do with a session, and what it is given.
 use Rattle.std.specs.Prelude.{◌≡◌, ℕ, ◌+◌, ◌-◌, ◌≤◌, ◌⊎◌, List, [], ◌++◌, Bool, true, false, Option, Some, None, option_map, unwrap_or, IfSome, Result, Ok, Err}
-use Rattle.h1_transfer.specs.Calls.{Called, Fault, no_fault, read_fault_of_kind}
-use Rattle.futures.specs.declared.task.Poll.{Poll}
-use Rattle.futures.specs.declared.task.Poll.TheVariants.{Ready, Pending}
-use Rattle.h1_error.specs.declared.error.Error.{Error}
-use Rattle.h1_link.specs.LinkState.{LinkState}
-use Rattle.h1_link.specs.Counts.{Rose}
+use Rattle.h1_application.specs.Words.{Called, no_fault, read_fault_of_kind, Poll, Ready, Pending, Error, LinkState, Rose, raised, reads, Decoded, BodyRefusal, SessionView, Settings}
+use Rattle.h1_transfer.specs.Calls.{Fault}
 use Rattle.h1_head.specs.Views.{RequestView}
 use Rattle.h1_body.specs.Body.{Body, whole, unfinished, broken}
-use Rattle.h1_body.specs.Reader.{reads}
 use Rattle.h1_transfer.specs.Moved.{Moved}
-use Rattle.h1_transfer.specs.Decoding.{Decoded, Lacks}
-use Rattle.h1_server.specs.Payload.{BodyRefusal}
-use Rattle.h1_server.specs.SessionView.{SessionView}
+use Rattle.h1_transfer.specs.Decoding.{Lacks}
 use Rattle.h1_transfer.specs.declared.body.BodyState.{BodyState}
-use Rattle.h1_server.specs.declared.settings.Settings.{Settings}
 use Rattle.h1_transcript.specs.declared.reply.Reply.{Reply}
 use Rattle.h1_transcript.specs.declared.transcript.How.{How}
 use Rattle.h1_transcript.specs.declared.transcript.How.TheVariants.{Open, Whole, Failed}
@@ -34,7 +26,15 @@ abbrev pub payload_of : {L C : Type 0} → SessionView L C → List ℕ
 payload_of session = unwrap_or session.body.kept []
 
 abbrev pub given_by : {L C : Type 0} → RequestView → Settings → SessionView L C → Given
-given_by head began session = record { head = head; handed = payload_of session; how = how_of session.body; body_error = session.body.refused; began = began; left = session.settings }
+given_by head began session =
+    record {
+      head = head;
+      handed = payload_of session;
+      how = how_of session.body;
+      body_error = session.body.refused;
+      began = began;
+      left = session.settings;
+    }
 
 -- the fault of the link that reading met, of a body that wasn't refused before
 abbrev pub fault_met : Option Error → Option Error → Fault
@@ -42,22 +42,32 @@ fault_met (Some error) now = no_fault
 fault_met None None = no_fault
 fault_met None (Some error) = read_fault_of_kind error.kind
 
+-- an error of the body has its cause, and isn't for a retry
+abbrev pub RefusesWith : {L C : Type 0} → (L → LinkState) → SessionView L C → SessionView L C
+    → Error → Type 0
+RefusesWith state old new error = BodyRefusal state old new error.kind × (error.retry ≡ false)
+
 -- a refusal that was answered before stays, with all that was read; a new one has its cause
-abbrev pub RefusedBy : {L C : Type 0} → (L → LinkState) → SessionView L C → SessionView L C → Option Error → Type 0
+abbrev pub RefusedBy : {L C : Type 0} → (L → LinkState) → SessionView L C → SessionView L C
+    → Option Error → Type 0
 RefusedBy state old new (Some error) =
-    (new.body.refused ≡ Some error) × (new.body.reader ≡ old.body.reader) × (new.received ≡ old.received)
+    (new.body.refused ≡ Some error) × (new.body.reader ≡ old.body.reader)
+    × (new.received ≡ old.received)
     × ((state new.link).ended ≡ (state old.link).ended)
-RefusedBy state old new None = IfSome new.body.refused (λ error. BodyRefusal state old new error.kind)
+RefusedBy state old new None =
+    IfSome new.body.refused (λ error. RefusesWith state old new error)
 
 -- where a read was pending, nothing is left to be used, and the link or the budget is why
-abbrev pub WaitsBy : {L C : Type 0} → (L → LinkState) → SessionView L C → SessionView L C → Bool → Type 0
+abbrev pub WaitsBy : {L C : Type 0} → (L → LinkState) → SessionView L C → SessionView L C → Bool
+    → Type 0
 WaitsBy state old new false = (state new.link).read_waits ≡ (state old.link).read_waits
 WaitsBy state old new true = Lacks new.body.reader new.received × (new.body.refused ≡ None)
     × (Rose (state old.link).read_waits (state new.link).read_waits ⊎ (new.budget ≡ Some 0))
 
 -- The application only reads the body and sets what may be set: the bytes that it used become the
 -- payload that it was handed.
-pub record ReadsOnly {L C : Type 0} (state : L → LinkState) (old new : SessionView L C) : Type 0 where
+pub record ReadsOnly {L C : Type 0} (state : L → LinkState)
+    (old new : SessionView L C) : Type 0 where
   pub piece : List ℕ
   pub used : List ℕ
   pub payload : List ℕ
@@ -69,7 +79,8 @@ pub record ReadsOnly {L C : Type 0} (state : L → LinkState) (old new : Session
   -- a read was not ready at most once
   pub few : (state new.link).read_waits ≤ (state old.link).read_waits + 1
   -- a call of the link moved nothing at most once, the link isn't shut, and only a read may fail
-  pub calls : Called (state old.link) (state new.link) false (fault_met old.body.refused new.body.refused)
+  pub calls : Called (state old.link) (state new.link) false
+      (fault_met old.body.refused new.body.refused)
   pub bytes : old.received ++ piece ≡ used ++ new.received
   pub decoded : Decoded old.body.reader new.body.reader used payload
   pub kept : new.body.kept ≡ option_map (λ front. front ++ payload) old.body.kept
@@ -88,22 +99,26 @@ IfPending (Ready value) P = Unit {0}
 IfPending Pending P = P
 
 -- the reply is one that the relation gives; only out of memory stands beside it
-abbrev pub GivesReply : {E : Type 0} → (Given → Reply → Type 0) → Given → (E → Type 0) → Poll (Result Reply E) → Type 0
+abbrev pub GivesReply : {E : Type 0} → (Given → Reply → Type 0) → Given → (E → Type 0)
+    → Poll (Result Reply E) → Type 0
 GivesReply gives given only Pending = Unit {0}
 GivesReply gives given only (Ready (Ok reply)) = gives given reply
 GivesReply gives given only (Ready (Err error)) = only error
 
--- a pending answer is a pending read's, or the job's own
-abbrev pub PendsBy : ℕ → ℕ → Bool → Type 0
-PendsBy before now true = Unit {0}
-PendsBy before now false = Rose before now
+-- A job's count rises by one with an answer that it isn't ready by itself, and with no other: a
+-- pending answer is a pending read's, or the job's own.
+abbrev pub PendsBy : {T : Type 0} → Poll T → ℕ → ℕ → Bool → Type 0
+PendsBy (Ready value) before now waits = now ≡ before
+PendsBy Pending before now true = now ≡ before
+PendsBy Pending before now false = now ≡ raised before 1
 
 -- the session's request has this head
 abbrev pub IsAskedFor : {L C : Type 0} → RequestView → SessionView L C → Type 0
 IsAskedFor head session = IfSome session.request (λ request. request.header ≡ head)
 
 -- no read was pending or refused, and each link call moved bytes
-pub record ReadsAtOnce {L C : Type 0} (state : L → LinkState) (old new : SessionView L C) : Type 0 where
+pub record ReadsAtOnce {L C : Type 0} (state : L → LinkState)
+    (old new : SessionView L C) : Type 0 where
   pub refused : new.body.refused ≡ old.body.refused
   pub waits : new.body.waits ≡ old.body.waits
   pub link_waits : (state new.link).read_waits ≡ (state old.link).read_waits

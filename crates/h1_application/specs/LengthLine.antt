@@ -60,7 +60,9 @@ skip_none (b ∷ bytes) h = by_test (is_digit b) refl
 trim_none : (bytes : List ℕ) → list_all is_digit bytes ≡ true → trim_ows bytes ≡ bytes
 unfolding trim_ows
 trim_none bytes h =
-    let behind = list_all-from_AllPass is_digit (reverse bytes) (AllPass-reverse is_digit bytes (AllPass-from_list_all is_digit bytes h)) in
+    let behind =
+    list_all-from_AllPass is_digit (reverse bytes)
+    (AllPass-reverse is_digit bytes (AllPass-from_list_all is_digit bytes h)) in
     rw (skip_none bytes h, skip_none (reverse bytes) behind, reverse-reverse bytes) refl
 
 -- the name in lower case is the name
@@ -73,14 +75,16 @@ unfolding same_name
 coding_name = refl
 
 -- one line with a number states this number
-pub length_line : (n : ℕ) → n < 2 ^ 64 → content_length ((codes "content-length", decimal n) ∷ []) ≡ Number n
+pub length_line : (n : ℕ) → n < 2 ^ 64
+    → content_length ((codes "content-length", decimal n) ∷ []) ≡ Number n
 length_line n small =
     let is = decimal_is_IsNumeral n small in
     let piece = slice_split_none is_comma (decimal n) (no_comma (decimal n) is.0.1) in
     let trim = trim_none (decimal n) (digits_pass (decimal n) is.0.1) in
     rw (length_name, piece, trim, number_all n (decimal n) (is.0, is.1, small)) refl
 
-pub counted : (header : ResponseView) (n : ℕ) → header.fields ≡ (codes "content-length", decimal n) ∷ [] → n < 2 ^ 64 → IsCounted header
+pub counted : (header : ResponseView) (n : ℕ)
+    → header.fields ≡ (codes "content-length", decimal n) ∷ [] → n < 2 ^ 64 → IsCounted header
 counted header n are small = record {
   value = decimal n;
   number = n;

@@ -1,2 +1,3 @@
 pub mod LengthLine
 pub mod Application
+pub mod Words

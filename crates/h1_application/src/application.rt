@@ -1,7 +1,7 @@
 //! What an application is to a connection.
 ghost use Rattle.std.specs.Prelude.{◌≡◌, ℕ, ◌<◌, ◌≤◌, List, [], IfOk, IfErr, IsSome};
 ghost use Rattle.h1_error.specs.declared.moment.TheConstants.{YEAR_10000};
-ghost use Rattle.h1_error.specs.declared.error.ErrorType.TheVariants.{NoMemory};
+ghost use Rattle.h1_error.specs.Memory.{no_memory};
 ghost use Rattle.h1_server.specs.declared.settings.Settings.{Settings};
 ghost use Rattle.h1_head.specs.Views.{RequestView};
 ghost use Rattle.h1_transcript.specs.Given.{Given};
@@ -34,7 +34,8 @@ pub trait ServeHttp<L: Link + Drop, C: Drop> {
     /// Every reply that the relation gives is lawful.
     ghost lawful: { (app : Self) → LawfulReplies (gives app) };
 
-    /// How often a job was not ready by itself. It never falls.
+    /// How often a job was not ready by itself: it rises by one with each such answer, stands still
+    /// at 2^64 - 1, and never falls.
     ghost pends: { Self.Job → ℕ };
 
     /// How a job stands for the request with this head: with what was set as it started, what is
@@ -44,8 +45,9 @@ pub trait ServeHttp<L: Link + Drop, C: Drop> {
     /// Starts a job. Its only error is being out of memory.
     fn start(&self, alloc: Global) -> Result<Self::Job, Error>
         ensures begins { IfOk result begins }
-        ensures runs { IfOk result (λ job. (head : RequestView) (began : Settings) → runs self.now job head began began []) }
-        ensures memory { IfErr result (λ error. error.kind ≡ NoMemory) };
+        ensures runs { IfOk result (λ job. (head : RequestView) (began : Settings)
+            → runs self.now job head began began []) }
+        ensures memory { IfErr result (λ error. error ≡ no_memory) };
 
     /// Goes on with a job. Its only error is being out of memory.
     fn poll_response(
@@ -62,10 +64,12 @@ pub trait ServeHttp<L: Link + Drop, C: Drop> {
         ensures plan { L.same_plan http.old.link http.new.link }
         ensures runs { (head : RequestView) (began : Settings) → IsAskedFor head http.old
             → runs self.now job.old head began http.old.settings (payload_of http.old)
-            → IfPending result (runs self.now job.new head began http.new.settings (payload_of http.new)) }
+            → IfPending result
+            (runs self.now job.new head began http.new.settings (payload_of http.new)) }
         ensures gives { (head : RequestView) (began : Settings) → IsAskedFor head http.old
             → runs self.now job.old head began http.old.settings (payload_of http.old)
-            → GivesReply (gives self.now) (given_by head began http.new) (λ error. error.kind ≡ NoMemory) result }
+            → GivesReply (gives self.now) (given_by head began http.new)
+            (λ error. error ≡ no_memory) result }
         ensures never_falls { pends job.old ≤ pends job.new }
-        ensures pends { IfPending result (PendsBy (pends job.old) (pends job.new) http.new.body.waits) };
+        ensures pends { PendsBy result (pends job.old) (pends job.new) http.new.body.waits };
 }

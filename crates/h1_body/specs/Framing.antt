@@ -30,4 +30,5 @@ has_no_body method status = bytes_eq method (codes "HEAD") || status == 204 || s
 
 -- a reply with neither ends where the link does
 abbrev pub out : List ℕ → ResponseView → Framing
-out method head = if has_no_body method head.status then Counted 0 else by_fields UntilClose head.fields
+out method head =
+    if has_no_body method head.status then Counted 0 else by_fields UntilClose head.fields

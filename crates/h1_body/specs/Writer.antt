@@ -69,11 +69,11 @@ abbrev pub is_finished : WriterView → Bool
 is_finished view = view.ended || is_full view.framing view.written
 
 -- the body is ended by the end of the link
-abbrev pub ends_with_link : Option Framing → Bool
-ends_with_link None = false
-ends_with_link (Some (Counted n)) = false
-ends_with_link (Some Chunked) = false
-ends_with_link (Some UntilClose) = true
+abbrev pub until_close : Option Framing → Bool
+until_close None = false
+until_close (Some (Counted n)) = false
+until_close (Some Chunked) = false
+until_close (Some UntilClose) = true
 
 -- all bytes of a body whose payload is one piece
 abbrev pub body_bytes : Framing → List ℕ → List ℕ

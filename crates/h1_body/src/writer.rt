@@ -1,6 +1,6 @@
 //! Writing a body (RFC 9112, sections 6 and 7.1).
 ghost use Rattle.std.specs.Prelude.{◌≡◌, ◌<◌, ◌^◌, ℕ, List, take, length, Some, None, true, false, IsTrue, IsOkAnd, MatchResult};
-ghost use Rattle.h1_body.specs.Writer.{taken, taken_by, piece_bytes, after_piece, end_bytes, is_short, is_finished, ends_with_link, begun};
+ghost use Rattle.h1_body.specs.Writer.{taken, taken_by, piece_bytes, after_piece, end_bytes, is_short, is_finished, until_close, begun};
 ghost use Rattle.h1_error.specs.declared.error.ErrorType.TheVariants.{PrematureBodyEnd};
 
 use crate::{Framing, Wire};
@@ -129,8 +129,8 @@ impl BodyWriter {
     }
 
     /// Whether the end of the link ends the body.
-    pub fn is_close_delimited(&self) -> bool
-        ensures { result ≡ ends_with_link self.now.framing }
+    pub fn is_until_close(&self) -> bool
+        ensures { result ≡ until_close self.now.framing }
     {
         matches!(self.framing, Some(Framing::UntilClose))
     }

@@ -8,32 +8,20 @@ use Rattle.std.proofs.lemmas.Fmt.{decimal_is_IsNumeral, decimal_digit}
 use Rattle.std.proofs.lemmas.Str.Parse.{digit_from_value}
 use Rattle.std.proofs.lemmas.Bool.{ne_eqb, false≢true}
 use Rattle.httparse.specs.Grammar.{is_token, is_token_byte}
-use Rattle.h1_error.specs.declared.error.Error.{Error}
-use Rattle.h1_error.specs.declared.error.ErrorType.TheVariants.{NoMemory}
-use Rattle.h1_error.specs.declared.error.ErrorType.{ErrorType}
+use Rattle.h1_echo.specs.Words.{Error, NoMemory, no_memory, ErrorType, Ready, LinkState, SessionView, Stopped, ReadsAtOnce, ReadsOnly, GivesReply, payload_of, how_of, Given, Reply, Open, Whole, Failed, RequestView, ResponseView, new_response, Settings, line_fault, RefusedFor}
 use Rattle.h1_error.specs.declared.head_fault.HeadFault.{HeadFault}
 use Rattle.futures.specs.declared.task.Poll.{Poll}
-use Rattle.futures.specs.declared.task.Poll.TheVariants.{Ready}
-use Rattle.h1_link.specs.LinkState.{LinkState}
 use Rattle.h1_server.specs.Payload.{ReadsPayload}
 use Rattle.h1_transfer.specs.Payload.{refused_behind}
-use Rattle.h1_server.specs.SessionView.{SessionView}
-use Rattle.h1_echo.specs.declared.echo.Stopped.{Stopped}
-use Rattle.h1_echo.specs.EchoRun.{EchoRuns, StopCause, IsStopOf, Reading, Gathers}
-use Rattle.h1_application.specs.Application.{ReadsAtOnce, ReadsOnly, GivesReply, payload_of, how_of, given_by, IsAskedFor}
+use Rattle.h1_echo.proofs.Words.{Reading, refused_reply, echo_settings}
+use Rattle.h1_echo.specs.EchoRun.{EchoRuns, StopCause, IsStopOf, Gathers}
+use Rattle.h1_application.specs.Application.{given_by, IsAskedFor}
 use Rattle.h1_echo.specs.declared.echo.Stopped.TheVariants as stopped
-use Rattle.h1_transcript.specs.Given.{Given}
-use Rattle.h1_echo.specs.Echo.{EchoGives, echo_reply, refused_reply, echo_settings}
-use Rattle.h1_transcript.specs.declared.reply.Reply.{Reply}
-use Rattle.h1_transcript.specs.declared.transcript.How.TheVariants.{Open, Whole, Failed}
-use Rattle.h1_head.specs.Views.{RequestView, ResponseView}
-use Rattle.h1_head.specs.Response.{new_response}
+use Rattle.h1_echo.specs.Echo.{EchoGives, echo_reply}
 use Rattle.h1_server.specs.declared.request.Request.{Request}
 use Rattle.h1_transfer.specs.declared.body.BodyState.{BodyState}
-use Rattle.h1_server.specs.declared.settings.Settings.{Settings}
-use Rattle.h1_error.specs.declared.error.ErrorType.TheVariants as kind
 use Rattle.h1_application.proofs.ReadLemmas.{reads_itself, reads_on}
-use Rattle.h1_head.specs.Faults.{line_fault, is_text, is_text_byte, RefusedFor}
+use Rattle.h1_head.specs.Faults.{is_text, is_text_byte}
 use Rattle.h1_application.proofs.SettingLemmas.{only_settings}
 
 -- the name is a token
@@ -61,39 +49,51 @@ length_is_a_line n small =
     rw (name_is, digits_are_text (decimal n) digits.1) refl
 
 -- an answer that only wants memory
-pub only_memory : (result : Result (Unit {0}) Error) (name value : List ℕ) → line_fault name value ≡ None
-    → RefusedFor (line_fault name value) result → IfErr result (λ error. error.kind ≡ NoMemory)
+pub only_memory : (result : Result (Unit {0}) Error) (name value : List ℕ)
+    → line_fault name value ≡ None
+    → RefusedFor (line_fault name value) result → IfErr result (λ error. error ≡ no_memory)
 only_memory result name value none h = by_result result (subst (λ (o : Option HeadFault). RefusedFor o result) none h)
   where
-    by_result : (r : Result (Unit {0}) Error) → RefusedFor None r → IfErr r (λ error. error.kind ≡ NoMemory)
+    by_result : (r : Result (Unit {0}) Error) → RefusedFor None r
+        → IfErr r (λ error. error ≡ no_memory)
     by_result (Ok done) h = tt
-    by_result (Err error) h = rw h refl
+    by_result (Err error) h = h
 
 -- why a read that failed stops the reading; `P` is what reads give
-pub stop_cause : (P : Type 0) {L C : Type 0} (state : L → LinkState) (old new : SessionView L C) (error : Error) (stop : Stopped)
-    → IfSome old.body.refused (λ kept. (◌≡◌ {A = Poll (Result P Error)} (Ready (Err error)) (Ready (Err kept))) × (new ≡ old))
-    → IfNone old.body.refused (ReadsPayload state old new (Ready (Err error))) → IsStopOf error error.kind stop → StopCause state old new (Some stop)
+pub stop_cause : (P : Type 0) {L C : Type 0} (state : L → LinkState) (old new : SessionView L C)
+    (error : Error) (stop : Stopped)
+    → IfSome old.body.refused
+    (λ kept. (◌≡◌ {A = Poll (Result P Error)} (Ready (Err error)) (Ready (Err kept)))
+    × (new ≡ old))
+    → IfNone old.body.refused (ReadsPayload state old new (Ready (Err error)))
+    → IsStopOf error.kind stop → StopCause state old new (Some stop)
 stop_cause P {L} {C} state old new error stop again reads is = by_kind error.kind refl (by_refused old.body.refused refl again reads) is
   where
-    for_good : (body : Option (List ℕ)) (error : Error) (k : ErrorType) → error.kind ≡ k → (k ≢ NoMemory) → refused_behind body error ≡ Some error
+    for_good : (body : Option (List ℕ)) (error : Error) (k : ErrorType) → error.kind ≡ k
+        → (k ≢ NoMemory) → refused_behind body error ≡ Some error
     for_good body error NoMemory is other = absurd (other refl)
     for_good body error _ is other = rw is refl
 
     by_refused : (o : Option Error) → old.body.refused ≡ o
-        → IfSome o (λ kept. (◌≡◌ {A = Poll (Result P Error)} (Ready (Err error)) (Ready (Err kept))) × (new ≡ old))
-        → IfNone o (ReadsPayload state old new (Ready (Err error))) → error.kind ≢ NoMemory → new.body.refused ≡ Some error
+        → IfSome o (λ kept. (◌≡◌ {A = Poll (Result P Error)} (Ready (Err error)) (Ready (Err kept)))
+        × (new ≡ old))
+        → IfNone o (ReadsPayload state old new (Ready (Err error))) → error.kind ≢ NoMemory
+        → new.body.refused ≡ Some error
     by_refused None is again reads other = reads.answer.1 ∙ for_good new.body.kept error error.kind refl other
     by_refused (Some kept) is again reads other =
         let says : ◌≡◌ {A = Poll (Result P Error)} (Ready (Err error)) (Ready (Err kept)) = again.0 in
         let same : error ≡ kept = cc in
         ap (λ (s : SessionView L C). s.body.refused) again.1 ∙ is ∙ ap Some (sym same)
 
-    by_kind : (k : ErrorType) → error.kind ≡ k → (error.kind ≢ NoMemory → new.body.refused ≡ Some error) → IsStopOf error k stop → StopCause state old new (Some stop)
-    by_kind NoMemory is refused h = subst (λ s. StopCause state old new (Some s)) (sym h) is
+    by_kind : (k : ErrorType) → error.kind ≡ k
+        → (error.kind ≢ NoMemory → new.body.refused ≡ Some error) → IsStopOf k stop
+        → StopCause state old new (Some stop)
+    by_kind NoMemory is refused h = subst (λ s. StopCause state old new (Some s)) (sym h) refl
     by_kind _ is refused h = subst (λ s. StopCause state old new (Some s)) (sym h) (error, refused (λ never. let clash = sym is ∙ never in cc))
 
 -- nothing is read yet
-pub reading_itself : {L C : Type 0} (state : L → LinkState) (body : List ℕ) (s : SessionView L C) → IsSome s.request → IsSome s.body.kept → IsSome s.budget
+pub reading_itself : {L C : Type 0} (state : L → LinkState) (body : List ℕ) (s : SessionView L C)
+    → IsSome s.request → IsSome s.body.kept → IsSome s.budget
     → Reading state body body s s
 reading_itself state body s request kept budget = record {
   only = reads_itself state s;
@@ -110,8 +110,10 @@ is_some_mapped f None h = absurd (false≢true h)
 is_some_mapped f (Some x) h = refl
 
 -- one read more
-pub reading_on : {L C : Type 0} (state : L → LinkState) (before now then : List ℕ) (old new next : SessionView L C) → Reading state before now old new
-    → ReadsOnly state new next → ReadsAtOnce state new next → next.settings ≡ new.settings → (now ≡ payload_of new → then ≡ payload_of next)
+pub reading_on : {L C : Type 0} (state : L → LinkState) (before now then : List ℕ)
+    (old new next : SessionView L C) → Reading state before now old new
+    → ReadsOnly state new next → ReadsAtOnce state new next → next.settings ≡ new.settings
+    → (now ≡ payload_of new → then ≡ payload_of next)
     → Reading state before then old next
 reading_on state before now then old new next reading reads free settings body = record {
   only = reads_on state old new next reading.only reading.free reads;
@@ -129,7 +131,8 @@ reading_on state before now then old new next reading reads free settings body =
 }
 
 -- what was gathered goes on with the last read
-pub reading_gathers : {L C : Type 0} (before now then : List ℕ) (old new next : SessionView L C) (stop : Stopped) → (before ≡ payload_of old → now ≡ payload_of new)
+pub reading_gathers : {L C : Type 0} (before now then : List ℕ) (old new next : SessionView L C)
+    (stop : Stopped) → (before ≡ payload_of old → now ≡ payload_of new)
     → Gathers now then new next (Some stop) → Gathers before then old next (Some stop)
 reading_gathers before now then old new next stopped.Whole first second = λ h. second (first h)
 reading_gathers before now then old new next stopped.Refused first second = λ h. second (first h)
@@ -145,24 +148,29 @@ pub coding_is_a_line : line_fault (codes "transfer-encoding") (codes "chunked") 
 coding_is_a_line = rw coding_name_is refl
 
 -- a value that is a number
-pub length_value : (value : List ℕ) (n : ℕ) → value ≡ decimal n → n < 2 ^ 64 → line_fault (codes "content-length") value ≡ None
+pub length_value : (value : List ℕ) (n : ℕ) → value ≡ decimal n → n < 2 ^ 64
+    → line_fault (codes "content-length") value ≡ None
 length_value value n is small = rw is (length_is_a_line n small)
 
 -- a line that was appended
-pub appended : (result : Result (Unit {0}) Error) (old now : ResponseView) (name value wanted : List ℕ) → value ≡ wanted
+pub appended : (result : Result (Unit {0}) Error) (old now : ResponseView)
+    (name value wanted : List ℕ) → value ≡ wanted
     → OnOk result (now ≡ record old { fields = old.fields ++ (name, value) ∷ [] })
     → IfOk result (λ _. now ≡ record old { fields = old.fields ++ (name, wanted) ∷ [] })
 appended (Ok done) old now name value wanted is h = subst (λ v. now ≡ record old { fields = old.fields ++ (name, v) ∷ [] }) is h
 appended (Err error) old now name value wanted is h = tt
 
 -- what the echo application sets leaves it alone how many requests may follow
-set_reuses : (request : Option Request) (old begun : Settings) → IsSome request → IfSome request (λ r. begun ≡ echo_settings r.header old)
+set_reuses : (request : Option Request) (old begun : Settings) → IsSome request
+    → IfSome request (λ r. begun ≡ echo_settings r.header old)
     → begun.reuses ≡ old.reuses
 set_reuses None old begun there set = absurd (false≢true there)
 set_reuses (Some r) old begun there set = ap (λ (s : Settings). s.reuses) set
 
-pub reads_with_settings : {L C : Type 0} (state : L → LinkState) (old begun new : SessionView L C) → begun ≡ record old { settings = begun.settings }
-    → IsSome old.request → IfSome old.request (λ r. begun.settings ≡ echo_settings r.header old.settings)
+pub reads_with_settings : {L C : Type 0} (state : L → LinkState) (old begun new : SessionView L C)
+    → begun ≡ record old { settings = begun.settings }
+    → IsSome old.request
+    → IfSome old.request (λ r. begun.settings ≡ echo_settings r.header old.settings)
     → ReadsOnly state begun new → ReadsOnly state old new
 reads_with_settings state old begun new is there set reads =
     only_settings state old new begun.settings (set_reuses old.request old.settings begun.settings there set)
@@ -173,7 +181,8 @@ how_failed : (body : BodyState) (error : Error) → body.refused ≡ Some error 
 how_failed body error is stands = let never : Failed ≡ Open = rw is at stands in cc
 
 -- the head that the session has is the request's
-header_is : (request : Option Request) (now : Option Request) (head header : RequestView) → now ≡ request → IsSome request
+header_is : (request : Option Request) (now : Option Request) (head header : RequestView)
+    → now ≡ request → IsSome request
     → IfSome request (λ r. r.header ≡ head) → IfSome now (λ r. header ≡ r.header) → header ≡ head
 header_is None now head header same there is has = absurd (false≢true there)
 header_is (Some r) now head header same there is has =
@@ -181,8 +190,10 @@ header_is (Some r) now head header same there is has =
     here ∙ is
 
 -- what is set in the end
-settings_are : (request : Option Request) (head : RequestView) (began old begun : Settings) → IsSome request → IfSome request (λ r. r.header ≡ head)
-    → IfSome request (λ r. begun ≡ echo_settings r.header old) → (old ≡ began) ⊎ (old ≡ echo_settings head began) → begun ≡ echo_settings head began
+settings_are : (request : Option Request) (head : RequestView) (began old begun : Settings)
+    → IsSome request → IfSome request (λ r. r.header ≡ head)
+    → IfSome request (λ r. begun ≡ echo_settings r.header old)
+    → (old ≡ began) ⊎ (old ≡ echo_settings head began) → begun ≡ echo_settings head began
 settings_are None head began old begun there is set from = absurd (false≢true there)
 settings_are (Some r) head began old begun there is set (inl same) = rw (set, is, same) refl
 settings_are (Some r) head began old begun there is set (inr same) = rw (set, is, same) refl
@@ -197,32 +208,44 @@ pub record Gave {L C : Type 0} (state : L → LinkState) (before now : List ℕ)
   pub body : before ≡ payload_of begun → now ≡ payload_of new
 
 -- what the reply depends on
-gave_left : {L C : Type 0} (state : L → LinkState) (before now : List ℕ) (old begun new : SessionView L C) (head : RequestView) (began : Settings)
-    → IsAskedFor head old → EchoRuns before head began old.settings (payload_of old) → Gave state before now old begun new
+gave_left : {L C : Type 0} (state : L → LinkState) (before now : List ℕ)
+    (old begun new : SessionView L C) (head : RequestView) (began : Settings)
+    → IsAskedFor head old → EchoRuns before head began old.settings (payload_of old)
+    → Gave state before now old begun new
     → new.settings ≡ echo_settings head began
 gave_left state before now old begun new head began asked runs gave =
     gave.kept ∙ settings_are old.request head began old.settings begun.settings gave.request asked gave.settings runs.settings
 
-gave_body : {L C : Type 0} (state : L → LinkState) (before now : List ℕ) (old begun new : SessionView L C) (head : RequestView) (began : Settings)
-    → EchoRuns before head began old.settings (payload_of old) → Gave state before now old begun new → now ≡ payload_of new
+gave_body : {L C : Type 0} (state : L → LinkState) (before now : List ℕ)
+    (old begun new : SessionView L C) (head : RequestView) (began : Settings)
+    → EchoRuns before head began old.settings (payload_of old) → Gave state before now old begun new
+    → now ≡ payload_of new
 gave_body {L} {C} state before now old begun new head began runs gave =
     gave.body (runs.body ∙ ap (λ (s : SessionView L C). payload_of s) (sym gave.set))
 
-gave_request : {L C : Type 0} (state : L → LinkState) (before now : List ℕ) (old begun new : SessionView L C) → Gave state before now old begun new → new.request ≡ old.request
+gave_request : {L C : Type 0} (state : L → LinkState) (before now : List ℕ)
+    (old begun new : SessionView L C) → Gave state before now old begun new
+    → new.request ≡ old.request
 gave_request {L} {C} state before now old begun new gave = gave.reads.request ∙ ap (λ (s : SessionView L C). s.request) gave.set
 
 -- an answer that is there, or wants memory
-answers : (given : Given) (reply : Reply) (result : Result Reply Error) → (length reply.body < 2 ^ 63 → EchoGives given reply) → IfOk result (λ r. r ≡ reply)
+answers : (given : Given) (reply : Reply) (result : Result Reply Error)
+    → (length reply.body < 2 ^ 63 → EchoGives given reply) → IfOk result (λ r. r ≡ reply)
     → IfOk result (λ r. length r.body < 2 ^ 63)
-    → IfErr result (λ error. error.kind ≡ NoMemory) → GivesReply EchoGives given (λ error. error.kind ≡ NoMemory) (Ready result)
+    → IfErr result (λ error. error ≡ no_memory)
+    → GivesReply EchoGives given (λ error. error ≡ no_memory) (Ready result)
 answers given reply (Ok r) gives is small err = subst (EchoGives given) (sym is) (gives (subst (λ (r : Reply). length r.body < 2 ^ 63) is small))
 answers given reply (Err error) gives is small err = err
 
-pub gives_whole : {L C : Type 0} (state : L → LinkState) (before now handed : List ℕ) (old begun new : SessionView L C) (head header : RequestView) (began : Settings) (result : Result Reply Error)
-    → IsAskedFor head old → EchoRuns before head began old.settings (payload_of old) → Gave state before now old begun new → (how_of new.body ≡ Whole) × (new.body.refused ≡ None)
-    → IfSome new.request (λ r. header ≡ r.header) → handed ≡ now → IfOk result (λ reply. reply ≡ echo_reply header handed None)
-    → IfOk result (λ reply. length reply.body < 2 ^ 63) → IfErr result (λ error. error.kind ≡ NoMemory)
-    → GivesReply EchoGives (given_by head began new) (λ error. error.kind ≡ NoMemory) (Ready result)
+pub gives_whole : {L C : Type 0} (state : L → LinkState) (before now handed : List ℕ)
+    (old begun new : SessionView L C) (head header : RequestView) (began : Settings)
+    (result : Result Reply Error)
+    → IsAskedFor head old → EchoRuns before head began old.settings (payload_of old)
+    → Gave state before now old begun new → (how_of new.body ≡ Whole) × (new.body.refused ≡ None)
+    → IfSome new.request (λ r. header ≡ r.header) → handed ≡ now
+    → IfOk result (λ reply. reply ≡ echo_reply header handed None)
+    → IfOk result (λ reply. length reply.body < 2 ^ 63) → IfErr result (λ error. error ≡ no_memory)
+    → GivesReply EchoGives (given_by head began new) (λ error. error ≡ no_memory) (Ready result)
 gives_whole state before now handed old begun new head header began result asked runs gave whole has same ok fits err =
     answers (given_by head began new) (echo_reply header handed None) result (λ small. record {
       small = small;
@@ -236,10 +259,13 @@ gives_whole state before now handed old begun new head header began result asked
       ) refl;
     }) ok fits err
 
-pub gives_refused : {L C : Type 0} (state : L → LinkState) (before now : List ℕ) (old begun new : SessionView L C) (head : RequestView) (began : Settings) (result : Result Reply Error)
-    → IsAskedFor head old → EchoRuns before head began old.settings (payload_of old) → Gave state before now old begun new → (error : Error) × (new.body.refused ≡ Some error)
-    → IfOk result (λ reply. reply ≡ refused_reply) → IfErr result (λ error. error.kind ≡ NoMemory)
-    → GivesReply EchoGives (given_by head began new) (λ error. error.kind ≡ NoMemory) (Ready result)
+pub gives_refused : {L C : Type 0} (state : L → LinkState) (before now : List ℕ)
+    (old begun new : SessionView L C) (head : RequestView) (began : Settings)
+    (result : Result Reply Error)
+    → IsAskedFor head old → EchoRuns before head began old.settings (payload_of old)
+    → Gave state before now old begun new → (error : Error) × (new.body.refused ≡ Some error)
+    → IfOk result (λ reply. reply ≡ refused_reply) → IfErr result (λ error. error ≡ no_memory)
+    → GivesReply EchoGives (given_by head began new) (λ error. error ≡ no_memory) (Ready result)
 gives_refused state before now old begun new head began result asked runs gave refused ok err =
     answers (given_by head began new) refused_reply result (λ small. record {
       small = small;
@@ -248,12 +274,14 @@ gives_refused state before now old begun new head began result asked runs gave r
       is = rw refused.1 refl;
     }) ok (empty result ok) err
   where
-    empty : (r : Result Reply Error) → IfOk r (λ reply. reply ≡ refused_reply) → IfOk r (λ reply. length reply.body < 2 ^ 63)
+    empty : (r : Result Reply Error) → IfOk r (λ reply. reply ≡ refused_reply)
+        → IfOk r (λ reply. length reply.body < 2 ^ 63)
     empty (Ok reply) is = rw is (omega arith)
     empty (Err error) is = tt
 
 -- a reply of status 400 with no body
 pub refusal_is : (fresh now : ResponseView) (body : List ℕ) → fresh ≡ new_response 400
-    → now ≡ record fresh { fields = fresh.fields ++ (codes "content-length", decimal 0) ∷ [] } → body ≡ []
+    → now ≡ record fresh { fields = fresh.fields ++ (codes "content-length", decimal 0) ∷ [] }
+    → body ≡ []
     → ◌≡◌ {A = Reply} (record { header = now; body = body }) refused_reply
 refusal_is fresh now body start line none = rw (none, line, start, decimal_digit 0 (omega arith)) refl

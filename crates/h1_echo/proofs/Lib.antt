@@ -1,2 +1,3 @@
 mod EchoLemmas
 pub mod RefusalLemmas
+pub mod Words

@@ -1,16 +1,8 @@
 -- An application that refuses each request at once.
-use Rattle.std.proofs.Common.{◌≡◌, ◌≢◌, IfErr, IfOk, Err, Ok, Result, Some, codes, false, refl, sym, arith}
+use Rattle.std.proofs.Common.{◌≡◌, ◌≢◌, IfErr, IfOk, Err, Ok, Result, Some, codes, refl, sym, arith}
 use Rattle.std.proofs.lemmas.Fmt.{decimal_digit}
-use Rattle.futures.specs.declared.task.Poll.TheVariants.{Ready}
-use Rattle.h1_error.specs.declared.error.Error.{Error}
-use Rattle.h1_error.specs.declared.error.ErrorType.TheVariants.{NoMemory}
-use Rattle.h1_transcript.specs.declared.reply.Reply.{Reply}
-use Rattle.h1_transcript.specs.declared.transcript.How.TheVariants.{Open, Failed}
-use Rattle.h1_head.specs.Faults.{RefusedFor, line_fault}
-use Rattle.h1_transcript.specs.Given.{Given}
-use Rattle.h1_application.specs.Application.{GivesReply}
-use Rattle.h1_transcript.specs.Lawful.{IsLawful}
-use Rattle.h1_echo.specs.Echo.{echo_settings, refused_reply}
+use Rattle.h1_echo.specs.Words.{Ready, Error, no_memory, Reply, Open, Failed, RefusedFor, line_fault, Given, GivesReply, IsLawful}
+use Rattle.h1_echo.proofs.Words.{echo_settings, refused_reply}
 use Rattle.h1_echo.specs.EchoLaw.{echo_lawful}
 use Rattle.h1_echo.proofs.EchoLemmas.{length_value, only_memory}
 
@@ -20,19 +12,22 @@ not_open = λ is. cc
 -- the reply of a refusal is lawful
 pub refused_lawful : (given : Given) (reply : Reply) → reply ≡ refused_reply → IsLawful reply.header
 refused_lawful given reply is =
-    let error : Error = record { kind = NoMemory; retry = false } in
-    let refused : Given = record given { how = Failed; body_error = Some error; left = echo_settings given.head given.began } in
+    let refused : Given = record given { how = Failed; body_error = Some no_memory; left = echo_settings given.head given.began } in
     echo_lawful refused reply (record { read = not_open; left = refl; is = is; small = rw is (omega arith) })
 
 -- the line that states no body is refused only where memory ran out
-pub refusal_memory : (error : Error) → RefusedFor {T = Unit {0}} (line_fault (codes "content-length") (codes "0")) (Err error) → error.kind ≡ NoMemory
+pub refusal_memory : (error : Error)
+    → RefusedFor {T = Unit {0}} (line_fault (codes "content-length") (codes "0")) (Err error)
+    → error ≡ no_memory
 refusal_memory error h =
     let none = length_value (codes "0") 0 (sym (decimal_digit 0 (omega arith))) (omega arith) in
     only_memory (Err error) (codes "content-length") (codes "0") none h
 
 -- it gives its reply, or there is no memory
-pub refusal_gives : (given : Given) (result : Result Reply Error) → IfOk result (λ reply. reply ≡ refused_reply)
-    → IfErr result (λ error. error.kind ≡ NoMemory)
-    → GivesReply (λ given reply. IsLawful reply.header) given (λ error. error.kind ≡ NoMemory) (Ready result)
+pub refusal_gives : (given : Given) (result : Result Reply Error)
+    → IfOk result (λ reply. reply ≡ refused_reply)
+    → IfErr result (λ error. error ≡ no_memory)
+    → GivesReply (λ given reply. IsLawful reply.header) given (λ error. error ≡ no_memory)
+    (Ready result)
 refusal_gives given (Ok reply) is memory = refused_lawful given reply is
 refusal_gives given (Err error) is memory = memory

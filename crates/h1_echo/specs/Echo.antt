@@ -1,14 +1,8 @@
 -- What the echo application replies.
 use Rattle.std.specs.Prelude.{◌≡◌, ◌≢◌, ℕ, ◌+◌, ◌^◌, ◌<◌, List, [], ◌∷◌, ◌++◌, length, not, Option, Some, None, codes, bytes_eq, if◌then◌else◌}
 use Rattle.std.specs.Fmt.{decimal}
-use Rattle.h1_error.specs.declared.error.Error.{Error}
+use Rattle.h1_echo.specs.Words.{Error, RequestView, new_response, Settings, Reply, Open, Given}
 use Rattle.h1_fields.specs.Lines.{Line}
-use Rattle.h1_head.specs.Views.{RequestView}
-use Rattle.h1_head.specs.Response.{new_response}
-use Rattle.h1_server.specs.declared.settings.Settings.{Settings}
-use Rattle.h1_transcript.specs.declared.reply.Reply.{Reply}
-use Rattle.h1_transcript.specs.declared.transcript.How.TheVariants.{Open}
-use Rattle.h1_transcript.specs.Given.{Given}
 
 -- the body of an echo: the method, the target and the request's body
 abbrev pub echo_body : RequestView → List ℕ → List ℕ
@@ -24,17 +18,28 @@ echo_fields target count =
 
 -- the reply to a request whose body can't be read on
 abbrev pub refused_reply : Reply
-refused_reply = record { header = record (new_response 400) { fields = (codes "content-length", codes "0") ∷ [] }; body = [] }
+refused_reply =
+    record {
+      header = record (new_response 400)
+          { fields = (codes "content-length", codes "0") ∷ [] };
+      body = [];
+    }
 
 -- the reply to a request that was read, and to one whose body can't be read on
 abbrev pub echo_reply : RequestView → List ℕ → Option Error → Reply
 echo_reply head handed None =
-    record { header = record (new_response 200) { fields = echo_fields head.target (length (echo_body head handed)) }; body = echo_body head handed }
+    record {
+      header = record (new_response 200)
+          { fields = echo_fields head.target (length (echo_body head handed)) };
+      body =
+          echo_body head handed;
+    }
 echo_reply head handed (Some error) = refused_reply
 
 -- pipelining is on but for one target
 abbrev pub echo_settings : RequestView → Settings → Settings
-echo_settings head began = record began { pipelining = not (bytes_eq head.target (codes "/nopipe")) }
+echo_settings head began =
+    record began { pipelining = not (bytes_eq head.target (codes "/nopipe")) }
 
 -- the replies of the echo application: it reads the body to its end or to its error
 pub record EchoGives (given : Given) (reply : Reply) : Type 0 where

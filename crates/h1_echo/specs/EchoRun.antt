@@ -1,34 +1,28 @@
 -- How the echo application reads a body.
 use Rattle.std.specs.Prelude.{◌≡◌, ◌<◌, ◌^◌, ◌⊎◌, ℕ, List, length, true, Option, Some, None, IsSome}
-use Rattle.h1_error.specs.declared.error.Error.{Error}
-use Rattle.h1_error.specs.declared.error.ErrorType.{ErrorType}
-use Rattle.h1_error.specs.declared.error.ErrorType.TheVariants.{NoMemory}
-use Rattle.h1_link.specs.LinkState.{LinkState}
-use Rattle.h1_head.specs.Views.{RequestView}
-use Rattle.h1_server.specs.SessionView.{SessionView}
-use Rattle.h1_server.specs.declared.settings.Settings.{Settings}
-use Rattle.h1_echo.specs.declared.echo.Stopped.{Stopped}
+use Rattle.h1_echo.specs.Words.{Error, ErrorType, NoMemory, no_memory, LinkState, RequestView, SessionView, Settings, Stopped, Whole, ReadsOnly, how_of, payload_of, ReadsAtOnce}
 use Rattle.h1_echo.specs.declared.echo.Stopped.TheVariants as stopped
-use Rattle.h1_transcript.specs.declared.transcript.How.TheVariants.{Whole}
-use Rattle.h1_application.specs.Application.{ReadsOnly, how_of, payload_of, ReadsAtOnce}
 use Rattle.h1_echo.specs.Echo.{echo_settings}
 
 -- What was gathered is the payload that was handed out, and the settings are those of the start, or
 -- those that the target sets.
-pub record EchoRuns (gathered : List ℕ) (head : RequestView) (began now : Settings) (payload : List ℕ) : Type 0 where
+pub record EchoRuns (gathered : List ℕ) (head : RequestView) (began now : Settings)
+    (payload : List ℕ) : Type 0 where
   pub body : gathered ≡ payload
   pub settings : (now ≡ began) ⊎ (now ≡ echo_settings head began)
 
 -- why the reading stopped, or that it goes on
-abbrev pub StopCause : {L C : Type 0} → (L → LinkState) → SessionView L C → SessionView L C → Option Stopped → Type 0
+abbrev pub StopCause : {L C : Type 0} → (L → LinkState) → SessionView L C → SessionView L C
+    → Option Stopped → Type 0
 StopCause state old new None = ReadsAtOnce state old new
 StopCause state old new (Some stopped.Whole) = (how_of new.body ≡ Whole) × (new.body.refused ≡ None)
 StopCause state old new (Some stopped.Refused) = (error : Error) × (new.body.refused ≡ Some error)
 StopCause state old new (Some stopped.Waits) = new.body.waits ≡ true
-StopCause state old new (Some (stopped.Failed error)) = error.kind ≡ NoMemory
+StopCause state old new (Some (stopped.Failed error)) = error ≡ no_memory
 
 -- what was gathered stays all that was read, unless there was no memory for it
-abbrev pub Gathers : {L C : Type 0} → List ℕ → List ℕ → SessionView L C → SessionView L C → Option Stopped → Type 0
+abbrev pub Gathers : {L C : Type 0} → List ℕ → List ℕ → SessionView L C → SessionView L C
+    → Option Stopped → Type 0
 Gathers before now old new (Some (stopped.Failed error)) = Unit {0}
 Gathers before now old new _ = before ≡ payload_of old → now ≡ payload_of new
 
@@ -38,12 +32,13 @@ IsLonger before now (Some stopped) = Unit {0}
 IsLonger before now None = (length before < length now) × (length now < 2 ^ 64)
 
 -- an error of a read is being out of memory, or the body's
-abbrev pub IsStopOf : Error → ErrorType → Stopped → Type 0
-IsStopOf error NoMemory stop = stop ≡ stopped.Failed error
-IsStopOf error _ stop = stop ≡ stopped.Refused
+abbrev pub IsStopOf : ErrorType → Stopped → Type 0
+IsStopOf NoMemory stop = stop ≡ stopped.Failed no_memory
+IsStopOf _ stop = stop ≡ stopped.Refused
 
 -- the reading so far: no read was pending or refused, and what was read is gathered
-pub record Reading {L C : Type 0} (state : L → LinkState) (before now : List ℕ) (old new : SessionView L C) : Type 0 where
+pub record Reading {L C : Type 0} (state : L → LinkState) (before now : List ℕ)
+    (old new : SessionView L C) : Type 0 where
   pub only : ReadsOnly state old new
   pub free : ReadsAtOnce state old new
   pub settings : new.settings ≡ old.settings

@@ -1,3 +1,4 @@
 pub mod Echo
 pub mod EchoRun
 pub mod EchoLaw
+pub mod Words

@@ -1,6 +1,6 @@
 //! An application that replies with what it was asked.
 ghost use Rattle.std.specs.Prelude.{◌≡◌, ◌<◌, ◌^◌, ◌++◌, ◌∷◌, [], length, codes, decimal, IsSome, IfSome, IfOk, IfErr, Some, None};
-ghost use Rattle.h1_error.specs.declared.error.ErrorType.TheVariants.{NoMemory};
+ghost use Rattle.h1_error.specs.Memory.{no_memory};
 ghost use Rattle.h1_application.specs.Application.{ReadsOnly, payload_of};
 ghost use Rattle.h1_echo.specs.Echo.{EchoGives, echo_body, echo_fields, echo_reply, refused_reply, echo_settings};
 ghost use Rattle.h1_echo.specs.EchoRun.{EchoRuns, StopCause, Gathers, IsLonger, IsStopOf};
@@ -84,7 +84,8 @@ pub(crate) enum Stopped {
 /// Lets bytes after the request begin the next one, unless the target says otherwise.
 fn set_pipelining<L: Link + Drop, C: Drop>(http: &mut HttpSession<L, C>)
     requires { IsSome http.old.request }
-    ensures settings { IfSome http.old.request (λ request. http.new.settings ≡ echo_settings request.header http.old.settings) }
+    ensures settings { IfSome http.old.request
+        (λ request. http.new.settings ≡ echo_settings request.header http.old.settings) }
     ensures rest { http.new ≡ record http.old { settings = http.new.settings } }
 {
     let enabled = http.req_header().raw_path() != b"/nopipe".as_slice();
@@ -143,18 +144,19 @@ fn read_piece<L: Link + Drop, C: Drop>(
 
 /// Whether an error of a read is being out of memory, or the body's.
 fn stop_of(error: Error) -> Stopped
-    ensures { IsStopOf error error.kind result }
+    ensures { IsStopOf error.kind result }
 {
     match error.kind {
-        ErrorType::NoMemory => Stopped::Failed(error),
+        ErrorType::NoMemory => Stopped::Failed(Error::from(ErrorType::NoMemory)),
         _ => Stopped::Refused,
     }
 }
 
 /// Adds a piece, and says how many bytes there are then.
 fn gather(body: &mut BodyBytes, piece: &[u8]) -> Result<usize, Error>
-    ensures ok { IfOk result (λ count. (body.new ≡ body.old ++ piece.now) × (count ≡ length body.new)) }
-    ensures err { IfErr result (λ error. error.kind ≡ NoMemory) }
+    ensures ok { IfOk result (λ count. (body.new ≡ body.old ++ piece.now)
+        × (count ≡ length body.new)) }
+    ensures err { IfErr result (λ error. error ≡ no_memory) }
 {
     body.append(piece)?;
     Ok(body.len())
@@ -164,7 +166,7 @@ fn gather(body: &mut BodyBytes, piece: &[u8]) -> Result<usize, Error>
 fn reply_to(alloc: Global, header: &RequestHeader, handed: &[u8]) -> Result<Reply, Error>
     ensures ok { IfOk result (λ reply. reply ≡ echo_reply header.now handed.now None) }
     ensures small { IfOk result (λ reply. length reply.body < 2 ^ 63) }
-    ensures err { IfErr result (λ error. error.kind ≡ NoMemory) }
+    ensures err { IfErr result (λ error. error ≡ no_memory) }
 {
     let body = body_of(alloc, header, handed)?;
     let mut head = ResponseHeader::build(alloc, 200, Some(1))?;
@@ -175,7 +177,7 @@ fn reply_to(alloc: Global, header: &RequestHeader, handed: &[u8]) -> Result<Repl
 /// The body of the reply: the method, the target and the request's body.
 fn body_of(alloc: Global, header: &RequestHeader, handed: &[u8]) -> Result<BodyBytes, Error>
     ensures ok { IfOk result (λ body. body ≡ echo_body header.now handed.now) }
-    ensures err { IfErr result (λ error. error.kind ≡ NoMemory) }
+    ensures err { IfErr result (λ error. error ≡ no_memory) }
 {
     let mut body = BodyBytes::from_slice(alloc, header.method().as_str().as_bytes())?;
     body.append(b" ")?;
@@ -194,8 +196,9 @@ fn state_length(
 ) -> Result<(), Error>
     requires fresh { head.old.fields ≡ [] }
     requires count { count < 2 ^ 63 }
-    ensures ok { IfOk result (λ _. head.new ≡ record head.old { fields = echo_fields target.now count }) }
-    ensures err { IfErr result (λ error. error.kind ≡ NoMemory) }
+    ensures ok { IfOk result
+        (λ _. head.new ≡ record head.old { fields = echo_fields target.now count }) }
+    ensures err { IfErr result (λ error. error ≡ no_memory) }
 {
     if target == b"/until".as_slice() {
         Ok(())
@@ -210,8 +213,11 @@ fn state_length(
 
 /// Adds the field that states this length.
 fn add_length(alloc: Global, head: &mut ResponseHeader, length: u64) -> Result<(), Error>
-    ensures ok { IfOk result (λ _. head.new ≡ record head.old { fields = head.old.fields ++ (codes "content-length", decimal length) ∷ [] }) }
-    ensures err { IfErr result (λ error. error.kind ≡ NoMemory) }
+    ensures ok { IfOk result
+        (λ _. head.new
+        ≡ record head.old
+        { fields = head.old.fields ++ (codes "content-length", decimal length) ∷ [] }) }
+    ensures err { IfErr result (λ error. error ≡ no_memory) }
 {
     let text = length.to_string(alloc)?;
     head.append_header(b"content-length", text.as_bytes())
@@ -220,7 +226,7 @@ fn add_length(alloc: Global, head: &mut ResponseHeader, length: u64) -> Result<(
 /// The reply to a request whose body can't be read on.
 fn refusal(alloc: Global) -> Result<Reply, Error>
     ensures ok { IfOk result (λ reply. reply ≡ refused_reply) }
-    ensures err { IfErr result (λ error. error.kind ≡ NoMemory) }
+    ensures err { IfErr result (λ error. error ≡ no_memory) }
 {
     let mut header = ResponseHeader::build(alloc, 400, Some(1))?;
     add_length(alloc, &mut header, 0)?;

@@ -1,10 +1,10 @@
 -- The greeting can be made, and each reply of a transcript that agrees is the greeting.
-use Rattle.std.proofs.Common.{◌≡◌, List, [], ◌∷◌, codes, Option, Some, None, IfSome, Result, Ok, Err, IfOk, IfErr, refl, ap, subst, true}
+use Rattle.std.proofs.Common.{◌≡◌, List, [], ◌∷◌, codes, Option, Some, None, IfSome, Result, Ok, Err, IfOk, IfErr, refl, subst, true}
 use Rattle.std.specs.List.{All, AllByRecursion}
 use Rattle.std.proofs.lemmas.List.Elements.{All-from_recursion}
 use Rattle.httparse.specs.Grammar.{is_token, is_token_byte}
 use Rattle.h1_error.specs.declared.error.Error.{Error}
-use Rattle.h1_error.specs.declared.error.ErrorType.TheVariants.{NoMemory}
+use Rattle.h1_error.specs.Memory.{no_memory}
 use Rattle.h1_head.specs.Faults.{line_fault, RefusedFor}
 use Rattle.h1_transcript.specs.declared.reply.Reply.{Reply}
 use Rattle.h1_transcript.specs.declared.transcript.Entry.{Entry}
@@ -24,9 +24,9 @@ name_is = refl
 pub is_a_line : line_fault (codes "content-length") (codes "6") ≡ None
 is_a_line = rw name_is refl
 
-pub only_memory : (error : Error) → RefusedFor {T = Unit {0}} (line_fault (codes "content-length") (codes "6")) (Err error) → error.kind ≡ NoMemory
+pub only_memory : (error : Error) → RefusedFor {T = Unit {0}} (line_fault (codes "content-length") (codes "6")) (Err error) → error ≡ no_memory
 only_memory error h =
-    ap (λ (e : Error). e.kind) (subst (λ fault. RefusedFor {T = Unit {0}} fault (Err error)) is_a_line h)
+    subst (λ fault. RefusedFor {T = Unit {0}} fault (Err error)) is_a_line h
 
 -- each reply of these exchanges is the greeting
 pub all_greeted : (entries : List Entry) → AllByRecursion (IsAllowed Greeting) entries
@@ -44,8 +44,8 @@ all_greeted entries allowed = All-from_recursion _ entries (each entries allowed
 -- a job greets, or there is no memory
 pub greets : {L C : Type 0} (old new : SessionView L C) (head : RequestView) (began : Settings) (result : Result Reply Error)
     → new ≡ record old { settings = record old.settings { pipelining = true } } → (old.settings ≡ began) × (payload_of old ≡ [])
-    → IfOk result (λ reply. reply ≡ greeting) → IfErr result (λ error. error.kind ≡ NoMemory)
-    → GivesReply Greeting (given_by head began new) (λ error. error.kind ≡ NoMemory) (Ready result)
+    → IfOk result (λ reply. reply ≡ greeting) → IfErr result (λ error. error ≡ no_memory)
+    → GivesReply Greeting (given_by head began new) (λ error. error ≡ no_memory) (Ready result)
 greets old new head began (Ok reply) set runs is memory = record {
   is = is;
   handed = rw set runs.1;

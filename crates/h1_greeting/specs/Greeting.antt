@@ -5,7 +5,12 @@ use Rattle.h1_transcript.specs.declared.reply.Reply.{Reply}
 use Rattle.h1_transcript.specs.Given.{Given}
 
 abbrev pub greeting : Reply
-greeting = record { header = record (new_response 200) { fields = (codes "content-length", codes "6") ∷ [] }; body = codes "hello\n" }
+greeting =
+    record {
+      header = record (new_response 200)
+          { fields = (codes "content-length", codes "6") ∷ [] };
+      body = codes "hello\n";
+    }
 
 -- every request is greeted, of its body nothing is read, and pipelining is on from then
 pub record Greeting (given : Given) (reply : Reply) : Type 0 where

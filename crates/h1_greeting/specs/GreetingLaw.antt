@@ -24,7 +24,9 @@ counted = record {
   value = codes "6";
   number = 6;
   one = rw length_name refl;
-  reads = subst (λ (value : List ℕ). content_length ((codes "content-length", value) ∷ []) ≡ Number 6) (decimal_digit 6 (omega arith)) (length_line 6 (omega arith));
+  reads = subst
+      (λ (value : List ℕ). content_length ((codes "content-length", value) ∷ []) ≡ Number 6)
+      (decimal_digit 6 (omega arith)) (length_line 6 (omega arith));
   alone = rw coding_name refl;
 }
 

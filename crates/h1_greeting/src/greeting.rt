@@ -1,7 +1,7 @@
 //! The application that greets, and a caller that has it serve given bytes.
 ghost use Rattle.std.specs.Prelude.{◌≡◌, [], IfOk, IfErr, IfSome, None, Some, take};
 ghost use Rattle.std.specs.List.{All};
-ghost use Rattle.h1_error.specs.declared.error.ErrorType.TheVariants.{NoMemory};
+ghost use Rattle.h1_error.specs.Memory.{no_memory};
 ghost use Rattle.h1_link.specs.MemState.{new_mem_state};
 ghost use Rattle.h1_transcript.specs.Agrees.{Agrees};
 ghost use Rattle.h1_app.specs.View.{entries};
@@ -60,7 +60,7 @@ impl<L: Link + Drop, C: Drop> ServeHttp<L, C> for Greets {
 #[tactic(auto, using(crate::proofs::GreetingLemmas::only_memory))]
 fn greeting(alloc: Global) -> Result<Reply, Error>
     ensures ok { IfOk result (λ reply. reply ≡ greeting) }
-    ensures err { IfErr result (λ error. error.kind ≡ NoMemory) }
+    ensures err { IfErr result (λ error. error ≡ no_memory) }
 {
     let body = BodyBytes::from_slice(alloc, b"hello\n")?;
     let mut header = ResponseHeader::build(alloc, 200, Some(1))?;
@@ -72,13 +72,20 @@ fn greeting(alloc: Global) -> Result<Reply, Error>
 /// [`MOST_POLLS`] times.
 pub fn greet(alloc: Global, given: &[u8]) -> Result<Greeted, Error>
     // The peer's bytes, or the first of them, are what the link gave.
-    ensures given { IfOk result (λ served. served.session.link.state.given ≡ Some (take served.session.link.state.bytes_in given.now)) }
-    ensures agrees { IfOk result (λ served. Agrees Greeting None new_mem_state.state served.session.link.state (entries served)) }
-    ensures greeted { IfOk result (λ served. All (λ exchange. IfSome exchange.reply (λ reply. reply ≡ greeting)) (entries served)) }
+    ensures given { IfOk result
+        (λ served. served.session.link.state.given
+        ≡ Some (take served.session.link.state.bytes_in given.now)) }
+    ensures agrees { IfOk result
+        (λ served. Agrees Greeting None new_mem_state.state served.session.link.state
+        (entries served)) }
+    ensures greeted { IfOk result
+        (λ served. All (λ exchange. IfSome exchange.reply (λ reply. reply ≡ greeting))
+        (entries served)) }
     // It ended, or each of its polls moved bytes in 64 calls: no poll waited for the link or for the
     // application.
-    ensures polled { IfOk result (λ served. Polled MOST_POLLS served.end served.session.link.state) }
-    ensures err { IfErr result (λ error. error.kind ≡ NoMemory) }
+    ensures polled { IfOk result
+        (λ served. Polled MOST_POLLS served.end served.session.link.state) }
+    ensures err { IfErr result (λ error. error ≡ no_memory) }
 {
     let mut link = MemLink::new(alloc);
     link.give(given)?;

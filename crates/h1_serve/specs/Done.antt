@@ -9,7 +9,8 @@ use Rattle.h1_serve.specs.Report.{Obeys}
 use Rattle.h1_serve.specs.Running.{IsRunning}
 
 -- the line is obeyed, adds this text, and the connection goes on
-pub record ObeysOnce (place : Place) (old : Scripted) (asked : Command) (text : List ℕ) (new : Scripted) (behind : List ℕ) : Type 0 where
+pub record ObeysOnce (place : Place) (old : Scripted) (asked : Command) (text : List ℕ)
+    (new : Scripted) (behind : List ℕ) : Type 0 where
   pub line : List ℕ
   pub text_is : behind ≡ text ++ line
   pub obeys : Obeys (state_of old) asked line (state_of new)

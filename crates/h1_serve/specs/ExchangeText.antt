@@ -14,7 +14,8 @@ version_text version = if is_http_10 version then codes "HTTP/1.0" else codes "H
 -- request METHOD TARGET VERSION
 abbrev pub request_line : RequestView → List ℕ
 request_line head =
-    codes "request " ++ head.method ++ codes " " ++ head.target ++ codes " " ++ version_text head.version ++ (10 ∷ [])
+    codes "request " ++ head.method ++ codes " " ++ head.target ++ codes " "
+    ++ version_text head.version ++ (10 ∷ [])
 
 -- field NAME: VALUE
 abbrev pub field_line : Line → List ℕ

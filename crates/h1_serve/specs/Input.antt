@@ -23,7 +23,8 @@ pub record ReadsScript (before now : SourceState) (script : List ℕ) : Type 0 w
 -- one read, of at most so many bytes, that didn't fail
 abbrev pub ReadsPiece : SourceState → SourceState → List ℕ → List ℕ → ℕ → Piece → Type 0
 ReadsPiece before now front bytes most piece.More =
-    (more : List ℕ) × (bytes ≡ front ++ more) × Gave before now more × (0 < length more) × (length more ≤ most)
+    (more : List ℕ) × (bytes ≡ front ++ more) × Gave before now more × (0 < length more)
+    × (length more ≤ most)
 ReadsPiece before now front bytes most piece.End =
     (bytes ≡ front) × Gave before now [] × (now.ended ≡ true)
 

@@ -19,6 +19,7 @@ use Rattle.h1_transcript.specs.Told.{ToldGrowth}
 use Rattle.h1_echo.specs.Echo.{EchoGives}
 use Rattle.h1_transcript.specs.Entries.{replies}
 use Rattle.h1_serve.specs.State.{State, new_link, transcript}
+use Rattle.h1_transfer.specs.declared.budget.TheConstants.{CALL_BUDGET}
 
 -- no call of the link failed, and no write or flush was not ready
 pub record NothingFailed (link : LinkState) : Type 0 where
@@ -32,8 +33,8 @@ PendsFor s t waiting.Read = Rose s.link.read_waits t.link.read_waits
     × LacksSo new_link t.link t.done t.last
 PendsFor s t waiting.Write = ⊥
 PendsFor s t waiting.App = ⊥
-PendsFor s t waiting.Budget = RoseBy 64 s.link.moves t.link.moves
-    × ToldGrowth s.link.given t.link.given s.link.written t.link.written 64
+PendsFor s t waiting.Budget = RoseBy CALL_BUDGET s.link.moves t.link.moves
+    × ToldGrowth s.link.given t.link.given s.link.written t.link.written CALL_BUDGET
 
 -- a connection that ended where memory ran out is not reported
 abbrev pub HasMemory : End → Type 0
@@ -70,9 +71,10 @@ pub record Polls (moment : ℕ) (s : State) (answer : Progress) (t : State) : Ty
   -- a read was not ready only where all that was put ahead was given, and no end was said
   pub waits : s.link.read_waits < t.link.read_waits → (t.link.given ≡ Some t.put) × (t.said ≡ false)
   pub faultless : NothingFailed t.link
-  pub moves : t.link.moves ≤ s.link.moves + 64
+  pub moves : t.link.moves ≤ s.link.moves + CALL_BUDGET
   -- at most one read was not ready for each reply that was made, and one more
-  pub reads_not_ready : t.link.read_waits + replies (transcript s) ≤ s.link.read_waits + replies (transcript t) + 1
+  pub reads_not_ready : t.link.read_waits + replies (transcript s)
+      ≤ s.link.read_waits + replies (transcript t) + 1
   -- after an end nothing more comes
   pub again : IfSome s.end (λ reason. (answer ≡ progress.Ready reason) × (t ≡ s))
   pub cause : IfNone s.end (AnswerCause s t answer)

@@ -21,7 +21,8 @@ Obeys s (command.Poll moment) text t =
 abbrev pub Lines : State → List Command → List ℕ → State → Type 0
 Lines s [] text t = (text ≡ []) × (t ≡ s)
 Lines s (c ∷ more) text t =
-    (line : List ℕ) × (next : State) × (rest : List ℕ) × (text ≡ line ++ rest) × Obeys s c line next × Lines next more rest t
+    (line : List ℕ) × (next : State) × (rest : List ℕ) × (text ≡ line ++ rest) × Obeys s c line next
+    × Lines next more rest t
 
 -- the limit that the commands set, before the first poll
 abbrev pub limit_in : List Command → Option ℕ

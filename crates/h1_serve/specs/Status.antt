@@ -15,7 +15,8 @@ use Rattle.h1_serve.specs.Output.{Wrote, usage_line, fault_line}
 use Rattle.h1_serve.specs.Report.{Report}
 
 -- The source was read to its end, and the sink took a report of what it gave and flushed it.
-pub record Reported (source_before source_now : SourceState) (sink_before sink_now : SinkState) : Type 0 where
+pub record Reported (source_before source_now : SourceState)
+    (sink_before sink_now : SinkState) : Type 0 where
   pub script : List ℕ
   pub text : List ℕ
   pub gave : Gave source_before source_now script
@@ -25,7 +26,8 @@ pub record Reported (source_before source_now : SourceState) (sink_before sink_n
 
 -- A line of the script is outside of the grammar, or it is too long; the sink took the line's number
 -- and no other text, and flushed it.
-pub record Refused (source_before source_now : SourceState) (sink_before sink_now : SinkState) : Type 0 where
+pub record Refused (source_before source_now : SourceState)
+    (sink_before sink_now : SinkState) : Type 0 where
   pub script : List ℕ
   pub number : ℕ
   pub read : ReadsScript source_before source_now script
@@ -44,14 +46,16 @@ ScriptCause source source' sink sink' status.Memory = Unit {0}
 -- the cause of each status where the words are no task
 abbrev pub WordsCause : SourceState → SourceState → SinkState → SinkState → Status → Type 0
 WordsCause source source' sink sink' status.Words = (source' ≡ source) × Wrote sink sink' usage_line
-WordsCause source source' sink sink' status.Sink = (source' ≡ source) × Rose sink.faults sink'.faults
+WordsCause source source' sink sink' status.Sink =
+    (source' ≡ source) × Rose sink.faults sink'.faults
 WordsCause source source' sink sink' status.Memory = source' ≡ source
 WordsCause source source' sink sink' status.Done = ⊥
 WordsCause source source' sink sink' status.Script = ⊥
 WordsCause source source' sink sink' status.Source = ⊥
 
 -- the cause of each status, by what the words ask for
-abbrev pub CauseBy : Option Task → SourceState → SourceState → SinkState → SinkState → Status → Type 0
+abbrev pub CauseBy : Option Task → SourceState → SourceState → SinkState → SinkState → Status
+    → Type 0
 CauseBy None = WordsCause
 CauseBy (Some task.Script) = ScriptCause
 

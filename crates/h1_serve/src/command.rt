@@ -37,7 +37,8 @@ pub fn run<
     _net: &mut A,
     _clock: &mut T,
 ) -> u8
-    ensures status { Ends (task_of (map string_bytes words.now)) (S.state source.old) (S.state source.new) (K.state sink.old) (K.state sink.new) result }
+    ensures status { Ends (task_of (map string_bytes words.now)) (S.state source.old)
+        (S.state source.new) (K.state sink.old) (K.state sink.new) result }
 
     // This task uses neither the network nor the clock.
     ensures net { A.state _net.new ≡ A.state _net.old }
@@ -65,7 +66,8 @@ fn perform<S: Source, K: Sink>(
     source: &mut S,
     sink: &mut K,
 ) -> Status
-    ensures { CauseBy (task_of (map string_bytes words.now)) (S.state source.old) (S.state source.new) (K.state sink.old) (K.state sink.new) result }
+    ensures { CauseBy (task_of (map string_bytes words.now)) (S.state source.old)
+        (S.state source.new) (K.state sink.old) (K.state sink.new) result }
 {
     match parse_words(words) {
         Some(Task::Script) => run_script(alloc, source, sink),
@@ -75,7 +77,8 @@ fn perform<S: Source, K: Sink>(
 
 /// Reads a script and judges it, runs it and reports.
 fn run_script<S: Source, K: Sink>(alloc: Global, source: &mut S, sink: &mut K) -> Status
-    ensures { ScriptCause (S.state source.old) (S.state source.new) (K.state sink.old) (K.state sink.new) result }
+    ensures { ScriptCause (S.state source.old) (S.state source.new) (K.state sink.old)
+        (K.state sink.new) result }
 {
     let bytes = match read_script(alloc, source) {
         Ok(bytes) => bytes,

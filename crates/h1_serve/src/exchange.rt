@@ -17,7 +17,8 @@ pub(crate) fn push_exchanges(
     transcript: &Transcript,
     text: &mut Text,
 ) -> Result<(), Error>
-    ensures { OnOk result (text.new ≡ text.old ++ exchanges_lines (transcript_entries transcript.now)) }
+    ensures { OnOk result
+        (text.new ≡ text.old ++ exchanges_lines (transcript_entries transcript.now)) }
 {
     for i in 0..transcript.len() {
         if let Some(entry) = transcript.get(i) {

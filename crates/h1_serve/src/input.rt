@@ -25,7 +25,8 @@ pub(crate) enum Piece {
 
 /// The bytes of a source, to its end or to the first byte beyond the limit of a script.
 pub(crate) fn read_script<S: Source>(alloc: Global, source: &mut S) -> Result<Vec<u8>, InputFault>
-    ensures ok { IfOk result (λ bytes. ReadsScript (S.state source.old) (S.state source.new) bytes.items) }
+    ensures ok { IfOk result
+        (λ bytes. ReadsScript (S.state source.old) (S.state source.new) bytes.items) }
     ensures err { IfErr result (InputCause (S.state source.old) (S.state source.new)) }
 {
     let mut bytes = Vec::new(alloc);
@@ -47,7 +48,9 @@ fn read_piece<S: Source>(
     bytes: &mut Vec<u8>,
 ) -> Result<Piece, InputFault>
     requires { 0 < length buffer.old }
-    ensures ok { IfOk result (λ piece. ReadsPiece (S.state source.old) (S.state source.new) bytes.old.items bytes.new.items (length buffer.old) piece) }
+    ensures ok { IfOk result
+        (λ piece. ReadsPiece (S.state source.old)
+        (S.state source.new) bytes.old.items bytes.new.items (length buffer.old) piece) }
     ensures err { IfErr result (InputCause (S.state source.old) (S.state source.new)) }
 {
     match source.read(buffer) {

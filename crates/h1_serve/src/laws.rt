@@ -35,12 +35,14 @@ pub fn statuses_have_causes()
     ensures no_task { (source source' : SourceState) (sink sink' : SinkState) (number : ℕ)
         → Ends None source source' sink sink' number
         → (number ≡ 2) ⊎ ((number ≡ 5) × Rose sink.faults sink'.faults) ⊎ (number ≡ 6) }
-    ensures faulty { (source source' : SourceState) (sink sink' : SinkState) (number line : ℕ) (script : List ℕ)
+    ensures faulty { (source source' : SourceState) (sink sink' : SinkState) (number line : ℕ)
+        (script : List ℕ)
         → GaveScript source source' script → script_of script ≡ faulty_at line
         → Ends (Some task.Script) source source' sink sink' number
         → (number ≡ 3) ⊎ ((number ≡ 4) × Rose source.faults source'.faults)
         ⊎ ((number ≡ 5) × Rose sink.faults sink'.faults) ⊎ (number ≡ 6) }
-    ensures lawful { (source source' : SourceState) (sink sink' : SinkState) (number : ℕ) (script : List ℕ) (asked : List Command)
+    ensures lawful { (source source' : SourceState) (sink sink' : SinkState) (number : ℕ)
+        (script : List ℕ) (asked : List Command)
         → GaveScript source source' script → script_of script ≡ commands asked
         → Ends (Some task.Script) source source' sink sink' number
         → (number ≡ 0) ⊎ ((number ≡ 4) × Rose source.faults source'.faults)

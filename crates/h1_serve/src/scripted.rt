@@ -100,7 +100,8 @@ fn obey(
     text: &mut Text,
 ) -> Result<(), Error>
     requires { IsInTime command.now }
-    ensures { OnOk result ((place : Place) → MayStand place command.now → IsRunning place scripted.old.connection
+    ensures { OnOk result ((place : Place) → MayStand place command.now
+        → IsRunning place scripted.old.connection
         → ObeysOnce place scripted.old command.now text.old scripted.new text.new) }
 {
     match command {
@@ -120,17 +121,37 @@ fn obey(
 }
 
 fn give(connection: &mut Served, bytes: &[u8]) -> Result<(), Error>
-    ensures link { OnOk result (connection.new.session.link ≡ record connection.old.session.link { put = connection.old.session.link.put ++ bytes.now; reads_noted = connection.old.session.link.state.read_waits }) }
-    ensures rest { connection.new ≡ record connection.old { session = record connection.old.session { link = connection.new.session.link } } }
-    ensures accounted { (before : LinkState) → Accounted link_state before connection.old.session connection.old.done connection.old.last → Accounted link_state before connection.new.session connection.new.done connection.new.last }
+    ensures link { OnOk result
+        (connection.new.session.link
+        ≡ record connection.old.session.link {
+          put = connection.old.session.link.put ++ bytes.now;
+          reads_noted = connection.old.session.link.state.read_waits;
+        }) }
+    ensures rest { connection.new
+        ≡ record connection.old
+        { session = record connection.old.session { link = connection.new.session.link } } }
+    ensures accounted { (before : LinkState)
+        → Accounted link_state before connection.old.session connection.old.done connection.old.last
+        → Accounted link_state before connection.new.session connection.new.done
+        connection.new.last }
 {
     connection.with_link(|link| link.give(bytes))
 }
 
 fn say_end(connection: &mut Served)
-    ensures link { connection.new.session.link ≡ record connection.old.session.link { end_at = Some (unwrap_or connection.old.session.link.end_at (length connection.old.session.link.put)); reads_noted = connection.old.session.link.state.read_waits } }
-    ensures rest { connection.new ≡ record connection.old { session = record connection.old.session { link = connection.new.session.link } } }
-    ensures accounted { (before : LinkState) → Accounted link_state before connection.old.session connection.old.done connection.old.last → Accounted link_state before connection.new.session connection.new.done connection.new.last }
+    ensures link { connection.new.session.link
+        ≡ record connection.old.session.link {
+          end_at = Some
+              (unwrap_or connection.old.session.link.end_at (length connection.old.session.link.put));
+          reads_noted = connection.old.session.link.state.read_waits;
+        } }
+    ensures rest { connection.new
+        ≡ record connection.old
+        { session = record connection.old.session { link = connection.new.session.link } } }
+    ensures accounted { (before : LinkState)
+        → Accounted link_state before connection.old.session connection.old.done connection.old.last
+        → Accounted link_state before connection.new.session connection.new.done
+        connection.new.last }
 {
     connection.with_link(|link| link.end())
 }

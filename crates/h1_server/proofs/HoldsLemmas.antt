@@ -1,16 +1,14 @@
 -- What came of a transfer came of the session that holds it.
 use Rattle.std.proofs.Common.{ℕ, List, Option, Some, None, IfNone, Result, ap}
-use Rattle.futures.specs.declared.task.Poll.{Poll}
-use Rattle.h1_error.specs.declared.error.Error.{Error}
-use Rattle.h1_link.specs.LinkState.{LinkState}
+use Rattle.h1_server.specs.Words.{Poll, Error, LinkState, TransferView}
 use Rattle.h1_transfer.proofs.OptionLemmas.{if_none_on}
-use Rattle.h1_transfer.specs.TransferView.{TransferView, itself}
+use Rattle.h1_transfer.specs.TransferView.{itself}
 use Rattle.h1_transfer.specs.Writes as writes
 use Rattle.h1_transfer.specs.PieceWrites as pieces
 use Rattle.h1_transfer.specs.EndWrites as ends
 use Rattle.h1_transfer.specs.Payload as payloads
-use Rattle.h1_server.specs.Payload.{ReadsPayload, DrainsBody}
-use Rattle.h1_server.specs.SessionView.{SessionView, session}
+use Rattle.h1_server.proofs.Words.{DrainsBody, SessionView, session}
+use Rattle.h1_server.specs.Payload.{ReadsPayload}
 use Rattle.h1_server.specs.Writes.{Writes, WritesPiece, WritesEnd, EndCall}
 
 pub writes_in : {L C : Type 0} (state : L → LinkState) (old : SessionView L C) (new : TransferView L) (taking : List ℕ) (left : ℕ)

@@ -2,3 +2,4 @@ pub mod HoldsLemmas
 pub mod HeadLemmas
 pub mod ReplyLemmas
 pub mod ReuseLemmas
+pub mod Words

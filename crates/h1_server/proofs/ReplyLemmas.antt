@@ -1,24 +1,15 @@
 -- Lemmas on the call that writes the head of a reply.
 use Rattle.std.proofs.Common.{◌≡◌, ℕ, ◌≤◌, ◌<◌, List, [], ◌++◌, length, Bool, true, false, cond, IsTrue, Option, Some, None, IfNone, IfSome, Result, Ok, Err, refl, sym, ap, ◌∙◌, subst, append-nil}
-use Rattle.futures.specs.declared.task.Poll.{Poll}
-use Rattle.futures.specs.declared.task.Poll.TheVariants.{Ready, Pending}
-use Rattle.h1_error.specs.declared.error.Error.{Error}
-use Rattle.h1_link.specs.LinkState.{LinkState}
-use Rattle.h1_head.specs.Views.{ResponseView}
-use Rattle.h1_transfer.specs.ReplyFraming.{flushes_head}
-use Rattle.h1_transfer.specs.TransferView.{TransferView}
+use Rattle.h1_server.specs.Words.{Poll, Ready, Pending, Error, LinkState, ResponseView, flushes_head, TransferView, Outgoing, Head, Request}
 use Rattle.h1_transfer.specs.Writes.{Delivers}
 use Rattle.h1_transfer.specs.Writing.{DeliveryAnswer, IsDelivered, Owes}
 use Rattle.h1_transfer.specs.declared.delivering.Delivery.TheVariants as delivery
-use Rattle.h1_transfer.specs.declared.outgoing.Outgoing.{Outgoing}
-use Rattle.h1_transfer.specs.declared.outgoing.Step.TheVariants.{Head}
-use Rattle.h1_transfer.proofs.DeliveryLemmas.{Delivered, delivered, is_done, refused_at}
+use Rattle.h1_transfer.proofs.DeliveryLemmas.{Delivered, delivered, succeeds, refused_at}
 use Rattle.h1_transfer.proofs.WriteLemmas.{writes, same_reply, written_by}
-use Rattle.h1_server.specs.HeaderWrites.{HeaderCall, HeaderAnswer, TakesHeader, IsHeaderStep, is_passed_over}
+use Rattle.h1_server.specs.HeaderWrites.{HeaderCall, HeaderAnswer, TakesHeader, IsHeaderStep, keep_after, is_passed_over}
 use Rattle.h1_server.specs.Persistence.{keep_flag}
-use Rattle.h1_server.specs.SessionView.{SessionView, session}
+use Rattle.h1_server.proofs.Words.{SessionView, session}
 use Rattle.h1_server.specs.TakingUp.{TakesUpHeader, head_delivery}
-use Rattle.h1_server.specs.declared.request.Request.{Request}
 use Rattle.h1_server.proofs.HoldsLemmas.{writes_in}
 
 -- what a head asks for is what its framing asks for
@@ -37,7 +28,7 @@ header_answer : (before now : LinkState) (old new : Outgoing) (left : ℕ) (outc
     → DeliveryAnswer (head_delivery old.writer.framing) before now old new left outcome
     → HeaderAnswer before now new left outcome
 header_answer before now old new left (Ready (Ok done)) at none h = (
-  is_done old new _ none h.0,
+  succeeds old new _ none h.0,
   rw (ap (λ (r : Outgoing). r.writer) h.0) (flushed_if (flushes_head old.writer.framing) now h.1),
 )
 header_answer before now old new left Pending at none h = (
@@ -80,18 +71,24 @@ takes_header old taken new request flag given header now taking same takes done 
   is_date = takes.is_date;
   bytes = rw (← same) takes.bytes;
   headed = done.headed ∙ takes.headed;
-  keep = done.keep ∙ takes.keep ∙ same;
   writer = done.writer ∙ takes.writer;
 }
 
 -- a header call that wrote
-pub header_written : {L C : Type 0} (state : L → LinkState) (old : SessionView L C) (mid new : TransferView L) (request : Request) (flag : Bool) (now : ℕ) (result : Result (Unit {0}) Error) (outcome : Poll (Result (Unit {0}) Error)) (header kept : Option ResponseView)
-    → is_passed_over header old.reply.headed ≡ false → flag ≡ keep_flag request.wish old.settings old.body
+pub header_written : {L C : Type 0} (state : L → LinkState) (old : SessionView L C)
+    (mid new : TransferView L) (request : Request) (flag : Bool) (now : ℕ)
+    (result : Result (Unit {0}) Error) (outcome : Poll (Result (Unit {0}) Error))
+    (header kept : Option ResponseView)
+    → is_passed_over header old.reply.headed ≡ false → flag ≡ keep_after header old.keep
+    (keep_flag request.wish old.settings old.body)
     → IsHeaderStep header old.reply.step → old.reply.refused ≡ None
     → IfNone header ((result ≡ Ok (tt {0})) × (mid ≡ session.transfer old) × (kept ≡ None))
-    → IfSome header (λ view. TakesUpHeader (session.transfer old) mid request flag view kept now result)
-    → result ≡ Ok (tt {0}) → Delivers state (head_delivery mid.outgoing.writer.framing) mid new outcome
-    → HeaderCall state old (session.put old new) request header kept now outcome (is_passed_over header old.reply.headed)
+    → IfSome header (λ view. TakesUpHeader (session.transfer old) mid request flag view kept now
+    result)
+    → result ≡ Ok (tt {0}) → Delivers state (head_delivery mid.outgoing.writer.framing) mid new
+    outcome
+    → HeaderCall state old (record (session.put old new) { keep = flag }) request header kept now
+    outcome (is_passed_over header old.reply.headed)
 header_written {L} {C} state old mid new request flag now result outcome None kept unpassed flag_is free unrefused goes takes ok d =
     let before = session.transfer old in
     let same = goes.1 in
@@ -99,7 +96,7 @@ header_written {L} {C} state old mid new request flag now result outcome None ke
     let frame = same ∙ ap (λ (o : Outgoing). record (session.transfer old) { outgoing = o }) (sym taken_is) in
     let told = written_by state _ before mid new outcome frame d in
     let done = delivered _ (state old.link) (state new.link) mid.outgoing new.outgoing d.left outcome told.1 in
-    rw goes.2 (record {
+    rw (goes.2, flag_is) (record {
       taking = [];
       left = d.left;
       writes = writes_in state old new [] d.left (writes state before new mid.outgoing d.left [] told.0
@@ -113,11 +110,14 @@ header_written {L} {C} state old mid new request flag now result outcome (Some v
     let takes = subst (λ (r : Result (Unit {0}) Error). TakesUpHeader (session.transfer old) mid request flag view kept now r) ok takes_any in
     let told = written_by state _ before mid new outcome takes.3 d in
     let done = delivered _ (state old.link) (state new.link) mid.outgoing new.outgoing d.left outcome told.1 in
-    subst (λ (b : Bool). HeaderCall state old (session.put old new) request (Some view) kept now outcome b) (sym unpassed)
-    (rw takes.0 (record {
+    subst (λ (b : Bool). HeaderCall state old (record (session.put old new) { keep = flag }) request
+    (Some view) kept now outcome b) (sym unpassed)
+    (rw (takes.0, flag_is) (record {
       taking = mid.outgoing.owed;
       left = d.left;
-      writes = writes_in state old new mid.outgoing.owed d.left (writes state before new mid.outgoing d.left mid.outgoing.owed told.0
+      writes = writes_in state (record old { keep = keep_flag request.wish old.settings old.body })
+          new mid.outgoing.owed d.left (writes state before new mid.outgoing d.left
+          mid.outgoing.owed told.0
           (ap (λ bytes. bytes ++ mid.outgoing.owed) (sym takes.4)) takes.2.sent done);
       takes = takes_header old.reply mid.outgoing new.outgoing request _ flag view now mid.outgoing.owed flag_is takes.1 done;
       answer = header_answer (state old.link) (state new.link) mid.outgoing new.outgoing d.left outcome takes.2.step

@@ -1,9 +1,6 @@
 -- What the answers of a session tell of its link.
 use Rattle.std.specs.Prelude.{Bool, true, false, Result, Ok, Err}
-use Rattle.futures.specs.declared.task.Poll.{Poll}
-use Rattle.futures.specs.declared.task.Poll.TheVariants.{Ready, Pending}
-use Rattle.h1_error.specs.declared.error.Error.{Error}
-use Rattle.h1_server.specs.declared.request.ReadRequest.{ReadRequest}
+use Rattle.h1_server.specs.Words.{Poll, Ready, Pending, Error, ReadRequest}
 use Rattle.h1_server.specs.declared.request.ReadRequest.TheVariants as read
 
 -- the answer of a call that read a head

@@ -1,6 +1,6 @@
 -- The setting of keep-alive (RFC 9112, section 9.3).
 use Rattle.std.specs.Prelude.{ℕ, Bool, true, false, Option, Some, None, if◌then◌else◌}
-use Rattle.h1_server.specs.declared.settings.Settings.{Settings}
+use Rattle.h1_server.specs.Words.{Settings}
 
 -- None turns keep-alive off; a number turns it on and is the deadline of the next head
 abbrev pub keepalive_set : Settings → Option ℕ → Settings

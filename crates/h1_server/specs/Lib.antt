@@ -11,3 +11,4 @@ pub mod HeadBytes
 pub mod TakingUp
 pub mod Reuse
 pub mod Calls
+pub mod Words

@@ -1,28 +1,40 @@
 -- Reading a request's body, as the session sees it (RFC 9112, sections 6 and 8).
-use Rattle.std.specs.Prelude.{ℕ, List, Option, Result}
-use Rattle.futures.specs.declared.task.Poll.{Poll}
-use Rattle.h1_error.specs.declared.error.Error.{Error}
-use Rattle.h1_error.specs.declared.error.ErrorType.{ErrorType}
-use Rattle.h1_link.specs.LinkState.{LinkState}
+use Rattle.std.specs.Prelude.{ℕ, ◌==◌, List, Bool, false, Option, Result}
+use Rattle.h1_server.specs.Words.{Poll, Error, ErrorType, LinkState, Framing}
+use Rattle.h1_body.specs.declared.framing.Framing.TheVariants.{Counted, Chunked, UntilClose}
 use Rattle.h1_transfer.specs.Payload as payloads
 use Rattle.h1_server.specs.SessionView.{SessionView, session}
 
+-- a request without a body
+abbrev pub is_empty_framing : Framing → Bool
+is_empty_framing (Counted n) = n == 0
+is_empty_framing Chunked = false
+is_empty_framing UntilClose = false
+
 -- when each refusal of the body comes
-abbrev pub BodyRefusal : {L C : Type 0} → (L → LinkState) → SessionView L C → SessionView L C → ErrorType → Type 0
-BodyRefusal state old new kind = payloads.BodyRefusal state (session.transfer old) (session.transfer new) kind
+abbrev pub BodyRefusal : {L C : Type 0} → (L → LinkState) → SessionView L C → SessionView L C
+    → ErrorType → Type 0
+BodyRefusal state old new kind =
+    payloads.BodyRefusal state (session.transfer old) (session.transfer new) kind
 
 -- the answer of a call that reads a part of the body
-abbrev pub PayloadAnswer : {L C : Type 0} → (L → LinkState) → SessionView L C → SessionView L C → List ℕ → ℕ → Poll (Result (Option (List ℕ)) Error) → Type 0
-PayloadAnswer state old new payload left outcome = payloads.PayloadAnswer state (session.transfer old) (session.transfer new) payload left outcome
+abbrev pub PayloadAnswer : {L C : Type 0} → (L → LinkState) → SessionView L C → SessionView L C
+    → List ℕ → ℕ → Poll (Result (Option (List ℕ)) Error) → Type 0
+PayloadAnswer state old new payload left outcome =
+    payloads.PayloadAnswer state (session.transfer old) (session.transfer new) payload left outcome
 
 -- one call that reads a part of the body
-abbrev pub ReadsPayload : {L C : Type 0} → (L → LinkState) → SessionView L C → SessionView L C → Poll (Result (Option (List ℕ)) Error) → Type 0
+abbrev pub ReadsPayload : {L C : Type 0} → (L → LinkState) → SessionView L C → SessionView L C
+    → Poll (Result (Option (List ℕ)) Error) → Type 0
 ReadsPayload state old new outcome = payloads.ReadsPayload state session old new outcome
 
 -- the answer of a call that reads the rest of the body
-abbrev pub DrainAnswer : {L C : Type 0} → (L → LinkState) → SessionView L C → SessionView L C → ℕ → Poll (Result (Unit {0}) Error) → Type 0
-DrainAnswer state old new left outcome = payloads.DrainAnswer state (session.transfer old) (session.transfer new) left outcome
+abbrev pub DrainAnswer : {L C : Type 0} → (L → LinkState) → SessionView L C → SessionView L C → ℕ
+    → Poll (Result (Unit {0}) Error) → Type 0
+DrainAnswer state old new left outcome =
+    payloads.DrainAnswer state (session.transfer old) (session.transfer new) left outcome
 
 -- one call that reads the rest of the body
-abbrev pub DrainsBody : {L C : Type 0} → (L → LinkState) → SessionView L C → SessionView L C → Poll (Result (Unit {0}) Error) → Type 0
+abbrev pub DrainsBody : {L C : Type 0} → (L → LinkState) → SessionView L C → SessionView L C
+    → Poll (Result (Unit {0}) Error) → Type 0
 DrainsBody state old new outcome = payloads.DrainsBody state session old new outcome

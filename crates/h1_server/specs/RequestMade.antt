@@ -1,9 +1,6 @@
 -- The request that a head begins (RFC 9112, sections 6.3 and 9.3).
 use Rattle.std.specs.Prelude.{◌≡◌}
-use Rattle.h1_head.specs.Wish.{wish}
-use Rattle.h1_head.specs.declared.request_head.RequestHead.{RequestHead}
-use Rattle.h1_body.specs.Framing.{framing}
-use Rattle.h1_server.specs.declared.request.Request.{Request}
+use Rattle.h1_server.specs.Words.{wish, RequestHead, framing, Request}
 
 pub record IsMadeOf (head : RequestHead) (request : Request) : Type 0 where
   pub header : request.header ≡ head.header

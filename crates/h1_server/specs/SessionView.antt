@@ -1,15 +1,7 @@
 -- What contracts see of a server session.
 use Rattle.std.specs.Prelude.{◌≡◌, ℕ, List, [], Bool, Option, Some, None, true, false}
-use Rattle.h1_error.specs.declared.error.Error.{Error}
-use Rattle.h1_server.specs.declared.request.Request.{Request}
+use Rattle.h1_server.specs.Words.{Error, Request, BodyState, Outgoing, IsNoBody, no_reply, Settings, HasLooked, HeadSearch, MAX_HEADER_SIZE}
 use Rattle.h1_transfer.specs.TransferView.{Holds}
-use Rattle.h1_transfer.specs.declared.body.BodyState.{BodyState}
-use Rattle.h1_transfer.specs.declared.outgoing.Outgoing.{Outgoing}
-use Rattle.h1_transfer.specs.Fresh.{IsNoBody, no_reply}
-use Rattle.h1_server.specs.declared.settings.Settings.{Settings}
-use Rattle.h1_cut.specs.Search.{HasLooked}
-use Rattle.h1_cut.specs.declared.search.HeadSearch.{HeadSearch}
-use Rattle.h1_head.specs.declared.limits.TheConstants.{MAX_HEADER_SIZE}
 
 pub record SessionView (L C : Type 0) : Type 0 where
   pub link : L
@@ -20,6 +12,8 @@ pub record SessionView (L C : Type 0) : Type 0 where
   pub refused : Option Error
   pub body : BodyState
   pub reply : Outgoing
+  -- the flag of the final header that was taken up
+  pub keep : Bool
   pub settings : Settings
   pub budget : Option ℕ
   -- the link may serve the next request
@@ -30,8 +24,21 @@ pub record SessionView (L C : Type 0) : Type 0 where
 -- how a session holds its transfer
 abbrev pub session : {L C : Type 0} → Holds L (SessionView L C)
 session = record {
-  transfer = λ s. record { link = s.link; received = s.received; body = s.body; outgoing = s.reply; budget = s.budget };
-  put = λ s t. record s { link = t.link; received = t.received; body = t.body; reply = t.outgoing; budget = t.budget };
+  transfer =
+      λ s. record {
+        link = s.link;
+        received = s.received;
+        body = s.body;
+        outgoing = s.reply;
+        budget = s.budget;
+      };
+  put = λ s t. record s {
+    link = t.link;
+    received = t.received;
+    body = t.body;
+    reply = t.outgoing;
+    budget = t.budget;
+  };
 }
 
 -- until a head is read, the search for its end has looked at a front of what is received
@@ -47,7 +54,14 @@ pub record IsNewSession {L C : Type 0} (start : L) (view : SessionView L C) : Ty
   pub refused : view.refused ≡ None
   pub body : IsNoBody view.body
   pub reply : view.reply ≡ no_reply
-  pub settings : view.settings ≡ record { keep_off = true; keepalive = 0; closing = true; pipelining = false; reuses = None }
+  pub keep : view.keep ≡ false
+  pub settings : view.settings ≡ record {
+    keep_off = true;
+    keepalive = 0;
+    closing = true;
+    pipelining = false;
+    reuses = None;
+  }
   pub budget : view.budget ≡ None
   pub reusable : view.reusable ≡ false
   pub context : view.context ≡ None

@@ -1,21 +1,17 @@
 -- Taking up the head, a piece and the end of a reply (RFC 9112, sections 4 to 7).
 use Rattle.std.specs.Prelude.{◌≡◌, ℕ, [], Bool, false, Option, Some, None, Result, Ok, Err, if◌then◌else◌}
-use Rattle.h1_error.specs.declared.error.Error.{Error}
-use Rattle.h1_head.specs.Views.{ResponseView}
-use Rattle.h1_body.specs.declared.framing.Framing.{Framing}
-use Rattle.h1_transfer.specs.ReplyFraming.{flushes_head}
+use Rattle.h1_server.specs.Words.{Error, ResponseView, Framing, flushes_head, TransferView, Request, Head}
 use Rattle.h1_server.specs.HeaderWrites.{TakesHeader, HeaderRefusal}
 use Rattle.h1_transfer.specs.BodyWrites.{IsTakenUp}
-use Rattle.h1_transfer.specs.TransferView.{TransferView}
-use Rattle.h1_server.specs.declared.request.Request.{Request}
-use Rattle.h1_transfer.specs.declared.outgoing.Step.TheVariants.{Head}
 use Rattle.h1_transfer.specs.declared.delivering.Delivery.{Delivery}
 use Rattle.h1_transfer.specs.declared.delivering.Delivery.TheVariants as delivery
 
 -- A header that is handed in is taken up where nothing is owed, or stays where it can't be.
-abbrev pub TakesUpHeader : {L : Type 0} → TransferView L → TransferView L → Request → Bool → ResponseView → Option ResponseView → ℕ → Result (Unit {0}) Error → Type 0
+abbrev pub TakesUpHeader : {L : Type 0} → TransferView L → TransferView L → Request → Bool
+    → ResponseView → Option ResponseView → ℕ → Result (Unit {0}) Error → Type 0
 TakesUpHeader old new request flag header kept now (Ok done) =
-    (kept ≡ None) × TakesHeader old.outgoing new.outgoing request flag header now new.outgoing.owed × IsTakenUp old.outgoing new.outgoing Head
+    (kept ≡ None) × TakesHeader old.outgoing new.outgoing request flag header now new.outgoing.owed
+    × IsTakenUp old.outgoing new.outgoing Head
     × (new ≡ record old { outgoing = new.outgoing }) × (old.outgoing.owed ≡ [])
 TakesUpHeader old new request flag header kept now (Err error) =
     (kept ≡ Some header) × (new ≡ old) × HeaderRefusal header error.kind × (error.retry ≡ false)

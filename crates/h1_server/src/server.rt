@@ -25,9 +25,11 @@ mod reusing;
 /// A server's session over a link, for one request and its reply at a time.
 #[derive(Drop)]
 pub struct HttpSession<L: Link + Drop, C: Drop> {
-    transfer: Transfer<L>,
-    asked: RequestState,
-    settings: Settings,
+    pub(crate) transfer: Transfer<L>,
+    pub(crate) asked: RequestState,
+    pub(crate) settings: Settings,
+    /// The flag of the final header that was taken up.
+    pub(crate) keep: bool,
     reusable: bool,
     context: Option<C>,
 }
@@ -37,7 +39,19 @@ impl<L: Link + Drop, C: Drop> Model for HttpSession<L, C> {
 
     ghost Value = { SessionView L C };
 
-    ghost view = { λ s. record { link = s.transfer.link; received = s.transfer.received; request = s.asked.request; refused = s.asked.refused; body = s.transfer.body; reply = s.transfer.outgoing; settings = s.settings; budget = s.transfer.budget; reusable = s.reusable; context = s.context } };
+    ghost view = { λ s. record {
+      link = s.transfer.link;
+      received = s.transfer.received;
+      request = s.asked.request;
+      refused = s.asked.refused;
+      body = s.transfer.body;
+      reply = s.transfer.outgoing;
+      keep = s.keep;
+      settings = s.settings;
+      budget = s.transfer.budget;
+      reusable = s.reusable;
+      context = s.context;
+    } };
 
     ghost invariant = { λ s. IsSearched s.asked.request s.asked.search s.transfer.received };
 }
@@ -56,6 +70,7 @@ impl<L: Link + Drop, C: Drop> HttpSession<L, C> {
             transfer: Transfer::new(alloc, link),
             asked: RequestState::new(),
             settings: Settings::new(),
+            keep: false,
             reusable: false,
             context: None,
         })
@@ -70,7 +85,8 @@ impl<L: Link + Drop, C: Drop> HttpSession<L, C> {
 
     /// The request, once its head was read.
     pub fn request(&self) -> Option<&Request>
-        ensures { MatchOption result (self.now.request ≡ None) (λ request. self.now.request ≡ Some request.now) }
+        ensures { MatchOption result (self.now.request ≡ None)
+            (λ request. self.now.request ≡ Some request.now) }
     {
         self.asked.request.as_ref()
     }
@@ -96,7 +112,8 @@ impl<L: Link + Drop, C: Drop> HttpSession<L, C> {
     /// Turns keep-alive off, or sets the deadline of the next head in seconds, of which 0 is none. A
     /// request that doesn't wish it isn't kept all the same (`will_keepalive`).
     pub fn set_server_keepalive(&mut self, seconds: Option<u64>)
-        ensures { self.new ≡ record self.old { settings = keepalive_set self.old.settings seconds } }
+        ensures { self.new
+            ≡ record self.old { settings = keepalive_set self.old.settings seconds } }
     {
         self.settings = with_keepalive(self.settings, seconds);
     }
@@ -120,7 +137,8 @@ impl<L: Link + Drop, C: Drop> HttpSession<L, C> {
     }
 
     pub fn set_pipelining_enabled(&mut self, enabled: bool)
-        ensures { self.new ≡ record self.old { settings = record self.old.settings { pipelining = enabled } } }
+        ensures { self.new
+            ≡ record self.old { settings = record self.old.settings { pipelining = enabled } } }
     {
         self.settings.pipelining = enabled;
     }
@@ -158,7 +176,8 @@ impl<L: Link + Drop, C: Drop> HttpSession<L, C> {
     /// Whether a read of the body was pending since this was last asked.
     pub fn take_waits(&mut self) -> bool
         ensures asked { result ≡ self.old.body.waits }
-        ensures rest { self.new ≡ record self.old { body = record self.old.body { waits = false } } }
+        ensures rest { self.new
+            ≡ record self.old { body = record self.old.body { waits = false } } }
     {
         self.transfer.take_waits()
     }
@@ -172,9 +191,9 @@ impl<L: Link + Drop, C: Drop> HttpSession<L, C> {
 
     /// The flag of the final header that was taken up.
     pub fn reply_keeps(&self) -> bool
-        ensures { result ≡ self.now.reply.keep }
+        ensures { result ≡ self.now.keep }
     {
-        self.transfer.outgoing().keep
+        self.keep
     }
 
     /// How many bytes of the reply were written; it stops at 2^64 - 1.
@@ -229,7 +248,9 @@ impl<L: Link + Drop, C: Drop> HttpSession<L, C> {
     /// Calls a function on the link, which may move none of its bytes.
     pub fn with_link<T, F: FnOnce(&mut L) -> T>(&mut self, f: F) -> T
         requires may { FnOnceTakesAtMut F.FnOnce f self.old.link }
-        requires keeps { (answer : T) (link : L) → FnOnceReturnsAtMut F.FnOnce f self.old.link answer link → KeepsBytes (L.state self.old.link) (L.state link) }
+        requires keeps { (answer : T) (link : L)
+            → FnOnceReturnsAtMut F.FnOnce f self.old.link answer link
+            → KeepsBytes (L.state self.old.link) (L.state link) }
         ensures called { FnOnceReturnsAtMut F.FnOnce f self.old.link result self.new.link }
         ensures rest { self.new ≡ record self.old { link = self.new.link } }
         ensures keeps { KeepsBytes (L.state self.old.link) (L.state self.new.link) }

@@ -66,7 +66,13 @@ pub fn one_less(reuses: Option<u32>) -> Option<u32>
 impl Settings {
     /// Keep-alive is off, a reply before the request's end closes, and nothing is pipelined.
     pub(crate) fn new() -> Self
-        ensures { result ≡ record { keep_off = true; keepalive = 0; closing = true; pipelining = false; reuses = None } }
+        ensures { result ≡ record {
+          keep_off = true;
+          keepalive = 0;
+          closing = true;
+          pipelining = false;
+          reuses = None;
+        } }
     {
         Settings {
             keep_off: true,

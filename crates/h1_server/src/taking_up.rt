@@ -1,7 +1,7 @@
 //! Taking up the head, a piece and the end of a reply (RFC 9112, sections 4 to 7).
 ghost use Rattle.std.specs.Prelude.{◌≡◌, ◌<◌, None, IfNone, IfSome, Ok};
 ghost use Rattle.h1_error.specs.declared.moment.TheConstants.{YEAR_10000};
-ghost use Rattle.h1_server.specs.HeaderWrites.{IsHeaderStep, is_passed_over};
+ghost use Rattle.h1_server.specs.HeaderWrites.{IsHeaderStep, is_passed_over, keep_after};
 ghost use Rattle.h1_server.specs.HeadBytes.{IsHeadOf};
 ghost use Rattle.h1_server.specs.TakingUp.{TakesUpHeader, head_delivery};
 
@@ -23,6 +23,16 @@ pub(crate) fn is_passed_over(header: &Option<ResponseHeader>, headed: bool) -> b
     }
 }
 
+/// The flag that is noted: that of the header that is handed in.
+pub(crate) fn keep_after(header: &Option<ResponseHeader>, keep: bool, flag: bool) -> bool
+    ensures { result ≡ keep_after header.now keep flag }
+{
+    match header {
+        Some(_) => flag,
+        None => keep,
+    }
+}
+
 /// Takes up the header that is handed in, with the date of this moment and this flag. Where it can't
 /// be written it stays.
 pub(crate) fn take_header<L: Link + Drop>(
@@ -35,15 +45,18 @@ pub(crate) fn take_header<L: Link + Drop>(
     requires free { IsHeaderStep header.old transfer.old.outgoing.step }
     requires unrefused { transfer.old.outgoing.refused ≡ None }
     requires moment { now < YEAR_10000 }
-    ensures goes_on { IfNone header.old ((result ≡ Ok tt) × (transfer.new ≡ transfer.old) × (header.new ≡ None)) }
-    ensures takes { IfSome header.old (λ view. TakesUpHeader transfer.old transfer.new request.now keep view header.new now result) }
+    ensures goes_on { IfNone header.old ((result ≡ Ok tt) × (transfer.new ≡ transfer.old)
+        × (header.new ≡ None)) }
+    ensures takes { IfSome header.old
+        (λ view. TakesUpHeader transfer.old transfer.new request.now keep view header.new now
+        result) }
 {
     let Some(head) = header else {
         return Ok(());
     };
     let wire = head_wire(head, keep, now)?;
     let framing = reply_framing(request.header.method(), head);
-    transfer.take_up_head(wire, framing, keep);
+    transfer.take_up_head(wire, framing);
     *header = None;
     Ok(())
 }

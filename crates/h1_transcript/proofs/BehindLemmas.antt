@@ -3,23 +3,17 @@ use Rattle.std.proofs.Common.{◌≡◌, ℕ, ◌+◌, ◌≤◌, inl, inr, List
 use Rattle.std.proofs.lemmas.Bool.{cases_lt}
 use Rattle.std.proofs.lemmas.List.{drop-append-le}
 use Rattle.std.specs.Io.KnownBytes.{append_known}
-use Rattle.h1_link.specs.LinkState.{LinkState}
+use Rattle.h1_transcript.specs.Words.{LinkState, whole, unfinished, GrowsTo, framing, body, Framing, Counted, Chunked, UntilClose, Entry}
 use Rattle.h1_head.proofs.RequestHeadLemmas.{HeadAt-append}
-use Rattle.h1_body.specs.Body.{whole, unfinished}
-use Rattle.h1_body.specs.Laws.{GrowsTo}
-use Rattle.h1_body.specs.Framing.{framing}
-use Rattle.h1_body.specs.Reader.{body}
-use Rattle.h1_body.specs.declared.framing.Framing.{Framing}
-use Rattle.h1_body.specs.declared.framing.Framing.TheVariants.{Counted, Chunked, UntilClose}
 use Rattle.h1_body.proofs.CountedLemmas.{counted_has, counted_lacks}
 use Rattle.h1_body.proofs.LawLemmas.{bodies_grow, only_bodies}
-use Rattle.h1_transcript.specs.declared.transcript.Entry.{Entry}
-use Rattle.h1_transcript.specs.Behind.{ReadBehind, WroteBehind, AfterRead, AfterWrote, DoneBehind, FlushedBy}
+use Rattle.h1_transcript.proofs.Words.{ReadBehind, AfterRead, IfTold}
+use Rattle.h1_transcript.specs.Behind.{WroteBehind, AfterWrote, DoneBehind, FlushedBy}
 use Rattle.h1_transcript.specs.Exchange.{render}
-use Rattle.h1_transcript.specs.Told.{IfTold}
 
 -- a whole body lies within the bytes that made it
-pub whole_within : (f : Framing) (bytes payload : List ℕ) (k : ℕ) → body f bytes ≡ whole payload k → k ≤ length bytes
+pub whole_within : (f : Framing) (bytes payload : List ℕ) (k : ℕ) → body f bytes ≡ whole payload k
+    → k ≤ length bytes
 whole_within (Counted n) bytes payload k is = elim (cases_lt (length bytes) n) [
   | inl lacks ↦ absurd (never (sym (counted_lacks n bytes lacks) ∙ is))
   | inr has ↦ let same : n ≡ k = same_use (sym (counted_has n bytes has) ∙ is) in omega (arith, same, has)
@@ -38,8 +32,8 @@ whole_within UntilClose bytes payload k is = absurd (never is) where
   never e = cc
 
 -- and stays so with more bytes after them
-pub whole_stays : (f : Framing) (bytes more payload : List ℕ) (k : ℕ) → body f bytes ≡ whole payload k
-    → body f (bytes ++ more) ≡ whole payload k
+pub whole_stays : (f : Framing) (bytes more payload : List ℕ) (k : ℕ)
+    → body f bytes ≡ whole payload k → body f (bytes ++ more) ≡ whole payload k
 whole_stays f bytes more payload k is =
     let grown : GrowsTo (whole payload k) (body f (bytes ++ more)) =
     subst (λ b. GrowsTo b (body f (bytes ++ more))) is (bodies_grow f bytes more) in
@@ -71,12 +65,14 @@ wrote_more (e ∷ later) since rest more h =
     (h.0 ++ more, ap (λ xs. xs ++ more) h.1 ∙ append_assoc (render e) h.0 more, h.2, wrote_more later h.0 rest more h.3)
 
 -- told bytes go on with more after them
-pub told_on : (before now later : Option (List ℕ)) (more : List ℕ) (P Q : List ℕ → Type 0) → later ≡ append_known now more
+pub told_on : (before now later : Option (List ℕ)) (more : List ℕ) (P Q : List ℕ → Type 0)
+    → later ≡ append_known now more
     → ((since : List ℕ) → P since → Q (since ++ more)) → IfTold before now P → IfTold before later Q
 told_on before now later more P Q e step h =
     subst (λ x. IfTold before x Q) (sym e) (on before now h)
   where
-    on : (before now : Option (List ℕ)) → IfTold before now P → IfTold before (append_known now more) Q
+    on : (before now : Option (List ℕ)) → IfTold before now P
+        → IfTold before (append_known now more) Q
     on None now h = tt
     on (Some b) None h = tt
     on (Some b) (Some g) h = (h.0 ++ more, ap (λ xs. xs ++ more) h.1 ∙ append_assoc b h.0 more, step h.0 h.2)
@@ -89,41 +85,52 @@ told_map (Some b) None P Q step h = tt
 told_map (Some b) (Some g) P Q step h = (h.0, h.1, step h.0 h.2)
 
 -- what is told goes on after the exchanges that ended
-pub read_on : (done : List Entry) (before now later : Option (List ℕ)) (more : List ℕ) (P Q : List ℕ → Type 0) → later ≡ append_known now more
-    → ((rest : List ℕ) → P rest → Q (rest ++ more)) → IfTold before now (AfterRead done P) → IfTold before later (AfterRead done Q)
+pub read_on : (done : List Entry) (before now later : Option (List ℕ)) (more : List ℕ)
+    (P Q : List ℕ → Type 0) → later ≡ append_known now more
+    → ((rest : List ℕ) → P rest → Q (rest ++ more)) → IfTold before now (AfterRead done P)
+    → IfTold before later (AfterRead done Q)
 read_on done before now later more P Q e step h =
     told_on before now later more (AfterRead done P) (AfterRead done Q) e
     (λ since p. (p.0 ++ more, read_more done since p.0 more p.1, step p.0 p.2)) h
 
-pub wrote_on : (done : List Entry) (before now later : Option (List ℕ)) (more : List ℕ) (P Q : List ℕ → Type 0) → later ≡ append_known now more
-    → ((rest : List ℕ) → P rest → Q (rest ++ more)) → IfTold before now (AfterWrote done P) → IfTold before later (AfterWrote done Q)
+pub wrote_on : (done : List Entry) (before now later : Option (List ℕ)) (more : List ℕ)
+    (P Q : List ℕ → Type 0) → later ≡ append_known now more
+    → ((rest : List ℕ) → P rest → Q (rest ++ more)) → IfTold before now (AfterWrote done P)
+    → IfTold before later (AfterWrote done Q)
 wrote_on done before now later more P Q e step h =
     told_on before now later more (AfterWrote done P) (AfterWrote done Q) e
     (λ since p. (p.0 ++ more, wrote_more done since p.0 more p.1, step p.0 p.2)) h
 
 pub read_map : (done : List Entry) (before now : Option (List ℕ)) (P Q : List ℕ → Type 0)
-    → ((rest : List ℕ) → P rest → Q rest) → IfTold before now (AfterRead done P) → IfTold before now (AfterRead done Q)
+    → ((rest : List ℕ) → P rest → Q rest) → IfTold before now (AfterRead done P)
+    → IfTold before now (AfterRead done Q)
 read_map done before now P Q step h =
     told_map before now (AfterRead done P) (AfterRead done Q) (λ since p. (p.0, p.1, step p.0 p.2)) h
 
 pub wrote_map : (done : List Entry) (before now : Option (List ℕ)) (P Q : List ℕ → Type 0)
-    → ((rest : List ℕ) → P rest → Q rest) → IfTold before now (AfterWrote done P) → IfTold before now (AfterWrote done Q)
+    → ((rest : List ℕ) → P rest → Q rest) → IfTold before now (AfterWrote done P)
+    → IfTold before now (AfterWrote done Q)
 wrote_map done before now P Q step h =
     told_map before now (AfterWrote done P) (AfterWrote done Q) (λ since p. (p.0, p.1, step p.0 p.2)) h
 
 -- nothing more is told
-pub read_same : (done : List Entry) (before now later : Option (List ℕ)) (P Q : List ℕ → Type 0) → later ≡ append_known now []
-    → ((rest : List ℕ) → P rest → Q rest) → IfTold before now (AfterRead done P) → IfTold before later (AfterRead done Q)
+pub read_same : (done : List Entry) (before now later : Option (List ℕ)) (P Q : List ℕ → Type 0)
+    → later ≡ append_known now []
+    → ((rest : List ℕ) → P rest → Q rest) → IfTold before now (AfterRead done P)
+    → IfTold before later (AfterRead done Q)
 read_same done before now later P Q e step h =
     read_on done before now later [] P Q e (λ rest p. subst Q (sym (append-nil rest)) (step rest p)) h
 
-pub wrote_same : (done : List Entry) (before now later : Option (List ℕ)) (P Q : List ℕ → Type 0) → later ≡ append_known now []
-    → ((rest : List ℕ) → P rest → Q rest) → IfTold before now (AfterWrote done P) → IfTold before later (AfterWrote done Q)
+pub wrote_same : (done : List Entry) (before now later : Option (List ℕ)) (P Q : List ℕ → Type 0)
+    → later ≡ append_known now []
+    → ((rest : List ℕ) → P rest → Q rest) → IfTold before now (AfterWrote done P)
+    → IfTold before later (AfterWrote done Q)
 wrote_same done before now later P Q e step h =
     wrote_on done before now later [] P Q e (λ rest p. subst Q (sym (append-nil rest)) (step rest p)) h
 
 -- the exchanges that ended stay flushed
-pub flushed_on : (before now later : LinkState) (total : ℕ) (done : List Entry) → now.flushed ≤ later.flushed
+pub flushed_on : (before now later : LinkState) (total : ℕ) (done : List Entry)
+    → now.flushed ≤ later.flushed
     → DoneBehind (FlushedBy before now) total done → DoneBehind (FlushedBy before later) total done
 flushed_on before now later total [] le h = tt
 flushed_on before now later total (e ∷ more) le h = (

@@ -1,31 +1,17 @@
 -- Bytes that are whole requests alone: what is read of them, and what is left.
 use Rattle.std.proofs.Common.{◌≡◌, ℕ, ◌<◌, ◌≤◌, List, [], ◌∷◌, ◌++◌, length, drop, Bool, true, Option, Some, refl, sym, ◌∙◌, ap, subst, append-nil, length-append, arith}
-use Rattle.std.specs.List.{AllByRecursion}
+use Rattle.h1_transcript.specs.Words.{AllByRecursion, HeadFault, LinkState, RequestView, HeadAt, RefusedAt, wish, Body, whole, unfinished, broken, payload_of, GrowsTo, framing, body, Framing, Entry}
 use Rattle.std.proofs.lemmas.List.{append_cancel_left, drop-append-le}
-use Rattle.h1_error.specs.declared.head_fault.HeadFault.{HeadFault}
-use Rattle.h1_link.specs.LinkState.{LinkState}
-use Rattle.h1_head.specs.Views.{RequestView}
-use Rattle.h1_head.specs.RequestHead.{HeadAt, RefusedAt}
-use Rattle.h1_head.specs.Wish.{wish}
 use Rattle.h1_head.proofs.RequestHeadLemmas.{HeadAt-append, HeadAt-unique, HeadAt-not_refused, HeadAt-not_begun, RefusedAt-append, RefusedAt-some}
-use Rattle.h1_body.specs.Body.{Body, whole, unfinished, broken, payload_of}
-use Rattle.h1_body.specs.Laws.{GrowsTo}
-use Rattle.h1_body.specs.Framing.{framing}
-use Rattle.h1_body.specs.Reader.{body}
-use Rattle.h1_body.specs.declared.framing.Framing.{Framing}
 use Rattle.h1_body.proofs.LawLemmas.{bodies_grow}
-use Rattle.h1_transcript.specs.declared.transcript.Entry.{Entry}
-use Rattle.h1_transcript.specs.Agrees.{AreOf}
-use Rattle.h1_transcript.specs.Behind.{ReadBehind}
-use Rattle.h1_transcript.specs.Ends.{LastStands}
-use Rattle.h1_transcript.specs.Complete.{AreServed, IsWished}
-use Rattle.h1_transcript.specs.Told.{IfTold}
+use Rattle.h1_transcript.proofs.Words.{AreOf, ReadBehind, LastStands, AreServed, IfTold, Message, Begins, EndsAs, Parses, empty, begun}
+use Rattle.h1_transcript.specs.Complete.{IsWished}
 use Rattle.h1_transcript.proofs.BehindLemmas.{whole_within, whole_stays}
-use Rattle.h1_transcript.specs.Stream.{Message, Begins, BehindBody, EndsAs, Parses, empty, begun, stuck}
+use Rattle.h1_transcript.specs.Stream.{BehindBody, stuck}
 
 -- what is told of bytes holds of those that came
-pub told_of : (before now : Option (List ℕ)) (front since : List ℕ) (P : List ℕ → Type 0) → before ≡ Some front
-    → now ≡ Some (front ++ since) → IfTold before now P → P since
+pub told_of : (before now : Option (List ℕ)) (front since : List ℕ) (P : List ℕ → Type 0)
+    → before ≡ Some front → now ≡ Some (front ++ since) → IfTold before now P → P since
 told_of before now front since P first last h =
     let told : IfTold (Some front) (Some (front ++ since)) P =
     subst (λ x. IfTold x (Some (front ++ since)) P) first (subst (λ x. IfTold before x P) last h) in
@@ -39,13 +25,15 @@ broken_grown f bytes more payload is =
     grown
 
 -- no head begins no bytes
-pub no_head : (bytes : List ℕ) (n : ℕ) (head : RequestView) (both : Bool) → bytes ≡ [] → HeadAt bytes n head both → ⊥
+pub no_head : (bytes : List ℕ) (n : ℕ) (head : RequestView) (both : Bool) → bytes ≡ []
+    → HeadAt bytes n head both → ⊥
 no_head bytes n head both none h =
     let len : length bytes ≡ 0 = ap length none in
     omega (arith, len, h.cuts.some, h.cuts.within)
 
 -- where only whole requests follow, this body is whole
-whole_of : (b : Body) (more : List Message) (Q : ℕ → Type 0) → BehindBody b Q ((more ≡ []) × (empty ≡ stuck))
+whole_of : (b : Body) (more : List Message) (Q : ℕ → Type 0)
+    → BehindBody b Q ((more ≡ []) × (empty ≡ stuck))
     → (payload : List ℕ) × (k : ℕ) × (b ≡ whole payload k) × Q k
 whole_of (whole payload k) more Q h = (payload, k, refl, h)
 whole_of (unfinished payload) more Q h = absurd (never h.1) where
@@ -69,7 +57,8 @@ record First (bytes rest : List ℕ) (n : ℕ) (head : RequestView) (both : Bool
   parses : Parses (drop k (drop n bytes ++ rest)) more empty
 
 -- a head at a front of the bytes is that of the first request
-first_of : (bytes rest : List ℕ) (n : ℕ) (head : RequestView) (both : Bool) (requests : List Message) → HeadAt bytes n head both
+first_of : (bytes rest : List ℕ) (n : ℕ) (head : RequestView) (both : Bool)
+    (requests : List Message) → HeadAt bytes n head both
     → Parses (bytes ++ rest) requests empty → First bytes rest n head both requests
 first_of bytes rest n head both [] h p =
     absurd (no_head (bytes ++ rest) n head both p (HeadAt-append bytes rest n head both h))
@@ -101,9 +90,10 @@ record Next (bytes rest : List ℕ) (n : ℕ) (head : RequestView) (both : Bool)
   payload_is : payload ≡ payload_of m.body
   parses : Parses (drop k (drop n bytes) ++ rest) more empty
 
-next_of : (bytes rest : List ℕ) (n : ℕ) (head : RequestView) (both : Bool) (payload : List ℕ) (k : ℕ) (requests : List Message)
-    → HeadAt bytes n head both → body (framing head) (drop n bytes) ≡ whole payload k → Parses (bytes ++ rest) requests empty
-    → Next bytes rest n head both payload k requests
+next_of : (bytes rest : List ℕ) (n : ℕ) (head : RequestView) (both : Bool) (payload : List ℕ)
+    (k : ℕ) (requests : List Message)
+    → HeadAt bytes n head both → body (framing head) (drop n bytes) ≡ whole payload k
+    → Parses (bytes ++ rest) requests empty → Next bytes rest n head both payload k requests
 next_of bytes rest n head both payload k requests h is p =
     let f = first_of bytes rest n head both requests h p in
     let one : whole f.payload f.k ≡ whole payload k =
@@ -132,9 +122,10 @@ none_served (m ∷ more) none = absurd (never none) where
 
 -- after the exchanges that ended the bytes are the requests that are left; where none is left, all
 -- were served
-pub left_of : (done : List Entry) (since behind rest : List ℕ) (requests : List Message) → ReadBehind since done behind
-    → Parses (since ++ rest) requests empty
-    → (left : List Message) × Parses (behind ++ rest) left empty × (left ≡ [] → AreServed done requests)
+pub left_of : (done : List Entry) (since behind rest : List ℕ) (requests : List Message)
+    → ReadBehind since done behind → Parses (since ++ rest) requests empty
+    → (left : List Message) × Parses (behind ++ rest) left empty
+    × (left ≡ [] → AreServed done requests)
 left_of [] since behind rest requests h p =
     (requests, subst (λ xs. Parses (xs ++ rest) requests empty) h p, none_served requests)
 left_of (e ∷ later) since behind rest requests h p =
@@ -146,13 +137,14 @@ left_of (e ∷ later) since behind rest requests h p =
     )
 
 -- no bytes are no requests
-pub none_left : (bytes : List ℕ) (left : List Message) → bytes ≡ [] → Parses bytes left empty → left ≡ []
+pub none_left : (bytes : List ℕ) (left : List Message) → bytes ≡ [] → Parses bytes left empty
+    → left ≡ []
 none_left bytes [] none p = refl
 none_left bytes (m ∷ more) none p = absurd (no_head bytes p.0 m.head m.both none p.1)
 
 -- a front of whole requests is not refused
-pub not_refused : (behind rest : List ℕ) (left : List Message) (fault : HeadFault) → Parses (behind ++ rest) left empty
-    → RefusedAt behind fault → ⊥
+pub not_refused : (behind rest : List ℕ) (left : List Message) (fault : HeadFault)
+    → Parses (behind ++ rest) left empty → RefusedAt behind fault → ⊥
 not_refused behind rest [] fault p x =
     let len : length (behind ++ rest) ≡ 0 = ap length p in
     omega (arith, len, length-append behind rest, RefusedAt-some behind fault x)
@@ -160,7 +152,8 @@ not_refused behind rest (m ∷ more) fault p x =
     HeadAt-not_refused (behind ++ rest) p.0 m.head m.both fault p.1 (RefusedAt-append behind rest fault x)
 
 -- whole requests don't end inside a head
-pub not_begun : (behind : List ℕ) (left : List Message) → Parses behind left empty → EndsAs behind begun → ⊥
+pub not_begun : (behind : List ℕ) (left : List Message) → Parses behind left empty
+    → EndsAs behind begun → ⊥
 not_begun behind [] p x = let len : length behind ≡ 0 = ap length p in omega (arith, len, x.1)
 not_begun behind (m ∷ more) p x = HeadAt-not_begun behind p.0 m.head m.both p.1 x.0
 
@@ -175,8 +168,8 @@ not_cut behind left e p x =
     never e = cc
 
 -- and no body of a front of them is broken
-pub not_broken : (behind rest : List ℕ) (left : List Message) (e : Entry) → Parses (behind ++ rest) left empty
-    → LastStands behind e (broken e.body) → ⊥
+pub not_broken : (behind rest : List ℕ) (left : List Message) (e : Entry)
+    → Parses (behind ++ rest) left empty → LastStands behind e (broken e.body) → ⊥
 not_broken behind rest left e p x =
     let f = first_of behind rest x.n e.head e.both left x.head p in
     never (sym (broken_grown (framing e.head) (drop x.n behind) rest e.body x.body) ∙ f.body_at)
@@ -193,7 +186,8 @@ record Front (now : LinkState) (d : Entry) (behind : List Entry) (requests : Lis
   body_is : m.body ≡ whole d.body used
   others : AreOf now behind more
 
-front_first : (now : LinkState) (d : Entry) (later : List Entry) (e : Entry) (requests : List Message)
+front_first : (now : LinkState) (d : Entry) (later : List Entry) (e : Entry)
+    (requests : List Message)
     → AreOf now (d ∷ later ++ e ∷ []) requests → Front now d (later ++ e ∷ []) requests
 front_first now d [] e [] h = absurd h
 front_first now d [] e (m ∷ more) h =
@@ -204,8 +198,10 @@ front_first now d (g ∷ later) e (m ∷ more) h =
 
 -- The last exchange is that of a request whose wish is that of all of them, and there are more
 -- requests than exchanges before it.
-pub last_wished : (now : LinkState) (done : List Entry) (e : Entry) (since rest : List ℕ) (read requests : List Message)
-    → Begins since read → AreOf now (done ++ e ∷ []) read → Parses (since ++ rest) requests empty → AllByRecursion IsWished requests
+pub last_wished : (now : LinkState) (done : List Entry) (e : Entry) (since rest : List ℕ)
+    (read requests : List Message)
+    → Begins since read → AreOf now (done ++ e ∷ []) read → Parses (since ++ rest) requests empty
+    → AllByRecursion IsWished requests
     → (wish e.head e.both ≡ true) × (length done < length requests)
 last_wished now [] e since rest [] requests b a p w = absurd a
 last_wished now [] e since rest (m ∷ n ∷ more) requests b a p w = absurd a

@@ -1,13 +1,8 @@
 -- How a transcript grows over steps, one after the other.
 use Rattle.std.proofs.Common.{◌≡◌, ℕ, ◌+◌, ◌/◌, ◌≤◌, List, [], ◌∷◌, ◌++◌, Bool, Option, Some, None, IfSome, option_to_list, refl, sym, ◌∙◌, ap, append_assoc, append-nil, arith}
-use Rattle.std.specs.List.{AllByRecursion}
-use Rattle.h1_error.specs.declared.error.Error.{Error}
-use Rattle.h1_link.specs.LinkState.{LinkState}
+use Rattle.h1_transcript.specs.Words.{AllByRecursion, Error, LinkState, ResponseView, Reply, Entry}
 use Rattle.h1_link.specs.Later.{Later}
 use Rattle.h1_link.proofs.Laters.{later_itself, rose_read_faults}
-use Rattle.h1_head.specs.Views.{ResponseView}
-use Rattle.h1_transcript.specs.declared.reply.Reply.{Reply}
-use Rattle.h1_transcript.specs.declared.transcript.Entry.{Entry}
 use Rattle.h1_transcript.specs.Growth.{Extends, Grows, Stays, DatedAt, RepliedOn, RefusedIn, IsBegun, ExtendsLast}
 use Rattle.h1_transcript.specs.Entries.{replies}
 
@@ -15,7 +10,8 @@ stays_same : {T : Type 0} (a : Option T) → Stays a a
 stays_same None = tt
 stays_same (Some value) = refl
 
-dated_same : (now : ℕ) (sent : Option ResponseView) (e : Entry) → e.sent_head ≡ sent → DatedAt now sent e e
+dated_same : (now : ℕ) (sent : Option ResponseView) (e : Entry) → e.sent_head ≡ sent
+    → DatedAt now sent e e
 dated_same now None e is = rw is tt
 dated_same now (Some header) e is = (refl, refl, refl)
 
@@ -23,7 +19,8 @@ replied_same : (reply : Option Reply) (e : Entry) → RepliedOn reply e e
 replied_same None e = tt
 replied_same (Some reply) e = (refl, refl, refl)
 
-pub refused_same : (before behind : LinkState) (refused : Option Error) → RefusedIn before behind refused refused
+pub refused_same : (before behind : LinkState) (refused : Option Error)
+    → RefusedIn before behind refused refused
 refused_same before behind None = tt
 refused_same before behind (Some error) = tt
 
@@ -51,22 +48,27 @@ stays_on None b c first second = tt
 stays_on (Some value) b c first second = rw first at second
 
 -- a date that goes with a header goes with it further on
-date_on : (now : ℕ) (sent : Option ResponseView) (b c : Entry) → b.sent_head ≡ sent → IfSome sent (λ header. b.date ≡ now / 1000)
-    → Stays b.sent_head c.sent_head → DatedAt now b.sent_head b c → IfSome c.sent_head (λ header. c.date ≡ now / 1000)
+date_on : (now : ℕ) (sent : Option ResponseView) (b c : Entry) → b.sent_head ≡ sent
+    → IfSome sent (λ header. b.date ≡ now / 1000)
+    → Stays b.sent_head c.sent_head → DatedAt now b.sent_head b c
+    → IfSome c.sent_head (λ header. c.date ≡ now / 1000)
 date_on now None b c is dated stays y = rw is at y
 date_on now (Some header) b c is dated stays y =
     let kept = rw is at stays in
     let same = rw is at y in
     rw kept (same.0 ∙ dated)
 
-dated_on : (now : ℕ) (sent : Option ResponseView) (a b c : Entry) → a.sent_head ≡ sent → Stays sent b.sent_head
-    → DatedAt now sent a b → Stays b.sent_head c.sent_head → DatedAt now b.sent_head b c → DatedAt now sent a c
+dated_on : (now : ℕ) (sent : Option ResponseView) (a b c : Entry) → a.sent_head ≡ sent
+    → Stays sent b.sent_head
+    → DatedAt now sent a b → Stays b.sent_head c.sent_head → DatedAt now b.sent_head b c
+    → DatedAt now sent a c
 dated_on now None a b c is first x second y = date_on now b.sent_head b c refl x second y
 dated_on now (Some header) a b c is first x second y =
     let same = rw first at y in
     (same.0 ∙ x.0, same.1 ∙ x.1, same.2 ∙ x.2)
 
-replied_on : (reply : Option Reply) (a b c : Entry) → Stays reply b.reply → RepliedOn reply a b → RepliedOn b.reply b c → RepliedOn reply a c
+replied_on : (reply : Option Reply) (a b c : Entry) → Stays reply b.reply → RepliedOn reply a b
+    → RepliedOn b.reply b c → RepliedOn reply a c
 replied_on None a b c first x y = tt
 replied_on (Some reply) a b c first x y =
     let same = rw first at y in
@@ -85,14 +87,17 @@ refused_back first second third later None x = tt
 refused_back first second third later (Some error) x = λ is.
     rose_read_faults 1 first second third third later (x is) (later_itself third)
 
-refused_on : (first second third : LinkState) → Later first second → Later second third → (a b c : Option Error)
-    → Stays a b → Stays b c → RefusedIn first second a b → RefusedIn second third b c → RefusedIn first third a c
+refused_on : (first second third : LinkState) → Later first second → Later second third
+    → (a b c : Option Error)
+    → Stays a b → Stays b c → RefusedIn first second a b → RefusedIn second third b c
+    → RefusedIn first third a c
 refused_on first second third before behind (Some error) b c stays still x y = tt
 refused_on first second third before behind None None c stays still x y = refused_back first second third before c y
 refused_on first second third before behind None (Some error) c stays still x y =
     rw still (refused_front first second third behind (Some error) x)
 
-grows_on : (now : ℕ) (first second third : LinkState) → Later first second → Later second third → (a b c : Entry)
+grows_on : (now : ℕ) (first second third : LinkState) → Later first second → Later second third
+    → (a b c : Entry)
     → Grows now first second a b → Grows now second third b c → Grows now first third a c
 grows_on now first second third before behind a b c x y = record {
   head = y.head ∙ x.head;
@@ -112,16 +117,18 @@ grows_on now first second third before behind a b c x y = record {
 }
 
 -- an exchange that began goes on
-begun_on : (now : ℕ) (shutdown : Bool) (first second third : LinkState) → Later first second → Later second third → (b c : Entry)
-    → IsBegun now shutdown first second b → Grows now second third b c → IsBegun now shutdown first third c
+begun_on : (now : ℕ) (shutdown : Bool) (first second third : LinkState) → Later first second
+    → Later second third → (b c : Entry)
+    → IsBegun now shutdown first second b → Grows now second third b c
+    → IsBegun now shutdown first third c
 begun_on now shutdown first second third before behind b c x y = record {
   keep_off = rw y.began x.keep_off;
   dated = date_on now b.sent_head b c refl x.dated y.sent_head y.dated;
   refused = refused_on first second third before behind None b.body_error c.body_error tt y.body_error x.refused y.refused;
 }
 
-begun_back : (now : ℕ) (shutdown : Bool) (first second third : LinkState) → Later first second → (c : Entry)
-    → IsBegun now shutdown second third c → IsBegun now shutdown first third c
+begun_back : (now : ℕ) (shutdown : Bool) (first second third : LinkState) → Later first second
+    → (c : Entry) → IsBegun now shutdown second third c → IsBegun now shutdown first third c
 begun_back now shutdown first second third before c y = record {
   keep_off = y.keep_off;
   dated = y.dated;
@@ -129,13 +136,15 @@ begun_back now shutdown first second third before c y = record {
 }
 
 -- exchanges that began in a part began in the whole
-all_back : (now : ℕ) (shutdown : Bool) (first second third : LinkState) → Later first second → (c : List Entry)
-    → AllByRecursion (IsBegun now shutdown second third) c → AllByRecursion (IsBegun now shutdown first third) c
+all_back : (now : ℕ) (shutdown : Bool) (first second third : LinkState) → Later first second
+    → (c : List Entry) → AllByRecursion (IsBegun now shutdown second third) c
+    → AllByRecursion (IsBegun now shutdown first third) c
 all_back now shutdown first second third before [] h = tt
 all_back now shutdown first second third before (e ∷ more) h =
     (begun_back now shutdown first second third before e h.0, all_back now shutdown first second third before more h.1)
 
-all_on : (now : ℕ) (shutdown : Bool) (first second third : LinkState) → Later first second → Later second third → (b c : List Entry)
+all_on : (now : ℕ) (shutdown : Bool) (first second third : LinkState) → Later first second
+    → Later second third → (b c : List Entry)
     → AllByRecursion (IsBegun now shutdown first second) b → Extends now shutdown second third b c
     → AllByRecursion (IsBegun now shutdown first third) c
 all_on now shutdown first second third before behind [] c x y = all_back now shutdown first second third before c y
@@ -148,14 +157,17 @@ all_on now shutdown first second third before behind (e ∷ f ∷ later) (n ∷ 
   all_on now shutdown first second third before behind (f ∷ later) more x.1 y.1,
 )
 
-none_behind : (now : ℕ) (shutdown : Bool) (before behind : LinkState) (f : Entry) (later : List Entry)
+none_behind : (now : ℕ) (shutdown : Bool) (before behind : LinkState) (f : Entry)
+    (later : List Entry)
     → Extends now shutdown before behind (f ∷ later) [] → ⊥
 none_behind now shutdown before behind f [] h = h
 none_behind now shutdown before behind f (g ∷ more) h = h
 
 -- a transcript that grew twice grew
-pub extends_on : (now : ℕ) (shutdown : Bool) (first second third : LinkState) → Later first second → Later second third → (a b c : List Entry)
-    → Extends now shutdown first second a b → Extends now shutdown second third b c → Extends now shutdown first third a c
+pub extends_on : (now : ℕ) (shutdown : Bool) (first second third : LinkState) → Later first second
+    → Later second third → (a b c : List Entry)
+    → Extends now shutdown first second a b → Extends now shutdown second third b c
+    → Extends now shutdown first third a c
 extends_on now shutdown first second third before behind [] b c x y = all_on now shutdown first second third before behind b c x y
 extends_on now shutdown first second third before behind (e ∷ []) [] c x y = absurd x
 extends_on now shutdown first second third before behind (e ∷ []) (n ∷ []) [] x y = absurd y
@@ -173,13 +185,15 @@ extends_on now shutdown first second third before behind (e ∷ f ∷ later) (n 
 extends_on now shutdown first second third before behind (e ∷ f ∷ later) (n ∷ g ∷ more) (m ∷ rest) x y =
     (y.0 ∙ x.0, extends_on now shutdown first second third before behind (f ∷ later) (g ∷ more) rest x.1 y.1)
 
-pub extends_itself : (now : ℕ) (shutdown : Bool) (before behind : LinkState) (a : List Entry) → Extends now shutdown before behind a a
+pub extends_itself : (now : ℕ) (shutdown : Bool) (before behind : LinkState) (a : List Entry)
+    → Extends now shutdown before behind a a
 extends_itself now shutdown before behind [] = tt
 extends_itself now shutdown before behind (e ∷ []) = (grows_same now before behind e, tt)
 extends_itself now shutdown before behind (e ∷ f ∷ later) = (refl, extends_itself now shutdown before behind (f ∷ later))
 
 -- the last exchange extends the transcript, after those that ended
-pub extends_last : (now : ℕ) (shutdown : Bool) (first second : LinkState) (done : List Entry) (old new : Option Entry)
+pub extends_last : (now : ℕ) (shutdown : Bool) (first second : LinkState) (done : List Entry)
+    (old new : Option Entry)
     → ExtendsLast now shutdown first second old new
     → Extends now shutdown first second (done ++ option_to_list old) (done ++ option_to_list new)
 extends_last now shutdown first second [] None None h = tt
@@ -202,13 +216,14 @@ replies_append (e ∷ more) ys = let rest = replies_append more ys in omega (ari
 -- a reply stays
 reply_stays : (e n : Entry) → Stays e.reply n.reply → replies (e ∷ []) ≤ replies (n ∷ [])
 reply_stays e n h = by e.reply refl h where
-  by : (reply : Option Reply) → e.reply ≡ reply → Stays reply n.reply → replies (e ∷ []) ≤ replies (n ∷ [])
+  by : (reply : Option Reply) → e.reply ≡ reply → Stays reply n.reply
+      → replies (e ∷ []) ≤ replies (n ∷ [])
   by None is stays = rw is (omega arith)
   by (Some reply) is stays = rw (is, stays) (omega arith)
 
 -- and so they only become more
-pub replies_grow : (now : ℕ) (shutdown : Bool) (before behind : LinkState) (a b : List Entry) → Extends now shutdown before behind a b
-    → replies a ≤ replies b
+pub replies_grow : (now : ℕ) (shutdown : Bool) (before behind : LinkState) (a b : List Entry)
+    → Extends now shutdown before behind a b → replies a ≤ replies b
 replies_grow now shutdown before behind [] b h = omega arith
 replies_grow now shutdown before behind (e ∷ []) [] h = absurd h
 replies_grow now shutdown before behind (e ∷ []) (n ∷ more) h = let one = reply_stays e n h.0.reply in omega (arith, one)

@@ -1,32 +1,20 @@
 -- Every end of a connection with valid input is that of one that served it all, or being out of memory.
 use Rattle.std.proofs.Common.{◌≡◌, ◌≢◌, ℕ, ◌+◌, ◌-◌, ◌<◌, ◌⊎◌, inl, inr, List, [], ◌∷◌, ◌++◌, length, option_to_list, Bool, true, false, not, ◌&&◌, Option, Some, None, IfSome, refl, sym, ◌∙◌, ap, subst, append-nil, arith}
-use Rattle.std.specs.List.{AllByRecursion}
+use Rattle.h1_transcript.specs.Words.{AllByRecursion, Error, ErrorType, End, LinkState, Rose, ResponseView, wish, unfinished, broken, has_reuses, Reply, Entry, Whole}
 use Rattle.std.proofs.lemmas.Bool.{false≢true}
-use Rattle.h1_error.specs.declared.error.Error.{Error}
-use Rattle.h1_error.specs.declared.error.ErrorType.{ErrorType}
 use Rattle.h1_error.specs.declared.error.ErrorType.TheVariants as kind
-use Rattle.h1_error.specs.declared.progress.End.{End}
 use Rattle.h1_error.specs.declared.progress.End.TheVariants as end
-use Rattle.h1_link.specs.LinkState.{LinkState}
-use Rattle.h1_link.specs.Counts.{Rose}
-use Rattle.h1_head.specs.Views.{ResponseView}
-use Rattle.h1_head.specs.Wish.{wish}
-use Rattle.h1_body.specs.Body.{unfinished, broken}
 use Rattle.h1_body.proofs.GrammarRuns.{above}
-use Rattle.h1_server.specs.Persistence.{has_reuses}
-use Rattle.h1_transcript.specs.declared.reply.Reply.{Reply}
-use Rattle.h1_transcript.specs.declared.transcript.Entry.{Entry}
-use Rattle.h1_transcript.specs.declared.transcript.How.TheVariants.{Whole}
-use Rattle.h1_transcript.specs.Agrees.{Agrees, AreOf}
+use Rattle.h1_transcript.proofs.Words.{AreOf, AfterRead, LastStands, AreServed, IfTold, Message, Begins, Parses, EndsAs, empty, begun}
+use Rattle.h1_transcript.specs.Agrees.{Agrees}
 use Rattle.h1_transcript.specs.Given.{Given}
 use Rattle.h1_transcript.specs.Lawful.{IsLawful}
 use Rattle.h1_transcript.specs.Begun.{AreBegun, reuses_at}
-use Rattle.h1_transcript.specs.Behind.{AfterRead, is_until_close}
-use Rattle.h1_transcript.specs.Ends.{EndCause, FailureCause, AreAllDone, StopsLast, OfLast, LastStands, LastAfter, ReadAll}
-use Rattle.h1_transcript.specs.Complete.{IsValid, GaveOf, AreWithin, NoFault, KeepsOn, AreServed, ServesAll}
+use Rattle.h1_transcript.specs.Behind.{is_until_close}
+use Rattle.h1_transcript.specs.Ends.{EndCause, FailureCause, AreAllDone, StopsLast, OfLast, LastAfter, ReadAll}
+use Rattle.h1_transcript.specs.Complete.{IsValid, GaveOf, AreWithin, NoFault, KeepsOn, ServesAll}
 use Rattle.h1_transcript.specs.Exchange.{IsAllowed, IsDated, may_keep}
-use Rattle.h1_transcript.specs.Told.{IfTold}
-use Rattle.h1_transcript.specs.Stream.{Message, Begins, Parses, EndsAs, empty, begun, refused}
+use Rattle.h1_transcript.specs.Stream.{refused}
 use Rattle.h1_transcript.proofs.CompleteLemmas.{told_of, left_of, none_left, not_refused, not_begun, not_cut, not_broken, last_wished}
 
 -- the premises: valid input, of which the link gave a front, and exchanges that keep the connection
@@ -38,13 +26,15 @@ record Serving (gives : Given → Reply → Type 0) (limit : Option ℕ) (before
   agrees : Agrees gives limit before now transcript
   keeps : AllByRecursion KeepsOn transcript
 
-all_last : (P : Entry → Type 0) (done : List Entry) (e : Entry) → AllByRecursion P (done ++ e ∷ []) → P e
+all_last : (P : Entry → Type 0) (done : List Entry) (e : Entry) → AllByRecursion P (done ++ e ∷ [])
+    → P e
 all_last P [] e h = h.0
 all_last P (d ∷ later) e h = all_last P later e h.1
 
 -- so many requests are left after the last exchange
 begun_last : (limit : Option ℕ) (i : ℕ) (pipelining : Bool) (done : List Entry) (e : Entry)
-    → AreBegun limit i pipelining (done ++ e ∷ []) → e.began.reuses ≡ reuses_at limit (i + length done)
+    → AreBegun limit i pipelining (done ++ e ∷ [])
+    → e.began.reuses ≡ reuses_at limit (i + length done)
 begun_last limit i pipelining [] e h =
     let same : i ≡ i + 0 = omega arith in
     h.0.reuses ∙ ap (reuses_at limit) same
@@ -52,35 +42,42 @@ begun_last limit i pipelining (d ∷ later) e h =
     let same : i + 1 + length later ≡ i + length (d ∷ later) = omega arith in
     begun_last limit (i + 1) d.left.pipelining later e h.1 ∙ ap (reuses_at limit) same
 
-some_left : (limit : Option ℕ) (i count : ℕ) → AreWithin limit count → i < count → has_reuses (reuses_at limit i) ≡ true
+some_left : (limit : Option ℕ) (i count : ℕ) → AreWithin limit count → i < count
+    → has_reuses (reuses_at limit i) ≡ true
 some_left None i count within less = refl
 some_left (Some most) i count within less = above 0 (most - i) (omega (arith, within, less))
 
 -- a header that was sent is that of a reply, with its flag
 reply_of : (e : Entry) (head : Option ResponseView) → head ≢ None
-    → IfSome head (λ header. (reply : Reply) × (e.reply ≡ Some reply) × (header ≡ reply.header) × IsLawful header × IsDated e)
+    → IfSome head (λ header. (reply : Reply) × (e.reply ≡ Some reply) × (header ≡ reply.header)
+    × IsLawful header × IsDated e)
     → (reply : Reply) × (e.reply ≡ Some reply) × IsDated e
 reply_of e None some h = absurd (some refl)
 reply_of e (Some header) some h = (h.0, h.1, h.4)
 
-if_some : {A : Type 0} (P : Type 0) (x : Option A) (value : A) → x ≡ Some value → IfSome x (λ value. P) → P
+if_some : {A : Type 0} (P : Type 0) (x : Option A) (value : A) → x ≡ Some value
+    → IfSome x (λ value. P) → P
 if_some P x value is h = subst (λ x. IfSome x (λ value. P)) is h
 
-all_true : (wished off left follows : Bool) → wished ≡ true → off ≡ false → left ≡ true → follows ≡ true
-    → (wished && not off && left && follows) ≡ true
+all_true : (wished off left follows : Bool) → wished ≡ true → off ≡ false → left ≡ true
+    → follows ≡ true → (wished && not off && left && follows) ≡ true
 all_true wished off left follows a b c d = rw a (rw b (rw c d))
 
-flag_true : (e : Entry) → wish e.head e.both ≡ true → e.left.keep_off ≡ false → has_reuses e.left.reuses ≡ true
-    → e.how ≡ Whole → may_keep e ≡ true
+flag_true : (e : Entry) → wish e.head e.both ≡ true → e.left.keep_off ≡ false
+    → has_reuses e.left.reuses ≡ true → e.how ≡ Whole → may_keep e ≡ true
 flag_true e wished off left whole = rw whole (all_true (wish e.head e.both) e.left.keep_off (has_reuses e.left.reuses) true wished off left refl)
 
-parses_since : {gives : Given → Reply → Type 0} {limit : Option ℕ} {before old now : LinkState} {input : List ℕ} {requests : List Message} {transcript : List Entry}
-    → (s : Serving gives limit before old now input requests transcript) → Parses (s.gave.since ++ s.gave.rest) requests empty
+parses_since : {gives : Given → Reply → Type 0} {limit : Option ℕ} {before old now : LinkState}
+    {input : List ℕ} {requests : List Message} {transcript : List Entry}
+    → (s : Serving gives limit before old now input requests transcript)
+    → Parses (s.gave.since ++ s.gave.rest) requests empty
 parses_since {requests = requests} s = subst (λ xs. Parses xs requests empty) s.gave.input_is s.valid.parses
 
 -- the flag of the last reply that was sent is true
-kept : (gives : Given → Reply → Type 0) (limit : Option ℕ) (before old now : LinkState) (input : List ℕ) (requests : List Message) (done : List Entry) (e : Entry)
-    → Serving gives limit before old now input requests (done ++ e ∷ []) → e.sent_head ≢ None → e.keep ≡ true
+kept : (gives : Given → Reply → Type 0) (limit : Option ℕ) (before old now : LinkState)
+    (input : List ℕ) (requests : List Message) (done : List Entry) (e : Entry)
+    → Serving gives limit before old now input requests (done ++ e ∷ []) → e.sent_head ≢ None
+    → e.keep ≡ true
 kept gives limit before old now input requests done e s sent =
     let read = told_of before.given now.given s.gave.front s.gave.since
     (λ since. (read : List Message) × Begins since read × AreOf now (done ++ e ∷ []) read) s.gave.before_is s.gave.now_is s.agrees.read in
@@ -95,8 +92,10 @@ kept gives limit before old now input requests done e s sent =
     replied.2.keep ∙ flag_true e wished.0 on.1 left on.0
 
 -- and pipelining is on after it
-pipelined : (gives : Given → Reply → Type 0) (limit : Option ℕ) (before old now : LinkState) (input : List ℕ) (requests : List Message) (done : List Entry) (e : Entry)
-    → Serving gives limit before old now input requests (done ++ e ∷ []) → e.sent_head ≢ None → e.left.pipelining ≡ true
+pipelined : (gives : Given → Reply → Type 0) (limit : Option ℕ) (before old now : LinkState)
+    (input : List ℕ) (requests : List Message) (done : List Entry) (e : Entry)
+    → Serving gives limit before old now input requests (done ++ e ∷ []) → e.sent_head ≢ None
+    → e.left.pipelining ≡ true
 pipelined gives limit before old now input requests done e s sent =
     let allowed = all_last (IsAllowed gives) done e s.agrees.allowed in
     let keeps = all_last KeepsOn done e s.keeps in
@@ -112,7 +111,8 @@ record Rest (done : List Entry) (rest : List ℕ) (requests : List Message) (P :
   parses : Parses (behind ++ rest) left empty
   served : left ≡ [] → AreServed done requests
 
-rest_of : (gives : Given → Reply → Type 0) (limit : Option ℕ) (before old now : LinkState) (input : List ℕ) (requests : List Message) (transcript done : List Entry) (P : List ℕ → Type 0)
+rest_of : (gives : Given → Reply → Type 0) (limit : Option ℕ) (before old now : LinkState)
+    (input : List ℕ) (requests : List Message) (transcript done : List Entry) (P : List ℕ → Type 0)
     → (s : Serving gives limit before old now input requests transcript)
     → IfTold before.given now.given (AfterRead done P) → Rest done s.gave.rest requests P
 rest_of gives limit before old now input requests transcript done P s h =
@@ -121,12 +121,14 @@ rest_of gives limit before old now input requests transcript done P s h =
     record { behind = after.0; holds = after.2; left = left.0; parses = left.1; served = left.2 }
 
 -- where the link ended nothing else comes
-all_given : (done : List Entry) (rest : List ℕ) (requests : List Message) (P : List ℕ → Type 0) (r : Rest done rest requests P)
+all_given : (done : List Entry) (rest : List ℕ) (requests : List Message) (P : List ℕ → Type 0)
+    (r : Rest done rest requests P)
     → rest ≡ [] → Parses r.behind r.left empty
 all_given done rest requests P r none =
     subst (λ xs. Parses xs r.left empty) (ap (λ xs. r.behind ++ xs) none ∙ append-nil r.behind) r.parses
 
-finished : (gives : Given → Reply → Type 0) (limit : Option ℕ) (before old now : LinkState) (input : List ℕ) (requests : List Message) (done : List Entry) (last : Option Entry)
+finished : (gives : Given → Reply → Type 0) (limit : Option ℕ) (before old now : LinkState)
+    (input : List ℕ) (requests : List Message) (done : List Entry) (last : Option Entry)
     → Serving gives limit before old now input requests (done ++ option_to_list last)
     → EndCause before old now done last end.Finished → AreServed done requests
 finished gives limit before old now input requests done last s cause =
@@ -134,7 +136,8 @@ finished gives limit before old now input requests done last s cause =
     r.served (none_left r.behind r.left r.holds (all_given done s.gave.rest requests (λ rest. EndsAs rest empty) r (s.gave.ended cause.1)))
 
 -- the connection is kept after each reply
-never_closed : (gives : Given → Reply → Type 0) (limit : Option ℕ) (before old now : LinkState) (input : List ℕ) (requests : List Message) (done : List Entry) (last : Option Entry)
+never_closed : (gives : Given → Reply → Type 0) (limit : Option ℕ) (before old now : LinkState)
+    (input : List ℕ) (requests : List Message) (done : List Entry) (last : Option Entry)
     → Serving gives limit before old now input requests (done ++ option_to_list last)
     → EndCause before old now done last end.NotKept → ⊥
 never_closed gives limit before old now input requests done None s cause = absurd cause
@@ -145,7 +148,8 @@ never_closed gives limit before old now input requests done (Some e) s cause = b
   by (inr closes) = false≢true (sym (all_last KeepsOn done e s.keeps).closes ∙ closes)
 
 -- bytes after a request are those of the next one
-never_over : (gives : Given → Reply → Type 0) (limit : Option ℕ) (before old now : LinkState) (input : List ℕ) (requests : List Message) (done : List Entry) (last : Option Entry)
+never_over : (gives : Given → Reply → Type 0) (limit : Option ℕ) (before old now : LinkState)
+    (input : List ℕ) (requests : List Message) (done : List Entry) (last : Option Entry)
     → Serving gives limit before old now input requests (done ++ option_to_list last)
     → EndCause before old now done last end.Overread → ⊥
 never_over gives limit before old now input requests done None s cause = absurd cause
@@ -153,12 +157,16 @@ never_over gives limit before old now input requests done (Some e) s cause =
     false≢true (sym cause.1 ∙ pipelined gives limit before old now input requests done e s cause.0.complete.sent_head)
 
 -- the link doesn't end inside a request
-never_inside : (gives : Given → Reply → Type 0) (limit : Option ℕ) (before old now : LinkState) (input : List ℕ) (requests : List Message) (done : List Entry) (last : Option Entry) (error : Error)
+never_inside : (gives : Given → Reply → Type 0) (limit : Option ℕ) (before old now : LinkState)
+    (input : List ℕ) (requests : List Message) (done : List Entry) (last : Option Entry)
+    (error : Error)
     → Serving gives limit before old now input requests (done ++ option_to_list last)
     → FailureCause before old now done last error kind.ConnectionClosed → ⊥
 never_inside gives limit before old now input requests done last error s cause = by last s cause.1 where
-  by : (last : Option Entry) (s : Serving gives limit before old now input requests (done ++ option_to_list last))
-      → (AreAllDone before now done last × IfTold before.given now.given (λ since. ReadAll since done begun))
+  by : (last : Option Entry)
+      (s : Serving gives limit before old now input requests (done ++ option_to_list last))
+      → (AreAllDone before now done last
+      × IfTold before.given now.given (λ since. ReadAll since done begun))
       ⊎ OfLast last (λ e. StopsLast before now done e error (Unit {0}) × IfTold before.given now.given (λ since. LastAfter since done e (unfinished e.body))) → ⊥
   by last s (inl h) =
       let r = rest_of gives limit before old now input requests (done ++ option_to_list last) done (λ rest. EndsAs rest begun) s h.1 in
@@ -169,7 +177,9 @@ never_inside gives limit before old now input requests done last error s cause =
       not_cut r.behind r.left e (all_given done s.gave.rest requests (λ rest. LastStands rest e (unfinished e.body)) r (s.gave.ended cause.0)) r.holds
 
 -- no read failed, that of a body's error or another
-never_faulty : (gives : Given → Reply → Type 0) (limit : Option ℕ) (before old now : LinkState) (input : List ℕ) (requests : List Message) (done : List Entry) (last : Option Entry) (error : Error)
+never_faulty : (gives : Given → Reply → Type 0) (limit : Option ℕ) (before old now : LinkState)
+    (input : List ℕ) (requests : List Message) (done : List Entry) (last : Option Entry)
+    (error : Error)
     → Serving gives limit before old now input requests (done ++ option_to_list last)
     → error.kind ≡ kind.ReadError → FailureCause before old now done last error kind.ReadError → ⊥
 never_faulty gives limit before old now input requests done last error s is (inl h) = s.faultless.reads h.1
@@ -180,9 +190,12 @@ never_faulty gives limit before old now input requests done (Some e) error s is 
       subst (λ x. IfSome x (λ error. error.kind ≢ kind.ReadError)) ends.is (all_last KeepsOn done e s.keeps).unfailed is
   by (inr met) = s.faultless.reads met.2
 
-failed : (gives : Given → Reply → Type 0) (limit : Option ℕ) (before old now : LinkState) (input : List ℕ) (requests : List Message) (done : List Entry) (last : Option Entry) (error : Error) (why : ErrorType)
+failed : (gives : Given → Reply → Type 0) (limit : Option ℕ) (before old now : LinkState)
+    (input : List ℕ) (requests : List Message) (done : List Entry) (last : Option Entry)
+    (error : Error) (why : ErrorType)
     → Serving gives limit before old now input requests (done ++ option_to_list last)
-    → error.kind ≡ why → FailureCause before old now done last error why → error.kind ≡ kind.NoMemory
+    → error.kind ≡ why → FailureCause before old now done last error why
+    → error.kind ≡ kind.NoMemory
 failed gives limit before old now input requests done last error (kind.InvalidHTTPHeader fault) s is cause =
     let r = rest_of gives limit before old now input requests (done ++ option_to_list last) done (λ rest. EndsAs rest (refused fault)) s cause.1 in
     absurd (not_refused r.behind s.gave.rest r.left fault r.parses r.holds)
@@ -199,16 +212,12 @@ failed gives limit before old now input requests done None error kind.PrematureB
 failed gives limit before old now input requests done (Some e) error kind.PrematureBodyEnd s is cause =
     absurd (false≢true (sym (all_last KeepsOn done e s.keeps).long ∙ cause.0.short))
 failed gives limit before old now input requests done last error kind.NoMemory s is cause = is
-failed gives limit before old now input requests done last error kind.ReadTimedout s is cause = absurd cause
-failed gives limit before old now input requests done last error kind.WriteTimedout s is cause = absurd cause
-failed gives limit before old now input requests done last error (kind.ConnectError fault) s is cause = absurd cause
-failed gives limit before old now input requests done last error (kind.UnexpectedTask task) s is cause = absurd cause
-failed gives limit before old now input requests done last error (kind.ModuleFailed number) s is cause = absurd cause
-failed gives limit before old now input requests done last error (kind.TaskFailed number) s is cause = absurd cause
-failed gives limit before old now input requests done last error kind.Duplicate s is cause = absurd cause
+failed gives limit before old now input requests done last error _ s is cause = absurd cause
 
 -- every end is that of a connection that served all
-served_so : (gives : Given → Reply → Type 0) (limit : Option ℕ) (before old now : LinkState) (input : List ℕ) (requests : List Message) (done : List Entry) (last : Option Entry) (reason : End)
+served_so : (gives : Given → Reply → Type 0) (limit : Option ℕ) (before old now : LinkState)
+    (input : List ℕ) (requests : List Message) (done : List Entry) (last : Option Entry)
+    (reason : End)
     → Serving gives limit before old now input requests (done ++ option_to_list last)
     → EndCause before old now done last reason → ServesAll before now requests done last reason
 served_so gives limit before old now input requests done last end.Finished s cause =
@@ -218,12 +227,14 @@ served_so gives limit before old now input requests done last end.NotKept s caus
 served_so gives limit before old now input requests done last end.Overread s cause =
     absurd (never_over gives limit before old now input requests done last s cause)
 served_so gives limit before old now input requests done last (end.Failed error) s cause =
-    failed gives limit before old now input requests done last error error.kind s refl cause
+    failed gives limit before old now input requests done last error error.kind s refl cause.1
 
-pub served : (gives : Given → Reply → Type 0) (limit : Option ℕ) (before old now : LinkState) (input : List ℕ) (requests : List Message)
+pub served : (gives : Given → Reply → Type 0) (limit : Option ℕ) (before old now : LinkState)
+    (input : List ℕ) (requests : List Message)
     → (done : List Entry) (last : Option Entry) (reason : End)
-    → IsValid input requests → GaveOf input before now → AreWithin limit (length requests) → NoFault old now
-    → Agrees gives limit before now (done ++ option_to_list last) → AllByRecursion KeepsOn (done ++ option_to_list last)
+    → IsValid input requests → GaveOf input before now → AreWithin limit (length requests)
+    → NoFault old now → Agrees gives limit before now (done ++ option_to_list last)
+    → AllByRecursion KeepsOn (done ++ option_to_list last)
     → EndCause before old now done last reason → ServesAll before now requests done last reason
 served gives limit before old now input requests done last reason valid gave within faultless agrees keeps cause =
     served_so gives limit before old now input requests done last reason

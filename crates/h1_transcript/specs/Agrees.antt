@@ -1,12 +1,7 @@
 -- The transcript, the bytes given and the bytes written agree.
 use Rattle.std.specs.Prelude.{◌≡◌, ℕ, ◌+◌, ◌-◌, ◌^◌, List, [], ◌∷◌, ◌++◌, length, min, true, false, Option, IfSome}
-use Rattle.std.specs.List.{AllByRecursion}
-use Rattle.h1_link.specs.LinkState.{LinkState}
-use Rattle.h1_error.specs.declared.error.ErrorType.{ErrorType}
-use Rattle.h1_error.specs.declared.error.ErrorType.TheVariants as kind
-use Rattle.h1_body.specs.Body.{Body, whole, unfinished, broken, payload_of}
-use Rattle.h1_transcript.specs.declared.reply.Reply.{Reply}
-use Rattle.h1_transcript.specs.declared.transcript.Entry.{Entry}
+use Rattle.h1_transcript.specs.Words.{AllByRecursion, LinkState, ErrorType, Body, whole, unfinished, broken, payload_of, Reply, Entry}
+use Rattle.h1_transcript.specs.BodyErrors.{SaysOfBody}
 use Rattle.h1_transcript.specs.Given.{Given}
 use Rattle.h1_transcript.specs.Begun.{AreBegun}
 use Rattle.h1_transcript.specs.Behind.{StoodAs, IsDoneAt, FlushedBy}
@@ -14,18 +9,15 @@ use Rattle.h1_transcript.specs.Exchange.{render, IsAllowed}
 use Rattle.h1_transcript.specs.Told.{IfTold}
 use Rattle.h1_transcript.specs.Stream.{Message, Begins}
 
--- What the refusal of a request's body says of it: it is broken, or the link ended or failed inside
--- it. Out of memory, which comes anywhere, says nothing.
+-- what an error of this kind says of a request's body
 abbrev pub RefusalOf : LinkState → Entry → Body → ErrorType → Type 0
-RefusalOf now e body kind.InvalidBody = body ≡ broken e.body
-RefusalOf now e body kind.ConnectionClosed = (body ≡ unfinished e.body) × (now.ended ≡ true)
-RefusalOf now e body kind.ReadError = body ≡ unfinished e.body
-RefusalOf now e body kind.NoMemory = Unit {0}
-RefusalOf now e body _ = ⊥
+RefusalOf now e body kind = SaysOfBody (body ≡ broken e.body)
+    ((body ≡ unfinished e.body) × (now.ended ≡ true)) (body ≡ unfinished e.body) kind
 
--- the body's error, and how the body stood when the application replied
+-- the body's error, which isn't for a retry, and how the body stood when the application replied
 pub record IsReadAs (now : LinkState) (e : Entry) (body : Body) : Type 0 where
-  pub refused : IfSome e.body_error (λ error. RefusalOf now e body error.kind)
+  pub refused : IfSome e.body_error (λ error. RefusalOf now e body error.kind
+      × (error.retry ≡ false))
   pub replied : IfSome e.reply (λ reply. StoodAs e.how e body)
 
 -- The exchanges are those of these requests: each head is the request's, each body but the last is
@@ -36,10 +28,12 @@ AreOf now [] [] = Unit {0}
 AreOf now [] (m ∷ more) = ⊥
 AreOf now (e ∷ more) [] = ⊥
 AreOf now (e ∷ []) (m ∷ []) =
-    (e.head ≡ m.head) × (e.both ≡ m.both) × ((rest : List ℕ) × (payload_of m.body ≡ e.body ++ rest)) × IsReadAs now e m.body
+    (e.head ≡ m.head) × (e.both ≡ m.both) × ((rest : List ℕ) × (payload_of m.body ≡ e.body ++ rest))
+    × IsReadAs now e m.body
 AreOf now (e ∷ []) (m ∷ n ∷ more) = ⊥
 AreOf now (e ∷ f ∷ later) (m ∷ more) =
-    (e.head ≡ m.head) × (e.both ≡ m.both) × ((used : ℕ) × (m.body ≡ whole e.body used)) × IsReadAs now e m.body × AreOf now (f ∷ later) more
+    (e.head ≡ m.head) × (e.both ≡ m.both) × ((used : ℕ) × (m.body ≡ whole e.body used))
+    × IsReadAs now e m.body × AreOf now (f ∷ later) more
 
 -- the bytes are the replies in order: each whole, but the last perhaps cut
 abbrev pub AreReplies : List ℕ → List Entry → Type 0
@@ -47,7 +41,8 @@ AreReplies since [] = since ≡ []
 AreReplies since (e ∷ []) =
     ((rest : List ℕ) × (render e ≡ since ++ rest)) × (e.written ≡ min (length since) (2 ^ 64 - 1))
 AreReplies since (e ∷ f ∷ more) =
-    (rest : List ℕ) × (since ≡ render e ++ rest) × (e.written ≡ min (length (render e)) (2 ^ 64 - 1)) × AreReplies rest (f ∷ more)
+    (rest : List ℕ) × (since ≡ render e ++ rest)
+    × (e.written ≡ min (length (render e)) (2 ^ 64 - 1)) × AreReplies rest (f ∷ more)
 
 -- each exchange but the last is done, and its reply flushed
 abbrev pub AreDone : (ℕ → Type 0) → ℕ → List Entry → Type 0
@@ -58,8 +53,10 @@ AreDone flushed total (e ∷ f ∷ more) =
 
 -- The transcript of a connection whose link had the state `before` when it was made agrees with
 -- what the link gave and took since. A link that doesn't tell its bytes is told nothing of.
-pub record Agrees (gives : Given → Reply → Type 0) (limit : Option ℕ) (before now : LinkState) (transcript : List Entry) : Type 0 where
-  pub read : IfTold before.given now.given (λ since. (requests : List Message) × Begins since requests × AreOf now transcript requests)
+pub record Agrees (gives : Given → Reply → Type 0) (limit : Option ℕ) (before now : LinkState)
+    (transcript : List Entry) : Type 0 where
+  pub read : IfTold before.given now.given (λ since. (requests : List Message)
+      × Begins since requests × AreOf now transcript requests)
   pub allowed : AllByRecursion (IsAllowed gives) transcript
   pub begun : AreBegun limit 0 false transcript
   pub written : IfTold before.written now.written (λ since. AreReplies since transcript)

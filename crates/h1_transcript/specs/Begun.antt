@@ -1,7 +1,6 @@
 -- What each exchange begins with (RFC 9112, section 9.3).
 use Rattle.std.specs.Prelude.{◌≡◌, ℕ, ◌+◌, ◌-◌, List, [], ◌∷◌, length, Bool, true, false, Option, Some, None}
-use Rattle.h1_server.specs.declared.settings.Settings.{Settings}
-use Rattle.h1_transcript.specs.declared.transcript.Entry.{Entry}
+use Rattle.h1_transcript.specs.Words.{Settings, Entry}
 
 -- how many requests more may follow the one with this index, under this limit
 abbrev pub reuses_at : Option ℕ → ℕ → Option ℕ
@@ -14,7 +13,8 @@ pipelining_behind first [] = first
 pipelining_behind first (e ∷ more) = pipelining_behind e.left.pipelining more
 
 -- the settings that the exchange with this index begins with
-pub record IsSetFor (limit : Option ℕ) (i : ℕ) (pipelining : Bool) (settings : Settings) : Type 0 where
+pub record IsSetFor (limit : Option ℕ) (i : ℕ) (pipelining : Bool)
+    (settings : Settings) : Type 0 where
   pub closing : settings.closing ≡ true
   pub pipelining_is : settings.pipelining ≡ pipelining
   pub reuses : settings.reuses ≡ reuses_at limit i

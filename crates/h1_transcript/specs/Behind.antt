@@ -1,18 +1,9 @@
 -- What stands after the exchanges of a connection that ended: their requests were read, each whole,
 -- and their replies were written, each whole and flushed (RFC 9112, section 9.3).
 use Rattle.std.specs.Prelude.{◌≡◌, ℕ, ◌+◌, ◌-◌, ◌^◌, ◌<◌, List, [], ◌∷◌, ◌++◌, length, drop, min, Bool, true, false, Option, Some, None, IfSome, IsSome}
-use Rattle.h1_link.specs.LinkState.{LinkState}
+use Rattle.h1_transcript.specs.Words.{LinkState, ResponseView, HeadAt, Body, whole, framing, out, Framing, Counted, Chunked, UntilClose, Entry, How, Open, Whole, Failed}
 use Rattle.h1_link.specs.Counts.{RoseBy}
-use Rattle.h1_head.specs.Views.{ResponseView}
-use Rattle.h1_head.specs.RequestHead.{HeadAt}
-use Rattle.h1_body.specs.Body.{Body, whole}
-use Rattle.h1_body.specs.Framing.{framing, out}
 use Rattle.h1_body.specs.Reader as reader
-use Rattle.h1_body.specs.declared.framing.Framing.{Framing}
-use Rattle.h1_body.specs.declared.framing.Framing.TheVariants.{Counted, Chunked, UntilClose}
-use Rattle.h1_transcript.specs.declared.transcript.Entry.{Entry}
-use Rattle.h1_transcript.specs.declared.transcript.How.{How}
-use Rattle.h1_transcript.specs.declared.transcript.How.TheVariants.{Open, Whole, Failed}
 use Rattle.h1_transcript.specs.Exchange.{render, is_short}
 
 -- fewer bytes than the request states as its body's length

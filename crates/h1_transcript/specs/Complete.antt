@@ -1,15 +1,8 @@
 -- Valid input, and what a connection makes of it (RFC 9112, section 9.3.2).
 use Rattle.std.specs.Prelude.{◌≡◌, ◌≢◌, ℕ, ◌≤◌, List, [], ◌∷◌, ◌++◌, true, false, Option, Some, None, IfSome}
-use Rattle.std.specs.List.{AllByRecursion}
-use Rattle.h1_error.specs.declared.error.ErrorType.TheVariants.{ReadError, NoMemory}
-use Rattle.h1_error.specs.declared.progress.End.{End}
+use Rattle.h1_transcript.specs.Words.{AllByRecursion, ReadError, End, Rose, LinkState, wish, payload_of, Entry, Whole}
+use Rattle.h1_error.specs.declared.error.ErrorType.TheVariants.{NoMemory}
 use Rattle.h1_error.specs.declared.progress.End.TheVariants as end
-use Rattle.h1_link.specs.Counts.{Rose}
-use Rattle.h1_link.specs.LinkState.{LinkState}
-use Rattle.h1_head.specs.Wish.{wish}
-use Rattle.h1_body.specs.Body.{payload_of}
-use Rattle.h1_transcript.specs.declared.transcript.Entry.{Entry}
-use Rattle.h1_transcript.specs.declared.transcript.How.TheVariants.{Whole}
 use Rattle.h1_transcript.specs.Behind.{is_until_close}
 use Rattle.h1_transcript.specs.Ends.{AreAllDone}
 use Rattle.h1_transcript.specs.Exchange.{is_short}
@@ -37,7 +30,8 @@ pub record GaveOf (input : List ℕ) (before now : LinkState) : Type 0 where
 -- The application keeps the connection: it reads the body to its end and leaves keep-alive and
 -- pipelining on, its reply has a length and all of it, and no read of the body failed.
 pub record KeepsOn (e : Entry) : Type 0 where
-  pub replied : IfSome e.reply (λ reply. (e.how ≡ Whole) × (e.left.keep_off ≡ false) × (e.left.pipelining ≡ true))
+  pub replied : IfSome e.reply (λ reply. (e.how ≡ Whole) × (e.left.keep_off ≡ false)
+      × (e.left.pipelining ≡ true))
   pub long : is_short e ≡ false
   pub closes : is_until_close e ≡ false
   pub unfailed : IfSome e.body_error (λ error. error.kind ≢ ReadError)
@@ -60,8 +54,15 @@ AreServed (e ∷ later) [] = ⊥
 AreServed (e ∷ later) (m ∷ more) =
     (e.head ≡ m.head) × (e.both ≡ m.both) × (e.body ≡ payload_of m.body) × AreServed later more
 
+-- memory ran out
+abbrev pub IsOutOfMemory : End → Type 0
+IsOutOfMemory (end.Failed error) = error.kind ≡ NoMemory
+IsOutOfMemory _ = ⊥
+
 -- every request is served and every reply complete, or there was no memory
-abbrev pub ServesAll : LinkState → LinkState → List Message → List Entry → Option Entry → End → Type 0
-ServesAll before now requests done last end.Finished = AreAllDone before now done last × AreServed done requests
+abbrev pub ServesAll : LinkState → LinkState → List Message → List Entry → Option Entry → End
+    → Type 0
+ServesAll before now requests done last end.Finished =
+    AreAllDone before now done last × AreServed done requests
 ServesAll before now requests done last (end.Failed error) = error.kind ≡ NoMemory
 ServesAll before now requests done last _ = ⊥

@@ -1,17 +1,8 @@
 -- When a connection ends, and how its exchanges stand then (RFC 9112, section 9.3).
 use Rattle.std.specs.Prelude.{◌≡◌, ◌≢◌, ℕ, ◌+◌, ◌<◌, ◌⊎◌, List, [], ◌∷◌, ◌++◌, length, drop, true, false, Option, Some, None}
-use Rattle.h1_error.specs.declared.error.Error.{Error}
-use Rattle.h1_error.specs.declared.error.ErrorType.{ErrorType}
+use Rattle.h1_transcript.specs.Words.{Error, ErrorType, End, LinkState, Rose, HeadAt, Body, unfinished, broken, body, framing, Entry}
 use Rattle.h1_error.specs.declared.error.ErrorType.TheVariants as kind
-use Rattle.h1_error.specs.declared.progress.End.{End}
 use Rattle.h1_error.specs.declared.progress.End.TheVariants as end
-use Rattle.h1_link.specs.LinkState.{LinkState}
-use Rattle.h1_link.specs.Counts.{Rose}
-use Rattle.h1_head.specs.RequestHead.{HeadAt}
-use Rattle.h1_body.specs.Body.{Body, unfinished, broken}
-use Rattle.h1_body.specs.Reader.{body}
-use Rattle.h1_body.specs.Framing.{framing}
-use Rattle.h1_transcript.specs.declared.transcript.Entry.{Entry}
 use Rattle.h1_transcript.specs.Stream.{Tail, empty, begun, refused, EndsAs}
 use Rattle.h1_transcript.specs.Behind.{WroteBehind, AfterRead, DoneBehind, FlushedBy, written_of, is_until_close}
 use Rattle.h1_transcript.specs.Exchange.{render, is_short}
@@ -42,7 +33,8 @@ pub record IsComplete (before now : LinkState) (done : List Entry) (e : Entry) :
 
 -- every exchange is over: all replies were written whole and flushed, and the connection was kept
 -- after each of them
-pub record AreAllDone (before now : LinkState) (done : List Entry) (last : Option Entry) : Type 0 where
+pub record AreAllDone (before now : LinkState) (done : List Entry)
+    (last : Option Entry) : Type 0 where
   pub none : last ≡ None
   pub written : IfTold before.written now.written (λ since. WroteBehind since done [])
   pub flushed : DoneBehind (FlushedBy before now) 0 done
@@ -69,7 +61,8 @@ pub record IsWrittenShort (before now : LinkState) (done : List Entry) (e : Entr
   pub written : IfTold before.written now.written (λ since. WroteBehind since done (render e))
 
 -- an error of the request's body ends the connection once the reply is written
-pub record EndsBody (before now : LinkState) (done : List Entry) (e : Entry) (error : Error) : Type 0 where
+pub record EndsBody (before now : LinkState) (done : List Entry) (e : Entry)
+    (error : Error) : Type 0 where
   pub is : e.body_error ≡ Some error
   pub replied : IsComplete before now done e ⊎ IsWrittenShort before now done e
 
@@ -84,26 +77,34 @@ OfLast None P = ⊥
 OfLast (Some e) P = P e
 
 -- when a connection fails with an error of this kind; `done` are the exchanges before the last
-abbrev pub FailureCause : LinkState → LinkState → LinkState → List Entry → Option Entry → Error → ErrorType → Type 0
+abbrev pub FailureCause : LinkState → LinkState → LinkState → List Entry → Option Entry → Error
+    → ErrorType → Type 0
 FailureCause before old now done last error (kind.InvalidHTTPHeader fault) =
-    AreAllDone before now done last × IfTold before.given now.given (λ since. ReadAll since done (refused fault))
+    AreAllDone before now done last
+    × IfTold before.given now.given (λ since. ReadAll since done (refused fault))
 FailureCause before old now done last error kind.ConnectionClosed = (now.ended ≡ true)
-    × ((AreAllDone before now done last × IfTold before.given now.given (λ since. ReadAll since done begun))
-    ⊎ OfLast last (λ e. StopsLast before now done e error (Unit {0}) × IfTold before.given now.given (λ since. LastAfter since done e (unfinished e.body))))
+    × ((AreAllDone before now done last
+    × IfTold before.given now.given (λ since. ReadAll since done begun))
+    ⊎ OfLast last (λ e. StopsLast before now done e error (Unit {0})
+    × IfTold before.given now.given (λ since. LastAfter since done e (unfinished e.body))))
 FailureCause before old now done last error kind.InvalidBody =
-    OfLast last (λ e. StopsLast before now done e error (Unit {0}) × IfTold before.given now.given (λ since. LastAfter since done e (broken e.body)))
+    OfLast last (λ e. StopsLast before now done e error (Unit {0})
+    × IfTold before.given now.given (λ since. LastAfter since done e (broken e.body)))
 FailureCause before old now done last error kind.ReadError =
     ((last ≡ None) × Rose old.read_faults now.read_faults × LacksSo before now done None)
-    ⊎ OfLast last (λ e. StopsLast before now done e error (Rose old.read_faults now.read_faults) × IfTold before.given now.given (λ since. LastAfter since done e (unfinished e.body)))
+    ⊎ OfLast last (λ e. StopsLast before now done e error (Rose old.read_faults now.read_faults)
+    × IfTold before.given now.given (λ since. LastAfter since done e (unfinished e.body)))
 FailureCause before old now done last error kind.WriteError = Rose old.write_faults now.write_faults
 FailureCause before old now done last error kind.PrematureBodyEnd =
     OfLast last (λ e. IsWrittenShort before now done e × (e.body_error ≡ None))
 FailureCause before old now done last error kind.NoMemory = Unit {0}
 FailureCause before old now done last error _ = ⊥
 
--- when a connection ends; `old` is the link's state before the poll that gave the end
+-- When a connection ends; `old` is the link's state before the poll that gave the end. An error
+-- isn't for a retry.
 abbrev pub EndCause : LinkState → LinkState → LinkState → List Entry → Option Entry → End → Type 0
-EndCause before old now done last end.Finished = AreAllDone before now done last × (now.ended ≡ true)
+EndCause before old now done last end.Finished =
+    AreAllDone before now done last × (now.ended ≡ true)
     × IfTold before.given now.given (λ since. ReadAll since done empty)
 EndCause before old now done last end.NotKept =
     OfLast last (λ e. IsComplete before now done e × (is_short e ≡ false) × (e.body_error ≡ None)
@@ -111,4 +112,5 @@ EndCause before old now done last end.NotKept =
 EndCause before old now done last end.Overread =
     OfLast last (λ e. IsDone before now done e × (e.left.pipelining ≡ false)
     × IfTold before.given now.given (AfterRead (done ++ e ∷ []) (λ rest. 0 < length rest)))
-EndCause before old now done last (end.Failed error) = FailureCause before old now done last error error.kind
+EndCause before old now done last (end.Failed error) =
+    (error.retry ≡ false) × FailureCause before old now done last error error.kind

@@ -1,8 +1,7 @@
 -- The exchanges of a transcript, and how many of them have a reply.
 use Rattle.std.specs.Prelude.{ℕ, List, [], ◌++◌, option_to_list, Option, Some, None, ◌+◌, ◌∷◌}
-use Rattle.h1_transcript.specs.declared.transcript.Entry.{Entry}
+use Rattle.h1_transcript.specs.Words.{Entry, Reply}
 use Rattle.h1_transcript.specs.declared.transcript.Transcript.{Transcript}
-use Rattle.h1_transcript.specs.declared.reply.Reply.{Reply}
 
 -- the transcript as it is kept
 abbrev pub transcript_entries : Transcript → List Entry

@@ -1,19 +1,10 @@
 -- One exchange: a request, what the application read of it, its reply and what was written.
 use Rattle.std.specs.Prelude.{◌/◌, ◌≡◌, ℕ, ◌<◌, ◌≤◌, List, [], ◌∷◌, ◌++◌, length, take, Bool, true, false, ◌&&◌, not, nat_lt, Option, Some, None, IfSome, IsSome}
 use Rattle.h1_error.specs.declared.moment.TheConstants.{YEAR_10000}
-use Rattle.h1_head.specs.Views.{RequestView, ResponseView}
-use Rattle.h1_head.specs.Wish.{wish}
+use Rattle.h1_transcript.specs.Words.{RequestView, ResponseView, wish, Framing, Counted, Chunked, UntilClose, out, has_reuses, Reply, Entry, How, Open, Whole, Failed}
 use Rattle.h1_head.specs.Wire.{head_bytes, reply_head}
 use Rattle.h1_head.specs.Date.{IsDateAt}
-use Rattle.h1_body.specs.declared.framing.Framing.{Framing}
-use Rattle.h1_body.specs.declared.framing.Framing.TheVariants.{Counted, Chunked, UntilClose}
 use Rattle.h1_body.specs.Writer.{body_bytes}
-use Rattle.h1_body.specs.Framing.{out}
-use Rattle.h1_server.specs.Persistence.{has_reuses}
-use Rattle.h1_transcript.specs.declared.reply.Reply.{Reply}
-use Rattle.h1_transcript.specs.declared.transcript.Entry.{Entry}
-use Rattle.h1_transcript.specs.declared.transcript.How.{How}
-use Rattle.h1_transcript.specs.declared.transcript.How.TheVariants.{Open, Whole, Failed}
 use Rattle.h1_transcript.specs.Given.{Given}
 use Rattle.h1_transcript.specs.Lawful.{IsLawful}
 
@@ -31,7 +22,8 @@ render_body framing reply None = []
 render_body framing reply (Some sent) = body_bytes framing (shown reply sent)
 
 -- the bytes of a reply: its head with the date and the flag, and its body
-abbrev pub render_parts : List ℕ → Option Reply → Option (List ℕ) → List ℕ → Bool → Option ResponseView → List ℕ
+abbrev pub render_parts : List ℕ → Option Reply → Option (List ℕ) → List ℕ → Bool
+    → Option ResponseView → List ℕ
 render_parts method reply sent date keep None = []
 render_parts method reply sent date keep (Some head) =
     head_bytes (reply_head head date keep) ++ render_body (out method head) reply sent
@@ -55,15 +47,24 @@ is_short e = short_of e.sent_head e.sent_body where
 -- The flag of a reply (RFC 9112, section 9.3): the request wishes it, keep-alive is not off, requests
 -- are left, and the request's body is whole, or it may still be read.
 abbrev pub may_keep : Entry → Bool
-may_keep e = wish e.head e.both && not e.left.keep_off && has_reuses e.left.reuses && may_follow e.how where
-  may_follow : How → Bool
-  may_follow Whole = true
-  may_follow Open = not e.left.closing
-  may_follow Failed = false
+may_keep e =
+    wish e.head e.both && not e.left.keep_off && has_reuses e.left.reuses && may_follow e.how where
+      may_follow : How → Bool
+      may_follow Whole = true
+      may_follow Open = not e.left.closing
+      may_follow Failed = false
 
 -- what the application was given when it replied: the payload that it was handed, and no more
 abbrev pub given_to : Entry → RequestView → Given
-given_to e filtered = record { head = filtered; handed = take e.handed e.body; how = e.how; body_error = e.body_error; began = e.began; left = e.left }
+given_to e filtered =
+    record {
+      head = filtered;
+      handed = take e.handed e.body;
+      how = e.how;
+      body_error = e.body_error;
+      began = e.began;
+      left = e.left;
+    }
 
 -- the second of the Date and the flag that went with the header
 pub record IsDated (e : Entry) : Type 0 where
@@ -76,8 +77,10 @@ pub record IsDated (e : Entry) : Type 0 where
 pub record IsAllowed (gives : Given → Reply → Type 0) (e : Entry) : Type 0 where
   pub filtered : IfSome e.filtered (λ filtered. filtered ≡ e.head)
   pub reply : IfSome e.reply (λ reply. (e.filtered ≡ Some e.head) × gives (given_to e e.head) reply)
-  pub sent_head : IfSome e.sent_head (λ header. (reply : Reply) × (e.reply ≡ Some reply) × (header ≡ reply.header) × IsLawful header × IsDated e)
-  pub sent_body : IfSome e.sent_body (λ sent. (reply : Reply) × (e.reply ≡ Some reply) × (sent ≡ reply.body))
+  pub sent_head : IfSome e.sent_head (λ header. (reply : Reply) × (e.reply ≡ Some reply)
+      × (header ≡ reply.header) × IsLawful header × IsDated e)
+  pub sent_body : IfSome e.sent_body (λ sent. (reply : Reply) × (e.reply ≡ Some reply)
+      × (sent ≡ reply.body))
   pub handed : e.handed ≤ length e.body
   pub reuses : e.left.reuses ≡ e.began.reuses
   pub owed : e.owed ≡ true → IsSome e.sent_head

@@ -1,9 +1,6 @@
 -- What a reply depends on.
 use Rattle.std.specs.Prelude.{ℕ, List, Option}
-use Rattle.h1_error.specs.declared.error.Error.{Error}
-use Rattle.h1_head.specs.Views.{RequestView}
-use Rattle.h1_server.specs.declared.settings.Settings.{Settings}
-use Rattle.h1_transcript.specs.declared.transcript.How.{How}
+use Rattle.h1_transcript.specs.Words.{Error, RequestView, Settings, How}
 
 -- what a reply depends on
 pub record Given : Type 0 where

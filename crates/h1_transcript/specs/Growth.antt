@@ -1,13 +1,6 @@
 -- How a transcript grows in a poll.
 use Rattle.std.specs.Prelude.{◌≡◌, ℕ, ◌/◌, ◌≤◌, List, [], ◌∷◌, ◌++◌, Bool, Option, Some, None, IfSome}
-use Rattle.std.specs.List.{AllByRecursion}
-use Rattle.h1_error.specs.declared.error.Error.{Error}
-use Rattle.h1_error.specs.declared.error.ErrorType.TheVariants.{ReadError}
-use Rattle.h1_link.specs.LinkState.{LinkState}
-use Rattle.h1_link.specs.Counts.{Rose}
-use Rattle.h1_head.specs.Views.{ResponseView}
-use Rattle.h1_transcript.specs.declared.reply.Reply.{Reply}
-use Rattle.h1_transcript.specs.declared.transcript.Entry.{Entry}
+use Rattle.h1_transcript.specs.Words.{AllByRecursion, Error, ReadError, LinkState, Rose, ResponseView, Reply, Entry}
 
 -- a value that is there stays
 abbrev pub Stays : {T : Type 0} → Option T → Option T → Type 0
@@ -24,7 +17,8 @@ DatedAt now (Some header) old new =
 -- after the reply, what the application gave it for stays
 abbrev pub RepliedOn : Option Reply → Entry → Entry → Type 0
 RepliedOn None old new = Unit {0}
-RepliedOn (Some reply) old new = (new.how ≡ old.how) × (new.left ≡ old.left) × (new.handed ≡ old.handed)
+RepliedOn (Some reply) old new =
+    (new.how ≡ old.how) × (new.left ≡ old.left) × (new.handed ≡ old.handed)
 
 -- a body is refused for a failed read only where a read failed between these states of the link
 abbrev pub RefusedIn : LinkState → LinkState → Option Error → Option Error → Type 0
@@ -51,7 +45,8 @@ pub record Grows (now : ℕ) (before behind : LinkState) (old new : Entry) : Typ
 
 -- An exchange that began at this moment, with these states of the link around: keep-alive is off
 -- where the connection shuts down.
-pub record IsBegun (now : ℕ) (shutdown : Bool) (before behind : LinkState) (new : Entry) : Type 0 where
+pub record IsBegun (now : ℕ) (shutdown : Bool) (before behind : LinkState)
+    (new : Entry) : Type 0 where
   pub keep_off : new.began.keep_off ≡ shutdown
   pub dated : IfSome new.sent_head (λ header. new.date ≡ now / 1000)
   pub refused : RefusedIn before behind None new.body_error

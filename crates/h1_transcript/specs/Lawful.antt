@@ -1,12 +1,11 @@
 -- Which replies are lawful (RFC 9112, sections 2.3, 4, 6.2 and 6.3).
 use Rattle.std.specs.Prelude.{◌≡◌, ℕ, ◌≤◌, ◌⊎◌, List, [], ◌∷◌, true, false, ◌||◌, codes}
-use Rattle.h1_head.specs.Views.{ResponseView}
+use Rattle.h1_transcript.specs.Words.{ResponseView, Reply}
 use Rattle.h1_fields.specs.Lines.{has_line, values_of}
 use Rattle.h1_fields.specs.Codings.{has_coding_line, is_chunked_last}
 use Rattle.h1_fields.specs.ContentLength.{content_length}
 use Rattle.h1_fields.specs.declared.content_length.ContentLength.TheVariants.{Number}
 use Rattle.h1_head.specs.Versions.{is_http_10, is_http_11}
-use Rattle.h1_transcript.specs.declared.reply.Reply.{Reply}
 use Rattle.h1_transcript.specs.Given.{Given}
 
 -- One Content-Length line, which reads as one number.

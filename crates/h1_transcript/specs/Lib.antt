@@ -1,12 +1,15 @@
 pub mod Given
 pub mod Lawful
 pub mod Told
+pub mod BodyErrors
 pub mod Ends
 pub mod Entries
 pub mod Stream
 pub mod Exchange
 pub mod Behind
+pub mod Alone
 pub mod Begun
 pub mod Agrees
 pub mod Growth
 pub mod Complete
+pub mod Words

@@ -1,11 +1,7 @@
 -- The requests in a stream of bytes, one after the other (RFC 9112, sections 2.2, 6 and 9.3).
 use Rattle.std.specs.Prelude.{◌≡◌, ℕ, ◌<◌, List, [], ◌∷◌, length, drop, Bool}
-use Rattle.h1_error.specs.declared.head_fault.HeadFault.{HeadFault}
-use Rattle.h1_head.specs.Views.{RequestView}
-use Rattle.h1_head.specs.RequestHead.{HeadAt, RefusedAt, NotYetAt}
-use Rattle.h1_body.specs.Body.{Body, whole, unfinished, broken}
-use Rattle.h1_body.specs.Reader.{body}
-use Rattle.h1_body.specs.Framing.{framing}
+use Rattle.h1_transcript.specs.Words.{HeadFault, RequestView, HeadAt, RefusedAt, Body, whole, unfinished, broken, body, framing}
+use Rattle.h1_head.specs.RequestHead.{NotYetAt}
 
 -- a request in a stream: its head, whether Content-Length stood beside Transfer-Encoding, its body
 pub record Message : Type 0 where
@@ -48,4 +44,5 @@ abbrev pub Parses : List ℕ → List Message → Tail → Type 0
 Parses bytes [] tail = EndsAs bytes tail
 Parses bytes (m ∷ more) tail =
     (n : ℕ) × HeadAt bytes n m.head m.both × (body (framing m.head) (drop n bytes) ≡ m.body)
-    × BehindBody m.body (λ k. Parses (drop k (drop n bytes)) more tail) ((more ≡ []) × (tail ≡ stuck))
+    × BehindBody m.body (λ k. Parses (drop k (drop n bytes)) more tail) ((more ≡ [])
+    × (tail ≡ stuck))

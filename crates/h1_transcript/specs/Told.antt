@@ -8,7 +8,8 @@ IfTold (Some before) None P = Unit {0}
 IfTold None now P = Unit {0}
 
 -- where the link tells its bytes, so many more were given and written
-abbrev pub ToldGrowth : Option (List ℕ) → Option (List ℕ) → Option (List ℕ) → Option (List ℕ) → ℕ → Type 0
+abbrev pub ToldGrowth : Option (List ℕ) → Option (List ℕ) → Option (List ℕ) → Option (List ℕ) → ℕ
+    → Type 0
 ToldGrowth (Some given) (Some more) (Some written) (Some further) count =
     length given + length written + count ≤ length more + length further
 ToldGrowth given more written further count = Unit {0}

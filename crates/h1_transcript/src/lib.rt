@@ -5,8 +5,10 @@
 //! ends.
 #![tactic(auto)]
 
+mod laws;
 mod reply;
 mod transcript;
 
+pub use laws::the_last_exchange_is_replied_to;
 pub use reply::Reply;
 pub use transcript::{Entry, How, Transcript};

@@ -1,6 +1,6 @@
 //! What a connection read and wrote, exchange by exchange.
 ghost use Rattle.std.specs.Prelude.{◌≡◌, ◌<◌, ◌++◌, [], None, IsSome, OnOk, OnErr, IfErr, length, slice_get, option_to_list};
-ghost use Rattle.h1_error.specs.declared.error.ErrorType.TheVariants.{NoMemory};
+ghost use Rattle.h1_error.specs.Memory.{no_memory};
 ghost use Rattle.std.specs.Option.{option_copied};
 
 use crate::Reply;
@@ -84,9 +84,12 @@ impl Transcript {
     /// The last exchange joins those that ended.
     pub fn end_last(&mut self) -> Result<(), Error>
         requires { IsSome self.old.last }
-        ensures ok { OnOk result ((self.new.done.items ≡ self.old.done.items ++ option_to_list self.old.last) × (self.new.last ≡ None)) }
-        ensures err { OnErr result ((self.new.done.items ≡ self.old.done.items) × (self.new.last ≡ self.old.last)) }
-        ensures memory { IfErr result (λ error. error.kind ≡ NoMemory) }
+        ensures ok { OnOk result
+            ((self.new.done.items ≡ self.old.done.items ++ option_to_list self.old.last)
+            × (self.new.last ≡ None)) }
+        ensures err { OnErr result ((self.new.done.items ≡ self.old.done.items)
+            × (self.new.last ≡ self.old.last)) }
+        ensures memory { IfErr result (λ error. error ≡ no_memory) }
     {
         let Some(entry) = self.last.take() else {
             unreachable!()

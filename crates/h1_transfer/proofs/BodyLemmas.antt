@@ -1,28 +1,19 @@
 -- Lemmas on reads of a part of a body, one after the other.
-use Rattle.std.proofs.Common.{◌≡◌, ℕ, ◌+◌, ◌-◌, ◌*◌, ◌<◌, ◌≤◌, inl, inr, List, [], ◌∷◌, ◌++◌, length, Option, Some, None, option_map, refl, sym, ap, ◌∙◌, append-nil, append_assoc, length-append, arith, true}
-use Rattle.h1_link.specs.LinkState.{LinkState}
+use Rattle.std.proofs.Common.{◌≡◌, ℕ, ◌+◌, ◌-◌, ◌*◌, ◌<◌, ◌≤◌, inl, inr, List, [], ◌∷◌, ◌++◌, length, Option, Some, None, option_map, refl, sym, ap, ◌∙◌, append-nil, append_assoc, length-append, arith, Ok}
+use Rattle.h1_transfer.specs.Words.{LinkState, Body, whole, unfinished, broken, ahead, stop_of, FeedState, reads, BodyReader, Filled, Taken}
 use Rattle.std.proofs.lemmas.Bool.{cases_lt}
 use Rattle.std.proofs.Math.Seq.{take-nil}
-use Rattle.h1_link.specs.Later.{Later}
-use Rattle.h1_link.proofs.Laters.{later_itself, rose_read_faults}
-use Rattle.h1_body.specs.Body.{Body, whole, unfinished, broken, ahead, payload_of, stop_of}
+use Rattle.h1_body.specs.Body.{payload_of}
 use Rattle.h1_body.specs.Chunks.{state_of}
-use Rattle.h1_body.specs.declared.fed.FeedState.{FeedState}
 use Rattle.h1_body.specs.declared.fed.FeedState.TheVariants.{More, Done, Broken}
 use Rattle.h1_body.specs.declared.reader.Reading.{Reading}
 use Rattle.h1_body.specs.declared.reader.Reading.TheVariants as reading
 use Rattle.h1_body.proofs.CountedLemmas.{counted_has, counted_lacks}
-use Rattle.h1_body.specs.Reader.{reads, read_as}
-use Rattle.h1_body.specs.declared.reader.BodyReader.{BodyReader}
+use Rattle.h1_body.specs.Reader.{read_as}
 use Rattle.h1_body.proofs.RunLemmas.{ahead-ahead, ahead_none}
-use Rattle.h1_transfer.specs.Decoding.{Decoded, ReadsBody, BodyCause, IsStopOf, IsUnfinished, Lacks}
-use Rattle.h1_transfer.specs.Decoding as decoded
-use Rattle.h1_transfer.specs.declared.reading_body.BodyRead.{BodyRead}
-use Rattle.h1_transfer.specs.declared.reading_body.BodyRead.TheVariants as b
-use Rattle.h1_transfer.specs.Taking.{Uses}
-use Rattle.h1_transfer.specs.Receiving.{FillsBy, cost}
-use Rattle.h1_transfer.specs.Calls.{Called, is_part, fault_of_read, no_fault}
-use Rattle.h1_transfer.specs.declared.receiving.Filled.{Filled}
+use Rattle.h1_transfer.proofs.Words.{ReadsBody, IsUnfinished, FillsBy, cost}
+use Rattle.h1_transfer.specs.Decoding.{Decoded, Lacks}
+use Rattle.h1_transfer.specs.Taking.{TakesBody, taken_payload}
 use Rattle.h1_transfer.proofs.MovedLemmas.{moved_itself, moved_on}
 
 decoded_none : (reader : BodyReader) → Decoded reader reader [] []
@@ -70,20 +61,27 @@ reads_body_itself s received reader kept budget = record {
 }
 
 -- nothing but received bytes is used next
-pub reads_body_uses : (a b : LinkState) (x y z : List ℕ) (r s t : BodyReader) (k l m : Option (List ℕ)) (budget left : ℕ) (payload : List ℕ)
-    → ReadsBody a b x y r s k l budget left [] → Uses y z s t l m payload
-    → ReadsBody a b x z r t k m budget left payload
-reads_body_uses a b x y z r s t k l m budget left payload before uses = record {
-  piece = before.piece;
-  used = before.used ++ uses.used;
-  moved = before.moved;
-  within = before.within;
-  flushed = before.flushed;
-  bytes = ap (λ bytes. x ++ bytes) (sym (append-nil before.piece))
-      ∙ bytes_on x y z before.piece [] before.used uses.used before.bytes (append-nil y ∙ uses.bytes);
-  decoded = decoded_on r s t before.used uses.used [] payload before.decoded uses.decoded;
-  keeps_payload = kept_on k l m [] payload before.keeps_payload uses.keeps_payload;
-}
+pub reads_body_took : {a b : LinkState} {x y z : List ℕ} {r s t : BodyReader}
+    {k l m : Option (List ℕ)} {budget left : ℕ} {taken which : Taken}
+    → ReadsBody a b x y r s k l budget left [] → taken ≡ which → TakesBody y z s t l m (Ok taken)
+    → ReadsBody a b x z r t k m budget left (taken_payload which)
+reads_body_took {a} {b} {x} {y} {z} {r} {s} {t} {k} {l} {m} {budget} {left} {taken}
+    {which} before is takes =
+    let uses = (rw is at takes).0 in
+    record {
+      piece = before.piece;
+      used = before.used ++ uses.used;
+      moved = before.moved;
+      within = before.within;
+      flushed = before.flushed;
+      bytes = ap (λ bytes. x ++ bytes) (sym (append-nil before.piece))
+          ∙ bytes_on x y z before.piece [] before.used uses.used before.bytes
+          (append-nil y ∙ uses.bytes);
+      decoded = decoded_on r s t before.used uses.used [] (taken_payload which) before.decoded
+          uses.decoded;
+      keeps_payload = kept_on k l m [] (taken_payload which) before.keeps_payload
+          uses.keeps_payload;
+    }
 
 -- one read more, of which nothing is used yet
 pub reads_body_fills : (a b c : LinkState) (x y z : List ℕ) (r s : BodyReader) (k l : Option (List ℕ)) (budget left : ℕ) (filled : Filled)
@@ -146,10 +144,6 @@ parsed_behind a b x y r s k l budget between left payload read before after less
       (unfinished_is (reads s y) (after (omega (arith, less, none))))
 ]
 
--- what is received stays empty where a read gives nothing
-pub stays_empty : (y z piece : List ℕ) → y ≡ [] → piece ≡ [] → z ≡ y ++ piece → z ≡ []
-stays_empty y z piece none nothing is = cc
-
 -- one reading after another
 pub reads_body_on : (a b c : LinkState) (x y z : List ℕ) (r s t : BodyReader) (k l m : Option (List ℕ)) (budget between left : ℕ) (payload later : List ℕ)
     → ReadsBody a b x y r s k l budget between payload → ReadsBody b c y z s t l m between left later
@@ -208,38 +202,3 @@ drains_less a b x y r s k l budget left payload read some bound = elim (cases_lt
       let used = uses_some r s read.used payload read.decoded some in
       omega (arith, same, read.within, bytes, used)
 ]
-
--- a reading that goes on gave payload
-pub gave_payload : (before now : LinkState) (reader : BodyReader) (received : List ℕ) (left : ℕ) (read : BodyRead)
-    → IsStopOf read None → BodyCause before now reader received (decoded.payload_of read) left read
-    → (0 < length (decoded.payload_of read)) × (now.read_waits ≡ before.read_waits)
-gave_payload before now reader received left (b.Piece bytes) stop h = h
-gave_payload before now reader received left _ stop h = absurd cc
-
--- a reading that goes on made only calls that moved bytes
-pub gave_by_moves : (before now : LinkState) (read : BodyRead) → IsStopOf read None → Called before now (is_part read) (fault_of_read read)
-    → Called before now true no_fault
-gave_by_moves before now (b.Piece bytes) stop calls = calls
-gave_by_moves before now _ stop calls = absurd cc
-
--- why a drain stops is why its last read does
-pub drained_cause : (before mid now : LinkState) (reader : BodyReader) (received : List ℕ) (left : ℕ) (read stop : BodyRead)
-    → Later before mid → mid.read_waits ≡ before.read_waits → IsStopOf read (Some stop)
-    → BodyCause mid now reader received (decoded.payload_of read) left read → BodyCause before now reader received [] left stop
-drained_cause before mid now reader received left read stop later waits is h = by read is h
-  where
-    by : (read : BodyRead) → IsStopOf read (Some stop)
-        → BodyCause mid now reader received (decoded.payload_of read) left read → BodyCause before now reader received [] left stop
-    by (b.Piece bytes) is h = absurd cc
-    by b.Done is h = let same : stop ≡ b.Done = cc in rw same (h.0, h.1 ∙ waits)
-    by b.Broken is h = let same : stop ≡ b.Broken = cc in rw same (h.0, h.1 ∙ waits)
-    by b.Cut is h = let same : stop ≡ b.Cut = cc in rw same (h.0, h.1, h.2 ∙ waits)
-    by b.NotReady is h = let same : stop ≡ b.NotReady = cc in rw same (rw waits at h.0, h.1)
-    by b.Spent is h = let same : stop ≡ b.Spent = cc in rw same h
-    by b.Failed is h = let same : stop ≡ b.Failed = cc in
-        rw same (rose_read_faults 1 before mid now now later h.0 (later_itself now), h.1, h.2 ∙ waits)
-    by b.NoMemory is h = let same : stop ≡ b.NoMemory = cc in rw same (h ∙ waits)
-
-pub stop_pays_nothing : (read stop : BodyRead) → IsStopOf read (Some stop) → decoded.payload_of read ≡ []
-stop_pays_nothing (b.Piece bytes) stop is = absurd cc
-stop_pays_nothing _ stop is = refl

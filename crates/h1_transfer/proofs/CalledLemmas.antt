@@ -1,7 +1,8 @@
 -- Lemmas on calls of a link, one after the other.
 use Rattle.std.proofs.Common.{◌≡◌, Bool, true, false, refl, ◌∙◌, arith}
-use Rattle.h1_link.specs.LinkState.{LinkState}
-use Rattle.h1_transfer.specs.Calls.{Called, CallsFew, FaultsBy, Fault, no_fault, read_fault, write_fault}
+use Rattle.h1_transfer.specs.Words.{LinkState}
+use Rattle.h1_transfer.proofs.Words.{Called, no_fault}
+use Rattle.h1_transfer.specs.Calls.{CallsFew, FaultsBy, Fault, read_fault, write_fault}
 
 pub called_itself : (s : LinkState) → Called s s true no_fault
 called_itself s = record { others = refl; faults = (refl, refl); shut = refl }

@@ -1,25 +1,16 @@
 -- Lemmas on what delivering a write leaves of a message.
 use Rattle.std.proofs.Common.{◌≡◌, ℕ, ◌+◌, ◌-◌, ◌^◌, min, List, [], ◌++◌, length, Option, Some, None, Result, Ok, Err, refl, sym, ap, ◌∙◌, length-append, arith}
-use Rattle.futures.specs.declared.task.Poll.{Poll}
-use Rattle.futures.specs.declared.task.Poll.TheVariants.{Ready, Pending}
-use Rattle.h1_error.specs.declared.error.Error.{Error}
-use Rattle.h1_error.specs.declared.error.ErrorType.{ErrorType}
+use Rattle.h1_transfer.specs.Words.{Poll, Ready, Pending, Error, ErrorType, LinkState, Delivery, Outgoing, Step, Free, Piece, Finish}
 use Rattle.h1_error.specs.declared.error.ErrorType.TheVariants as kind
-use Rattle.h1_link.specs.LinkState.{LinkState}
-use Rattle.h1_transfer.specs.Writes.{IsDone, IsRefused}
-use Rattle.h1_transfer.specs.PieceWrites.{PieceAnswer}
+use Rattle.h1_transfer.specs.Writes.{IsFree, IsRefused}
+use Rattle.h1_transfer.proofs.Words.{PieceAnswer, DeliveryAnswer, sent_after, with_count}
 use Rattle.h1_transfer.specs.EndWrites.{EndAnswer}
-use Rattle.h1_transfer.specs.Writing.{DeliveryAnswer, DeliveryRefusal, sent_after, with_count}
-use Rattle.h1_transfer.specs.declared.delivering.Delivery.{Delivery}
+use Rattle.h1_transfer.specs.Writing.{DeliveryRefusal}
 use Rattle.h1_transfer.specs.declared.delivering.Delivery.TheVariants as delivery
-use Rattle.h1_transfer.specs.declared.outgoing.Outgoing.{Outgoing}
-use Rattle.h1_transfer.specs.declared.outgoing.Step.{Step}
-use Rattle.h1_transfer.specs.declared.outgoing.Step.TheVariants.{Free, Piece, Finish}
 
 -- what stays of a message, and what is counted, whatever came of it
 pub record Delivered (old new : Outgoing) : Type 0 where
   pub headed : new.headed ≡ old.headed
-  pub keep : new.keep ≡ old.keep
   pub writer : new.writer ≡ old.writer
   pub counted : new.sent ≡ sent_after old.sent old.owed new.owed
 
@@ -28,7 +19,6 @@ delivered_parts : (old new : Outgoing) (owed : List ℕ) (step : Step) (refused 
     → new ≡ record old { owed = owed; sent = sent_after old.sent old.owed owed; step = step; refused = refused } → Delivered old new
 delivered_parts old new owed step refused is = record {
   headed = ap (λ (r : Outgoing). r.headed) is;
-  keep = ap (λ (r : Outgoing). r.keep) is;
   writer = ap (λ (r : Outgoing). r.writer) is;
   counted = ap (λ (r : Outgoing). r.sent) is ∙ ap (λ owed. sent_after old.sent old.owed owed) (sym (ap (λ (r : Outgoing). r.owed) is));
 }
@@ -62,9 +52,9 @@ refused_at before now old new step error kind.NoMemory at none h =
     (ap (λ (r : Outgoing). r.step) h.0 ∙ at, ap (λ (r : Outgoing). r.refused) h.0 ∙ none, h.1)
 refused_at before now old new step error _ at none h = absurd h
 
-pub is_done : (old new : Outgoing) (sent : ℕ) → old.refused ≡ None
-    → new ≡ record old { owed = []; sent = sent; step = Free } → IsDone new
-is_done old new sent none is = record {
+pub succeeds : (old new : Outgoing) (sent : ℕ) → old.refused ≡ None
+    → new ≡ record old { owed = []; sent = sent; step = Free } → IsFree new
+succeeds old new sent none is = record {
   owed = ap (λ (r : Outgoing). r.owed) is;
   free = ap (λ (r : Outgoing). r.step) is;
   refused = ap (λ (r : Outgoing). r.refused) is ∙ none;
@@ -73,7 +63,7 @@ is_done old new sent none is = record {
 pub piece_answer : (before now : LinkState) (old new : Outgoing) (count : Option ℕ) (left : ℕ) (outcome : Poll (Result (Unit {0}) Error))
     → old.step ≡ Piece count → old.refused ≡ None → DeliveryAnswer delivery.Sent before now old new left outcome
     → PieceAnswer before now new count left (with_count outcome count)
-piece_answer before now old new count left (Ready (Ok done)) at none h = (is_done old new _ none h.0, refl)
+piece_answer before now old new count left (Ready (Ok done)) at none h = (succeeds old new _ none h.0, refl)
 piece_answer before now old new count left Pending at none h = (
   record {
     at_step = ap (λ (r : Outgoing). r.step) h.0 ∙ at;
@@ -90,7 +80,7 @@ pub end_answer : (before now : LinkState) (first old new : Outgoing) (written le
     → DeliveryAnswer delivery.Flushed before now old new left outcome
     → EndAnswer before now first new left (with_count outcome (Some written))
 end_answer before now first old new written left (Ready (Ok done)) counts at none h =
-    (is_done old new _ none h.0, ap (λ (n : ℕ). Some n) counts, h.1)
+    (succeeds old new _ none h.0, ap (λ (n : ℕ). Some n) counts, h.1)
 end_answer before now first old new written left Pending counts at none h = record {
   at_step = ap (λ (r : Outgoing). r.step) h.0 ∙ at;
   refused = ap (λ (r : Outgoing). r.refused) h.0 ∙ none;

@@ -6,3 +6,4 @@ pub mod OptionLemmas
 pub mod DeliveryLemmas
 pub mod WriteLemmas
 pub mod PayloadLemmas
+pub mod Words

@@ -2,16 +2,12 @@
 use Rattle.std.proofs.Common.{◌≡◌, ℕ, ◌+◌, ◌-◌, ◌≤◌, ◌<◌, List, [], ◌++◌, length, take, drop, Option, refl, sym, ap, subst, ◌∙◌, append-nil, append_assoc, length-append, take-append-drop, take-take, length-take, length-drop, arith, min, ◌^◌, eqb, cond, false}
 use Rattle.std.proofs.lemmas.List.{length-take-le}
 use Rattle.std.proofs.lemmas.Bool.Decides.{nat_tests}
-use Rattle.std.specs.Io.KnownBytes.{append_known}
-use Rattle.h1_link.specs.LinkState.{LinkState}
-use Rattle.h1_link.specs.Later.{Later}
+use Rattle.h1_transfer.specs.Words.{append_known, LinkState, Later, Filled}
 use Rattle.h1_link.proofs.Laters.{append_known-nil, append_known-on, later_itself, later_on, later_write}
 use Rattle.h1_link.specs.Steps.{after_write, after_bytes, after_no_byte}
 use Rattle.h1_link.specs.declared.link.WriteStep.TheVariants as write
-use Rattle.h1_transfer.specs.Moved.{Moved, Received, Sent}
-use Rattle.h1_transfer.specs.Receiving.{FillsBy, cost}
-use Rattle.h1_transfer.specs.declared.receiving.Filled.{Filled}
-use Rattle.h1_transfer.specs.Writing.{sent_after}
+use Rattle.h1_transfer.proofs.Words.{Received, Sent, FillsBy, cost, sent_after}
+use Rattle.h1_transfer.specs.Moved.{Moved}
 
 pub moved_itself : (s : LinkState) → Moved s s [] [] 0
 moved_itself s = record {

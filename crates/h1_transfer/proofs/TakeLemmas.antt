@@ -1,14 +1,12 @@
 -- Lemmas on payload that is taken out of received bytes.
 use Rattle.std.proofs.Common.{◌≡◌, ℕ, ◌-◌, ◌≤◌, ◌<◌, List, [], ◌++◌, length, take, drop, slice_range, Option, option_map, Ok, sym, ap, ◌∙◌, subst, take-append-drop, arith, inl, inr, min, length-take, length-drop}
 use Rattle.std.proofs.lemmas.List.{length-take-le, drop_all}
-use Rattle.h1_body.specs.Body.{ahead, stop_of}
-use Rattle.h1_body.specs.Reader.{reads}
-use Rattle.h1_body.specs.Feeds.{Feeds, IsEnd}
-use Rattle.h1_body.specs.declared.reader.BodyReader.{BodyReader}
+use Rattle.h1_transfer.specs.Words.{ahead, stop_of, reads, Feeds, BodyReader, Taken}
+use Rattle.h1_body.specs.Feeds.{IsEnd}
 use Rattle.h1_body.specs.declared.fed.Fed.{Fed}
 use Rattle.h1_body.specs.declared.fed.FeedState.TheVariants as s
-use Rattle.h1_transfer.specs.Taking.{Uses, IsJudged, TakesBody}
-use Rattle.h1_transfer.specs.declared.taking.Taken.{Taken}
+use Rattle.h1_transfer.proofs.Words.{Uses}
+use Rattle.h1_transfer.specs.Taking.{IsJudged, TakesBody}
 use Rattle.h1_transfer.specs.declared.taking.Taken.TheVariants as t
 
 -- what a reader was fed with is used

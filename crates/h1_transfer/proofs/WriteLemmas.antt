@@ -1,38 +1,27 @@
 -- Lemmas on the calls that write a message.
 use Rattle.std.proofs.Common.{◌≡◌, ℕ, ◌+◌, ◌-◌, ◌^◌, min, List, [], ◌++◌, length, Bool, true, false, Option, Some, None, option_map, Result, Ok, Err, refl, sym, ap, ◌∙◌, subst, append-nil}
-use Rattle.futures.specs.declared.task.Poll.{Poll}
-use Rattle.futures.specs.declared.task.Poll.TheVariants.{Ready}
-use Rattle.h1_error.specs.declared.error.Error.{Error}
-use Rattle.h1_link.specs.LinkState.{LinkState}
-use Rattle.h1_transfer.specs.Moved.{Sent}
-use Rattle.h1_transfer.specs.TransferView.{TransferView, Settled, itself}
-use Rattle.h1_transfer.specs.Budget.{allowance}
+use Rattle.h1_transfer.specs.Words.{Poll, Ready, Error, LinkState, is_short, piece_bytes, end_bytes, EndTaken, Delivery, Step, Outgoing, Free, Piece, Finish}
+use Rattle.h1_transfer.proofs.Words.{Sent, TransferView, itself, allowance, PieceAnswer, DeliveryAnswer, with_count}
+use Rattle.h1_transfer.specs.TransferView.{Settled}
 use Rattle.h1_transfer.specs.Writes.{Writes, IsSameMessage, Delivers}
-use Rattle.h1_transfer.specs.PieceWrites.{WritesPiece, PieceAnswer}
+use Rattle.h1_transfer.specs.PieceWrites.{WritesPiece}
 use Rattle.h1_transfer.specs.BodyWrites.{IsPieceStep, piece_count}
 use Rattle.h1_transfer.specs.EndWrites.{EndCall, EndStage, starts, goes_on, falls_short, end_stage, stage_of}
 use Rattle.h1_transfer.specs.ReplyFraming.{is_begun}
-use Rattle.h1_body.specs.Writer.{is_short, piece_bytes, end_bytes}
 use Rattle.h1_transfer.specs.BodyWrites.{TakesUpPiece, TakesUpEnd}
-use Rattle.h1_transfer.specs.declared.writing_body.EndTaken.{EndTaken}
 use Rattle.h1_transfer.specs.declared.writing_body.EndTaken.TheVariants as e
-use Rattle.h1_transfer.specs.declared.delivering.Delivery.{Delivery}
 use Rattle.h1_transfer.specs.declared.delivering.Delivery.TheVariants as delivery
-use Rattle.h1_transfer.specs.declared.outgoing.Step.{Step}
-use Rattle.h1_transfer.specs.Writing.{DeliveryAnswer, with_count}
-use Rattle.h1_transfer.specs.declared.outgoing.Outgoing.{Outgoing}
-use Rattle.h1_transfer.specs.declared.outgoing.Step.TheVariants.{Free, Piece, Finish}
 use Rattle.h1_transfer.proofs.DeliveryLemmas.{Delivered, delivered, counted_sent, piece_answer, end_answer}
 
 -- a session of which one call wrote
-pub record IsWritten {L : Type 0} (state : L → LinkState) (old new : TransferView L) (taken : Outgoing) (left : ℕ) : Type 0 where
+pub record WroteTaken {L : Type 0} (state : L → LinkState) (old new : TransferView L) (taken : Outgoing) (left : ℕ) : Type 0 where
   pub sent : Sent (state old.link) (state new.link) taken.owed new.outgoing.owed (allowance old.budget) left
   pub budget : new.budget ≡ option_map (λ _. left) old.budget
   -- all else stays
   pub rest : new ≡ record old { link = new.link; outgoing = new.outgoing; budget = new.budget }
 
 pub writes : {L : Type 0} (state : L → LinkState) (old new : TransferView L) (taken : Outgoing) (left : ℕ) (taking : List ℕ)
-    → IsWritten state old new taken left → taken.owed ≡ old.outgoing.owed ++ taking → taken.sent ≡ old.outgoing.sent
+    → WroteTaken state old new taken left → taken.owed ≡ old.outgoing.owed ++ taking → taken.sent ≡ old.outgoing.sent
     → Delivered taken new.outgoing
     → Writes state itself old new taking left
 writes {L} state old new taken left taking written owes counts done =
@@ -53,7 +42,7 @@ writes {L} state old new taken left taking written owes counts done =
 -- what was taken up first, and then delivered
 pub written_by : {L : Type 0} (state : L → LinkState) (how : Delivery) (old mid new : TransferView L) (outcome : Poll (Result (Unit {0}) Error))
     → mid ≡ record old { outgoing = mid.outgoing } → (d : Delivers state how mid new outcome)
-    → IsWritten state old new mid.outgoing d.left
+    → WroteTaken state old new mid.outgoing d.left
     × DeliveryAnswer how (state old.link) (state new.link) mid.outgoing new.outgoing d.left outcome
 written_by {L} state how old mid new outcome frame d =
     let link = ap (λ (m : TransferView L). m.link) frame in
@@ -70,7 +59,6 @@ written_by {L} state how old mid new outcome frame d =
 pub same_reply : (old taken new : Outgoing) → taken ≡ old → Delivered taken new → IsSameMessage old new
 same_reply old taken new is done = record {
   headed = done.headed ∙ ap (λ (r : Outgoing). r.headed) is;
-  keep = done.keep ∙ ap (λ (r : Outgoing). r.keep) is;
   writer = done.writer ∙ ap (λ (r : Outgoing). r.writer) is;
 }
 
@@ -82,7 +70,7 @@ count_on outgoing count at = ap (λ (step : Step). piece_count (record outgoing 
 pub piece_written : {L : Type 0} (state : L → LinkState) (old new : TransferView L) (count : Option ℕ) (left : ℕ) (outcome : Poll (Result (Unit {0}) Error)) (taken : Outgoing) (piece kept : Option (List ℕ))
     → kept ≡ None → count ≡ piece_count old.outgoing piece → TakesUpPiece old.outgoing taken piece
     → IsPieceStep piece old.outgoing.step → Settled old.outgoing → old.outgoing.refused ≡ None
-    → IsWritten state old new taken left
+    → WroteTaken state old new taken left
     → DeliveryAnswer delivery.Sent (state old.link) (state new.link) taken new.outgoing left outcome
     → WritesPiece state itself old new piece kept (with_count outcome count)
 piece_written {L} state old new count left outcome taken None kept out counts same free settled unrefused written answer =
@@ -112,7 +100,6 @@ piece_written {L} state old new count left outcome taken (Some piece) kept out c
       takes = (
         refl,
         done.headed ∙ ap (λ (r : Outgoing). r.headed) is,
-        done.keep ∙ ap (λ (r : Outgoing). r.keep) is,
         done.writer ∙ ap (λ (r : Outgoing). r.writer) is,
       );
       out = out;
@@ -136,7 +123,7 @@ falls_short_at step begun short free is_begun is_short = rw (free, is_begun, is_
 pub end_written : {L : Type 0} (state : L → LinkState) (old new : TransferView L) (count left : ℕ) (outcome : Poll (Result (Unit {0}) Error)) (taken : Outgoing) (end : EndTaken)
     → (end ≡ e.Nothing → ⊥) → TakesUpEnd old.outgoing taken (Ok end) → count ≡ taken.writer.written
     → Settled old.outgoing → old.outgoing.refused ≡ None
-    → IsWritten state old new taken left
+    → WroteTaken state old new taken left
     → DeliveryAnswer delivery.Flushed (state old.link) (state new.link) taken new.outgoing left outcome
     → EndCall state itself old new (with_count outcome (Some count)) (stage_of old.outgoing)
 end_written {L} state old new count left outcome taken e.Nothing some takes counts settled unrefused written answer = absurd (some refl)
@@ -170,7 +157,6 @@ end_written {L} state old new count left outcome taken e.Starts some takes count
       takes = (
         refl,
         done.headed ∙ ap (λ (r : Outgoing). r.headed) is,
-        done.keep ∙ ap (λ (r : Outgoing). r.keep) is,
         done.writer ∙ ap (λ (r : Outgoing). r.writer) is,
       );
       answer = end_answer (state old.link) (state new.link) old.outgoing taken new.outgoing count left outcome

@@ -1,13 +1,9 @@
 -- Taking up the pieces and the end of a body (RFC 9112, sections 6 and 7).
 use Rattle.std.specs.Prelude.{◌≡◌, ℕ, ◌⊎◌, List, length, true, false, Option, Some, None, IsTrue, Result, Ok, Err, if◌then◌else◌}
-use Rattle.h1_error.specs.declared.error.Error.{Error}
+use Rattle.h1_transfer.specs.Words.{Error, piece_bytes, after_piece, end_bytes, is_short, Outgoing, Step, Free, Head, Piece, Finish, EndTaken}
 use Rattle.h1_error.specs.declared.error.ErrorType.TheVariants.{PrematureBodyEnd}
-use Rattle.h1_body.specs.Writer.{taken, piece_bytes, after_piece, end_bytes, is_short}
+use Rattle.h1_body.specs.Writer.{taken}
 use Rattle.h1_transfer.specs.ReplyFraming.{is_begun, admits}
-use Rattle.h1_transfer.specs.declared.outgoing.Outgoing.{Outgoing}
-use Rattle.h1_transfer.specs.declared.outgoing.Step.{Step}
-use Rattle.h1_transfer.specs.declared.outgoing.Step.TheVariants.{Free, Head, Piece, Finish}
-use Rattle.h1_transfer.specs.declared.writing_body.EndTaken.{EndTaken}
 use Rattle.h1_transfer.specs.declared.writing_body.EndTaken.TheVariants as e
 
 -- a piece is handed in exactly where no write is in progress, and only its own call goes on
@@ -40,7 +36,11 @@ pub record IsTakenUp (old new : Outgoing) (next : Step) : Type 0 where
 abbrev pub TakesUpPiece : Outgoing → Outgoing → Option (List ℕ) → Type 0
 TakesUpPiece old new None = new ≡ old
 TakesUpPiece old new (Some piece) =
-    (new ≡ record old { owed = piece_bytes old.writer piece; writer = after_piece old.writer piece; step = Piece (piece_count old (Some piece)) })
+    (new ≡ record old {
+      owed = piece_bytes old.writer piece;
+      writer = after_piece old.writer piece;
+      step = Piece (piece_count old (Some piece));
+    })
 
 -- what becomes of the end of the body
 abbrev pub TakesUpEnd : Outgoing → Outgoing → Result EndTaken Error → Type 0
@@ -48,7 +48,11 @@ TakesUpEnd old new (Ok e.Nothing) = (new ≡ old) × (is_begun old.writer ≡ fa
 TakesUpEnd old new (Ok e.GoesOn) = (new ≡ old) × (old.step ≡ Finish)
 TakesUpEnd old new (Ok e.Starts) =
     (old.step ≡ Free) × (is_begun old.writer ≡ true) × (is_short old.writer ≡ false)
-    × (new ≡ record old { owed = end_bytes old.writer; writer = record old.writer { ended = true }; step = Finish })
+    × (new ≡ record old {
+      owed = end_bytes old.writer;
+      writer = record old.writer { ended = true };
+      step = Finish;
+    })
 TakesUpEnd old new (Err error) =
     (old.step ≡ Free) × (is_begun old.writer ≡ true) × IsTrue (is_short old.writer)
     × (new ≡ record old { writer = record old.writer { ended = true } })

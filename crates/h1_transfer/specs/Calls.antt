@@ -1,21 +1,13 @@
 -- What one call does to its link beside moving bytes: calls that moved none, faults, and the mark that
 -- it was shut.
 use Rattle.std.specs.Prelude.{◌≡◌, ◌+◌, ◌≤◌, Bool, true, false, Result, Ok, Err}
-use Rattle.futures.specs.declared.task.Poll.{Poll}
-use Rattle.futures.specs.declared.task.Poll.TheVariants.{Ready, Pending}
-use Rattle.h1_error.specs.declared.error.Error.{Error}
-use Rattle.h1_error.specs.declared.error.ErrorType.{ErrorType}
+use Rattle.h1_transfer.specs.Words.{Poll, Ready, Pending, Error, ErrorType, LinkState, FlushStep, Filled, BodyRead, BodyStop, Sending, Delivery}
 use Rattle.h1_error.specs.declared.error.ErrorType.TheVariants as kind
-use Rattle.h1_link.specs.LinkState.{LinkState}
-use Rattle.h1_link.specs.declared.link.FlushStep.{FlushStep}
 use Rattle.h1_link.specs.declared.link.FlushStep.TheVariants as flush
-use Rattle.h1_transfer.specs.declared.receiving.Filled.{Filled}
 use Rattle.h1_transfer.specs.declared.receiving.Filled.TheVariants as f
-use Rattle.h1_transfer.specs.declared.reading_body.BodyRead.{BodyRead}
 use Rattle.h1_transfer.specs.declared.reading_body.BodyRead.TheVariants as b
-use Rattle.h1_transfer.specs.declared.sending.Sending.{Sending}
+use Rattle.h1_transfer.specs.declared.reading_body.BodyStop.TheVariants as stop
 use Rattle.h1_transfer.specs.declared.sending.Sending.TheVariants as s
-use Rattle.h1_transfer.specs.declared.delivering.Delivery.{Delivery}
 use Rattle.h1_transfer.specs.declared.delivering.Delivery.TheVariants as delivery
 
 -- at most one link call moved no byte
@@ -45,10 +37,10 @@ pub record Called (before now : LinkState) (done : Bool) (fault : Fault) : Type 
   pub shut : now.shut ≡ before.shut
 
 -- the answer of a call that is done
-abbrev pub is_done : {T : Type 0} → Poll (Result T Error) → Bool
-is_done (Ready (Ok value)) = true
-is_done (Ready (Err error)) = false
-is_done Pending = false
+abbrev pub succeeds : {T : Type 0} → Poll (Result T Error) → Bool
+succeeds (Ready (Ok value)) = true
+succeeds (Ready (Err error)) = false
+succeeds Pending = false
 
 -- the fault that an error tells of a call that reads
 abbrev pub read_fault_of_kind : ErrorType → Fault
@@ -75,58 +67,42 @@ write_fault_of Pending = no_fault
 -- a read gave bytes
 abbrev pub is_got : Filled → Bool
 is_got f.Got = true
-is_got f.End = false
-is_got f.NotReady = false
-is_got f.Failed = false
-is_got f.NoMemory = false
+is_got _ = false
 
 abbrev pub fault_of_fill : Filled → Fault
-fault_of_fill f.Got = no_fault
-fault_of_fill f.End = no_fault
-fault_of_fill f.NotReady = no_fault
 fault_of_fill f.Failed = read_fault
-fault_of_fill f.NoMemory = no_fault
+fault_of_fill _ = no_fault
+
+-- the end of a body was read
+abbrev pub is_done : BodyStop → Bool
+is_done stop.Done = true
+is_done _ = false
+
+abbrev pub fault_of_stop : BodyStop → Fault
+fault_of_stop stop.Failed = read_fault
+fault_of_stop _ = no_fault
 
 -- a part of a body was read, or its end
 abbrev pub is_part : BodyRead → Bool
 is_part (b.Piece bytes) = true
-is_part b.Done = true
-is_part b.Broken = false
-is_part b.Cut = false
-is_part b.NotReady = false
-is_part b.Spent = false
-is_part b.Failed = false
-is_part b.NoMemory = false
+is_part (b.Stopped stop) = is_done stop
 
 abbrev pub fault_of_read : BodyRead → Fault
 fault_of_read (b.Piece bytes) = no_fault
-fault_of_read b.Done = no_fault
-fault_of_read b.Broken = no_fault
-fault_of_read b.Cut = no_fault
-fault_of_read b.NotReady = no_fault
-fault_of_read b.Spent = no_fault
-fault_of_read b.Failed = read_fault
-fault_of_read b.NoMemory = no_fault
+fault_of_read (b.Stopped stop) = fault_of_stop stop
 
 -- all that was owed is sent
 abbrev pub is_all : Sending → Bool
 is_all s.All = true
-is_all s.NotReady = false
-is_all s.Spent = false
-is_all s.Failed = false
-is_all s.NoMemory = false
+is_all _ = false
 
 abbrev pub fault_of_send : Sending → Fault
-fault_of_send s.All = no_fault
-fault_of_send s.NotReady = no_fault
-fault_of_send s.Spent = no_fault
 fault_of_send s.Failed = write_fault
-fault_of_send s.NoMemory = no_fault
+fault_of_send _ = no_fault
 
 abbrev pub fault_of_flush : FlushStep → Fault
-fault_of_flush flush.Done = no_fault
-fault_of_flush flush.NotReady = no_fault
 fault_of_flush flush.Failed = write_fault
+fault_of_flush _ = no_fault
 
 -- no flush is asked for
 abbrev pub is_unflushed : Delivery → Bool

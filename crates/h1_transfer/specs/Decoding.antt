@@ -1,17 +1,14 @@
 -- Reading a part of a body (RFC 9112, sections 6 and 8).
-use Rattle.std.specs.Prelude.{◌≡◌, ℕ, ◌-◌, ◌≤◌, ◌<◌, List, [], ◌++◌, length, true, Option, Some, None, option_map}
-use Rattle.h1_link.specs.LinkState.{LinkState}
-use Rattle.h1_link.specs.Counts.{Rose}
-use Rattle.h1_body.specs.Body.{Body, whole, unfinished, broken, ahead}
-use Rattle.h1_body.specs.Reader.{reads}
-use Rattle.h1_body.specs.declared.reader.BodyReader.{BodyReader}
+use Rattle.std.specs.Prelude.{◌≡◌, ℕ, ◌-◌, ◌≤◌, ◌<◌, List, [], ◌++◌, length, true, Option, option_map}
+use Rattle.h1_transfer.specs.Words.{LinkState, Rose, Body, whole, unfinished, broken, ahead, reads, BodyReader, BodyRead, BodyStop}
 use Rattle.h1_transfer.specs.Moved.{Moved}
-use Rattle.h1_transfer.specs.declared.reading_body.BodyRead.{BodyRead}
 use Rattle.h1_transfer.specs.declared.reading_body.BodyRead.TheVariants as b
+use Rattle.h1_transfer.specs.declared.reading_body.BodyStop.TheVariants as s
 
 -- bytes that are used from the front become payload, and the reader goes on after them
 pub record Decoded (old new : BodyReader) (used payload : List ℕ) : Type 0 where
-  pub reads : (more : List ℕ) → reads old (used ++ more) ≡ ahead payload (length used) (reads new more)
+  pub reads : (more : List ℕ)
+      → reads old (used ++ more) ≡ ahead payload (length used) (reads new more)
 
 -- nothing of the body is left among the received bytes, and the body isn't at its end
 abbrev pub Lacks : BodyReader → List ℕ → Type 0
@@ -23,20 +20,28 @@ IsUnfinished (whole payload n) = ⊥
 IsUnfinished (unfinished payload) = Unit {0}
 IsUnfinished (broken payload) = ⊥
 
--- when each answer of a body read comes
-abbrev pub BodyCause : LinkState → LinkState → BodyReader → List ℕ → List ℕ → ℕ → BodyRead → Type 0
-BodyCause before now reader received payload left (b.Piece bytes) = (0 < length payload) × (now.read_waits ≡ before.read_waits)
-BodyCause before now reader received payload left b.Done = (reads reader [] ≡ whole [] 0) × (now.read_waits ≡ before.read_waits)
-BodyCause before now reader received payload left b.Broken = (reads reader [] ≡ broken []) × (now.read_waits ≡ before.read_waits)
-BodyCause before now reader received payload left b.Cut =
+-- when the reading of a body stops, with the bytes that are received and not used then
+abbrev pub StopCause : LinkState → LinkState → BodyReader → List ℕ → ℕ → BodyStop → Type 0
+StopCause before now reader received left s.Done =
+    (reads reader [] ≡ whole [] 0) × (now.read_waits ≡ before.read_waits)
+StopCause before now reader received left s.Broken =
+    (reads reader [] ≡ broken []) × (now.read_waits ≡ before.read_waits)
+StopCause before now reader received left s.Cut =
     (now.ended ≡ true) × Lacks reader received × (now.read_waits ≡ before.read_waits)
-BodyCause before now reader received payload left b.NotReady =
+StopCause before now reader received left s.NotReady =
     Rose before.read_waits now.read_waits × Lacks reader received
-BodyCause before now reader received payload left b.Spent =
-    (left ≡ 0) × Lacks reader received
-BodyCause before now reader received payload left b.Failed =
-    Rose before.read_faults now.read_faults × Lacks reader received × (now.read_waits ≡ before.read_waits)
-BodyCause before now reader received payload left b.NoMemory = now.read_waits ≡ before.read_waits
+StopCause before now reader received left s.Spent = (left ≡ 0) × Lacks reader received
+StopCause before now reader received left s.Failed =
+    Rose before.read_faults now.read_faults × Lacks reader received
+    × (now.read_waits ≡ before.read_waits)
+StopCause before now reader received left s.NoMemory = now.read_waits ≡ before.read_waits
+
+-- when each answer of a body read comes
+abbrev pub BodyCause : LinkState → LinkState → BodyReader → List ℕ → ℕ → BodyRead → Type 0
+BodyCause before now reader received left (b.Piece bytes) =
+    (0 < length bytes) × (now.read_waits ≡ before.read_waits)
+BodyCause before now reader received left (b.Stopped stop) =
+    StopCause before now reader received left stop
 
 -- one read of a part of a body
 pub record ReadsBody
@@ -54,21 +59,4 @@ pub record ReadsBody
 -- the payload that an answer hands out
 abbrev pub payload_of : BodyRead → List ℕ
 payload_of (b.Piece bytes) = bytes
-payload_of b.Done = []
-payload_of b.Broken = []
-payload_of b.Cut = []
-payload_of b.NotReady = []
-payload_of b.Spent = []
-payload_of b.Failed = []
-payload_of b.NoMemory = []
-
--- after payload there may be more, and all else is the end of a reading
-abbrev pub IsStopOf : BodyRead → Option BodyRead → Type 0
-IsStopOf (b.Piece bytes) stop = stop ≡ None
-IsStopOf b.Done stop = stop ≡ Some b.Done
-IsStopOf b.Broken stop = stop ≡ Some b.Broken
-IsStopOf b.Cut stop = stop ≡ Some b.Cut
-IsStopOf b.NotReady stop = stop ≡ Some b.NotReady
-IsStopOf b.Spent stop = stop ≡ Some b.Spent
-IsStopOf b.Failed stop = stop ≡ Some b.Failed
-IsStopOf b.NoMemory stop = stop ≡ Some b.NoMemory
+payload_of (b.Stopped stop) = []

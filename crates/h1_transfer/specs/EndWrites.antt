@@ -1,17 +1,10 @@
 -- Writing the end of a body (RFC 9112, sections 6.3 and 7.1).
 use Rattle.std.specs.Prelude.{◌≡◌, ℕ, ◌≤◌, List, [], Bool, true, false, Option, Some, None, Result, Ok, Err}
-use Rattle.futures.specs.declared.task.Poll.{Poll}
-use Rattle.futures.specs.declared.task.Poll.TheVariants.{Ready, Pending}
-use Rattle.h1_error.specs.declared.error.Error.{Error}
+use Rattle.h1_transfer.specs.Words.{Poll, Ready, Pending, Error, LinkState, end_bytes, is_short, Outgoing, Step, Free, Head, Piece, Finish}
 use Rattle.h1_error.specs.declared.error.ErrorType.TheVariants as kind
-use Rattle.h1_link.specs.LinkState.{LinkState}
-use Rattle.h1_body.specs.Writer.{end_bytes, is_short}
 use Rattle.h1_transfer.specs.ReplyFraming.{is_begun}
 use Rattle.h1_transfer.specs.TransferView.{Holds}
-use Rattle.h1_transfer.specs.Writes.{Writes, IsSameMessage, IsDone, IsWaiting, IsRefused}
-use Rattle.h1_transfer.specs.declared.outgoing.Outgoing.{Outgoing}
-use Rattle.h1_transfer.specs.declared.outgoing.Step.{Step}
-use Rattle.h1_transfer.specs.declared.outgoing.Step.TheVariants.{Free, Head, Piece, Finish}
+use Rattle.h1_transfer.specs.Writes.{Writes, IsSameMessage, IsFree, IsWaiting, IsRefused}
 
 -- what a call does with the end of the body: it starts it, finds that the body is short of its
 -- length, or goes on with it
@@ -34,21 +27,23 @@ stage_of outgoing = end_stage outgoing.step (is_begun outgoing.writer) (is_short
 -- the end of the body is taken up by the call that starts it, and marks the body ended
 abbrev pub EndTaking : Outgoing → Outgoing → List ℕ → EndStage → Type 0
 EndTaking old new taking starts =
-    (taking ≡ end_bytes old.writer) × (new.headed ≡ old.headed) × (new.keep ≡ old.keep)
+    (taking ≡ end_bytes old.writer) × (new.headed ≡ old.headed)
     × (new.writer ≡ record old.writer { ended = true })
 EndTaking old new taking falls_short = ⊥
 EndTaking old new taking goes_on = (taking ≡ []) × IsSameMessage old new
 
 -- the answer of a call that ends the body: how much payload was taken in all, once it is flushed
-abbrev pub EndAnswer : LinkState → LinkState → Outgoing → Outgoing → ℕ → Poll (Result (Option ℕ) Error) → Type 0
+abbrev pub EndAnswer : LinkState → LinkState → Outgoing → Outgoing → ℕ
+    → Poll (Result (Option ℕ) Error) → Type 0
 EndAnswer before now old new left (Ready (Ok count)) =
-    IsDone new × (count ≡ Some old.writer.written) × (now.bytes_out ≤ now.flushed)
+    IsFree new × (count ≡ Some old.writer.written) × (now.bytes_out ≤ now.flushed)
 EndAnswer before now old new left Pending = IsWaiting before now new Finish left
 EndAnswer before now old new left (Ready (Err error)) =
     IsRefused before now new Finish error error.kind × (error.retry ≡ false)
 
 -- one call that writes the end of the body
-pub record WritesEnd {L S : Type 0} (state : L → LinkState) (holds : Holds L S) (old new : S) (stage : EndStage) (outcome : Poll (Result (Option ℕ) Error)) : Type 0 where
+pub record WritesEnd {L S : Type 0} (state : L → LinkState) (holds : Holds L S) (old new : S)
+    (stage : EndStage) (outcome : Poll (Result (Option ℕ) Error)) : Type 0 where
   pub taking : List ℕ
   pub left : ℕ
   pub writes : Writes state holds old new taking left
@@ -61,17 +56,22 @@ abbrev pub ended_short : Outgoing → Outgoing
 ended_short outgoing = record outgoing { writer = record outgoing.writer { ended = true } }
 
 -- a body that ends short of its length is refused as it ends, and nothing is written
-pub record EndsShort {L S : Type 0} (holds : Holds L S) (old new : S) (outcome : Poll (Result (Option ℕ) Error)) : Type 0 where
-  pub ends : new ≡ holds.put old (record (holds.transfer old) { outgoing = ended_short (holds.transfer old).outgoing })
+pub record EndsShort {L S : Type 0} (holds : Holds L S) (old new : S)
+    (outcome : Poll (Result (Option ℕ) Error)) : Type 0 where
+  pub ends : new
+      ≡ holds.put old
+      (record (holds.transfer old) { outgoing = ended_short (holds.transfer old).outgoing })
   pub answer : outcome ≡ Ready (Err (record { kind = kind.PrematureBodyEnd; retry = false }))
 
 -- no end is there to write
-pub record WritesNoEnd {S : Type 0} (old new : S) (outcome : Poll (Result (Option ℕ) Error)) : Type 0 where
+pub record WritesNoEnd {S : Type 0} (old new : S)
+    (outcome : Poll (Result (Option ℕ) Error)) : Type 0 where
   pub same : new ≡ old
   pub answer : outcome ≡ Ready (Ok None)
 
 -- one call at the end of the body
-abbrev pub EndCall : {L S : Type 0} → (L → LinkState) → Holds L S → S → S → Poll (Result (Option ℕ) Error) → Option EndStage → Type 0
+abbrev pub EndCall : {L S : Type 0} → (L → LinkState) → Holds L S → S → S
+    → Poll (Result (Option ℕ) Error) → Option EndStage → Type 0
 EndCall state holds old new outcome None = WritesNoEnd old new outcome
 EndCall state holds old new outcome (Some falls_short) = EndsShort holds old new outcome
 EndCall state holds old new outcome (Some starts) = WritesEnd state holds old new starts outcome

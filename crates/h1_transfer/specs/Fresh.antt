@@ -1,10 +1,7 @@
 -- What stands before a message: nothing is read of its body, and nothing is written.
 use Rattle.std.specs.Prelude.{◌≡◌, ℕ, List, [], None, false}
-use Rattle.h1_body.specs.Reader.{body, reads}
-use Rattle.h1_body.specs.declared.framing.Framing.TheVariants.{Counted}
-use Rattle.h1_transfer.specs.declared.body.BodyState.{BodyState}
-use Rattle.h1_transfer.specs.declared.outgoing.Outgoing.{Outgoing}
-use Rattle.h1_transfer.specs.declared.outgoing.Step.TheVariants.{Free}
+use Rattle.h1_transfer.specs.Words.{reads, Counted, BodyState, Outgoing, Free}
+use Rattle.h1_body.specs.Reader.{body}
 
 -- no body was begun: one of no bytes is at its end
 pub record IsNoBody (state : BodyState) : Type 0 where
@@ -18,7 +15,6 @@ no_reply = record {
   owed = [];
   writer = record { framing = None; written = 0; ended = false };
   headed = false;
-  keep = false;
   refused = None;
   sent = 0;
 }

@@ -15,3 +15,4 @@ pub mod PieceWrites
 pub mod EndWrites
 pub mod Payload
 pub mod BodyAnswers
+pub mod Words

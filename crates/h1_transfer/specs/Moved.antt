@@ -1,10 +1,8 @@
 -- What one call moved over its link: bytes that were read, bytes that were written, and how many
 -- link calls moved a byte.
 use Rattle.std.specs.Prelude.{◌≡◌, ℕ, ◌+◌, ◌-◌, ◌≤◌, List, [], ◌++◌, length}
-use Rattle.std.specs.Io.KnownBytes.{append_known}
-use Rattle.h1_link.specs.LinkState.{LinkState}
+use Rattle.h1_transfer.specs.Words.{append_known, LinkState, Later}
 use Rattle.h1_link.specs.Counts.{RoseBy}
-use Rattle.h1_link.specs.Later.{Later}
 
 pub record Moved (before now : LinkState) (read wrote : List ℕ) (spent : ℕ) : Type 0 where
   pub given : now.given ≡ append_known before.given read

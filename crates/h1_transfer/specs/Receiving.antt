@@ -1,9 +1,7 @@
 -- What one read of the link does to the received bytes.
 use Rattle.std.specs.Prelude.{◌≡◌, ℕ, ◌+◌, ◌<◌, ◌≤◌, List, [], ◌++◌, length, true}
-use Rattle.h1_link.specs.LinkState.{LinkState}
-use Rattle.h1_link.specs.Counts.{Rose}
+use Rattle.h1_transfer.specs.Words.{LinkState, Rose, Filled}
 use Rattle.h1_transfer.specs.Moved.{Moved}
-use Rattle.h1_transfer.specs.declared.receiving.Filled.{Filled}
 use Rattle.h1_transfer.specs.declared.receiving.Filled.TheVariants as f
 
 -- the count of moving calls that a read takes from the budget
@@ -16,7 +14,8 @@ cost f.NoMemory = 0
 
 abbrev pub FillCause : LinkState → LinkState → List ℕ → Filled → Type 0
 FillCause before now piece f.Got = (0 < length piece) × (now.read_waits ≡ before.read_waits)
-FillCause before now piece f.End = (piece ≡ []) × (now.ended ≡ true) × (now.read_waits ≡ before.read_waits)
+FillCause before now piece f.End =
+    (piece ≡ []) × (now.ended ≡ true) × (now.read_waits ≡ before.read_waits)
 FillCause before now piece f.NotReady = (piece ≡ []) × Rose before.read_waits now.read_waits
 FillCause before now piece f.Failed = (piece ≡ []) × Rose before.read_faults now.read_faults
     × (now.read_waits ≡ before.read_waits)

@@ -2,7 +2,8 @@
 use Rattle.std.specs.Prelude.{Bool, true, false, ◌&&◌, ◌==◌, not, is_some, Option, Some, None}
 use Rattle.h1_body.specs.Writer.{WriterView, is_finished}
 use Rattle.h1_body.specs.declared.framing.Framing.{Framing}
-use Rattle.h1_body.specs.declared.framing.Framing.TheVariants.{Counted, Chunked, UntilClose}
+use Rattle.h1_transfer.specs.Words.{Counted}
+use Rattle.h1_body.specs.declared.framing.Framing.TheVariants.{Chunked, UntilClose}
 
 -- a head is flushed where it states no length, or no body follows
 abbrev pub flushes_head : Option Framing → Bool

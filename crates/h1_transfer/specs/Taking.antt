@@ -1,17 +1,13 @@
 -- What the bytes that are received give of a body (RFC 9112, sections 6 and 7.1).
 use Rattle.std.specs.Prelude.{◌≡◌, ℕ, ◌<◌, List, [], ◌++◌, length, Option, option_map, Result, Ok, Err}
-use Rattle.h1_error.specs.declared.error.Error.{Error}
-use Rattle.h1_body.specs.Body.{whole, broken}
-use Rattle.h1_body.specs.Reader.{reads}
-use Rattle.h1_body.specs.declared.reader.BodyReader.{BodyReader}
-use Rattle.h1_body.specs.declared.fed.FeedState.{FeedState}
+use Rattle.h1_transfer.specs.Words.{Error, whole, broken, reads, BodyReader, FeedState, Taken}
 use Rattle.h1_body.specs.declared.fed.FeedState.TheVariants as s
 use Rattle.h1_transfer.specs.Decoding.{Decoded, Lacks}
-use Rattle.h1_transfer.specs.declared.taking.Taken.{Taken}
 use Rattle.h1_transfer.specs.declared.taking.Taken.TheVariants as t
 
 -- received bytes are used from the front, and their payload is kept where payload is kept
-pub record Uses (old new : List ℕ) (reader behind : BodyReader) (kept keeps : Option (List ℕ)) (payload : List ℕ) : Type 0 where
+pub record Uses (old new : List ℕ) (reader behind : BodyReader) (kept keeps : Option (List ℕ))
+    (payload : List ℕ) : Type 0 where
   pub used : List ℕ
   pub bytes : old ≡ used ++ new
   pub decoded : Decoded reader behind used payload
@@ -39,7 +35,8 @@ TakeCause reader received t.Broken = reads reader [] ≡ broken []
 TakeCause reader received t.Lacks = Lacks reader received
 
 -- payload is taken up to the end of a run of it, or nothing changes where memory ran out
-abbrev pub TakesBody : List ℕ → List ℕ → BodyReader → BodyReader → Option (List ℕ) → Option (List ℕ) → Result Taken Error → Type 0
+abbrev pub TakesBody : List ℕ → List ℕ → BodyReader → BodyReader → Option (List ℕ) → Option (List ℕ)
+    → Result Taken Error → Type 0
 TakesBody old new reader behind kept keeps (Ok taken) =
     Uses old new reader behind kept keeps (taken_payload taken) × TakeCause behind new taken
 TakesBody old new reader behind kept keeps (Err error) =

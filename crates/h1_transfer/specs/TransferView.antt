@@ -1,9 +1,7 @@
 -- What contracts see of a transfer, and of a session that holds one.
 use Rattle.std.specs.Prelude.{◌≡◌, ℕ, List, [], Option, None}
 use Rattle.h1_transfer.specs.Fresh.{IsNoBody, no_reply}
-use Rattle.h1_transfer.specs.declared.body.BodyState.{BodyState}
-use Rattle.h1_transfer.specs.declared.outgoing.Outgoing.{Outgoing}
-use Rattle.h1_transfer.specs.declared.outgoing.Step.TheVariants.{Free}
+use Rattle.h1_transfer.specs.Words.{BodyState, Outgoing, Free}
 
 pub record TransferView (L : Type 0) : Type 0 where
   pub link : L
@@ -29,7 +27,13 @@ itself = record { transfer = λ transfer. transfer; put = λ before transfer. tr
 -- a transfer that read and wrote nothing yet
 pub record IsNewTransfer {L : Type 0} (link : L) (new : TransferView L) : Type 0 where
   pub body : IsNoBody new.body
-  pub is : new ≡ record { link = link; received = []; body = new.body; outgoing = no_reply; budget = None }
+  pub is : new ≡ record {
+    link = link;
+    received = [];
+    body = new.body;
+    outgoing = no_reply;
+    budget = None;
+  }
 
 -- nothing is left of the messages before but the bytes that are received and not used
 pub record StartsOver {L : Type 0} (old new : TransferView L) : Type 0 where

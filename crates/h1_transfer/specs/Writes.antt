@@ -1,24 +1,18 @@
 -- What each call that writes a part of a message comes to (RFC 9112, sections 4 to 7).
 use Rattle.std.specs.Prelude.{◌≡◌, ℕ, ◌+◌, ◌^◌, min, ◌-◌, ◌<◌, ◌⊎◌, List, [], ◌++◌, length, Some, None, option_map, Result}
-use Rattle.futures.specs.declared.task.Poll.{Poll}
-use Rattle.h1_error.specs.declared.error.Error.{Error}
-use Rattle.h1_error.specs.declared.error.ErrorType.{ErrorType}
+use Rattle.h1_transfer.specs.Words.{Poll, Error, ErrorType, LinkState, Rose, Delivery, Outgoing, Step, Free}
 use Rattle.h1_error.specs.declared.error.ErrorType.TheVariants as kind
-use Rattle.h1_link.specs.LinkState.{LinkState}
-use Rattle.h1_link.specs.Counts.{Rose}
 use Rattle.h1_transfer.specs.Moved.{Sent}
 use Rattle.h1_transfer.specs.Budget.{allowance}
 use Rattle.h1_transfer.specs.Writing.{DeliveryAnswer}
 use Rattle.h1_transfer.specs.TransferView.{TransferView, Holds}
-use Rattle.h1_transfer.specs.declared.delivering.Delivery.{Delivery}
-use Rattle.h1_transfer.specs.declared.outgoing.Outgoing.{Outgoing}
-use Rattle.h1_transfer.specs.declared.outgoing.Step.{Step}
-use Rattle.h1_transfer.specs.declared.outgoing.Step.TheVariants.{Free}
 
 -- one call that writes: what was owed and what it takes up now is written in front
-pub record Writes {L S : Type 0} (state : L → LinkState) (holds : Holds L S) (old new : S) (taking : List ℕ) (left : ℕ) : Type 0 where
+pub record Writes {L S : Type 0} (state : L → LinkState) (holds : Holds L S) (old new : S)
+    (taking : List ℕ) (left : ℕ) : Type 0 where
   pub sent : Sent (state (holds.transfer old).link) (state (holds.transfer new).link)
-      ((holds.transfer old).outgoing.owed ++ taking) (holds.transfer new).outgoing.owed (allowance (holds.transfer old).budget) left
+      ((holds.transfer old).outgoing.owed ++ taking) (holds.transfer new).outgoing.owed
+      (allowance (holds.transfer old).budget) left
   pub budget : (holds.transfer new).budget ≡ option_map (λ _. left) (holds.transfer old).budget
   -- all else stays
   pub rest : new ≡ holds.put old (record (holds.transfer old) {
@@ -33,17 +27,17 @@ pub record Writes {L S : Type 0} (state : L → LinkState) (holds : Holds L S) (
 -- what an outgoing message has beside the bytes that are owed, the step in progress and the refusal
 pub record IsSameMessage (old new : Outgoing) : Type 0 where
   pub headed : new.headed ≡ old.headed
-  pub keep : new.keep ≡ old.keep
   pub writer : new.writer ≡ old.writer
 
--- a write that is done: nothing is owed, and none is in progress
-pub record IsDone (outgoing : Outgoing) : Type 0 where
+-- no write is in progress, nothing is owed, and no write was refused
+pub record IsFree (outgoing : Outgoing) : Type 0 where
   pub owed : outgoing.owed ≡ []
   pub free : outgoing.step ≡ Free
   pub refused : outgoing.refused ≡ None
 
 -- a write that waits: bytes or a flush are owed, and the same call goes on with this step
-pub record IsWaiting (before now : LinkState) (outgoing : Outgoing) (step : Step) (left : ℕ) : Type 0 where
+pub record IsWaiting (before now : LinkState) (outgoing : Outgoing) (step : Step)
+    (left : ℕ) : Type 0 where
   pub at_step : outgoing.step ≡ step
   pub refused : outgoing.refused ≡ None
   pub why : Rose before.write_waits now.write_waits ⊎ (left ≡ 0)
@@ -58,10 +52,13 @@ IsRefused before now new step error kind.NoMemory =
 IsRefused before now new step error _ = ⊥
 
 -- one call that goes on with the write in progress
-pub record Delivers {L : Type 0} (state : L → LinkState) (how : Delivery) (old new : TransferView L) (outcome : Poll (Result (Unit {0}) Error)) : Type 0 where
+pub record Delivers {L : Type 0} (state : L → LinkState) (how : Delivery) (old new : TransferView L)
+    (outcome : Poll (Result (Unit {0}) Error)) : Type 0 where
   pub left : ℕ
-  pub sent : Sent (state old.link) (state new.link) old.outgoing.owed new.outgoing.owed (allowance old.budget) left
+  pub sent : Sent (state old.link) (state new.link) old.outgoing.owed new.outgoing.owed
+      (allowance old.budget) left
   pub budget : new.budget ≡ option_map (λ _. left) old.budget
   -- all else stays
   pub rest : new ≡ record old { link = new.link; outgoing = new.outgoing; budget = new.budget }
-  pub answer : DeliveryAnswer how (state old.link) (state new.link) old.outgoing new.outgoing left outcome
+  pub answer : DeliveryAnswer how (state old.link)
+      (state new.link) old.outgoing new.outgoing left outcome

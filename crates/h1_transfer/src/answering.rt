@@ -1,9 +1,9 @@
 //! What a read of a body answers, and what is noted of it (RFC 9112, sections 6 and 8).
 ghost use Rattle.std.specs.Prelude.{◌≡◌, Some, None, Err};
 ghost use Rattle.futures.specs.declared.task.Poll.TheVariants.{Ready};
-ghost use Rattle.h1_transfer.specs.BodyAnswers.{IsPartOf, IsRestOf, IsStop, error_of};
+ghost use Rattle.h1_transfer.specs.BodyAnswers.{IsPartOf, IsRestOf, error_of};
 
-use crate::{BodyRead, BodyState};
+use crate::{BodyRead, BodyState, BodyStop};
 use bytes::Bytes;
 use futures::task::Poll;
 use h1_error::{Error, ErrorType};
@@ -22,19 +22,23 @@ pub fn refuse<T>(refused: &mut Option<Error>, kind: ErrorType) -> Poll<Result<T,
 /// keeps the payload a body whose read was out of memory has failed.
 pub(crate) fn part(body: &mut BodyState, read: BodyRead) -> Poll<Result<Option<Bytes>, Error>>
     requires { body.old.refused ≡ None }
-    ensures { IsPartOf body.old body.new read result }
+    ensures notes { (body.new.reader ≡ body.old.reader) × (body.new.kept ≡ body.old.kept) }
+    ensures answer { IsPartOf body.old body.new read result }
 {
-    match read {
-        BodyRead::Piece(bytes) => Poll::Ready(Ok(Some(bytes))),
-        BodyRead::Done => Poll::Ready(Ok(None)),
-        BodyRead::Broken => refuse(&mut body.refused, ErrorType::InvalidBody),
-        BodyRead::Cut => refuse(&mut body.refused, ErrorType::ConnectionClosed),
-        BodyRead::NotReady | BodyRead::Spent => {
+    let stop = match read {
+        BodyRead::Piece(bytes) => return Poll::Ready(Ok(Some(bytes))),
+        BodyRead::Stopped(stop) => stop,
+    };
+    match stop {
+        BodyStop::Done => Poll::Ready(Ok(None)),
+        BodyStop::Broken => refuse(&mut body.refused, ErrorType::InvalidBody),
+        BodyStop::Cut => refuse(&mut body.refused, ErrorType::ConnectionClosed),
+        BodyStop::NotReady | BodyStop::Spent => {
             body.waits = true;
             Poll::Pending
         }
-        BodyRead::Failed => refuse(&mut body.refused, ErrorType::ReadError),
-        BodyRead::NoMemory => {
+        BodyStop::Failed => refuse(&mut body.refused, ErrorType::ReadError),
+        BodyStop::NoMemory => {
             let error = Error::from(ErrorType::NoMemory);
             if body.kept.is_some() {
                 body.refused = Some(error);
@@ -45,17 +49,16 @@ pub(crate) fn part(body: &mut BodyState, read: BodyRead) -> Poll<Result<Option<B
 }
 
 /// What a read of the rest of the body answers.
-pub(crate) fn rest(body: &mut BodyState, read: BodyRead) -> Poll<Result<(), Error>>
-    requires { IsStop read }
-    ensures { IsRestOf body.old body.new read result }
+pub(crate) fn rest(body: &mut BodyState, stop: BodyStop) -> Poll<Result<(), Error>>
+    ensures notes { body.new ≡ record body.old { refused = body.new.refused } }
+    ensures answer { IsRestOf body.old body.new stop result }
 {
-    match read {
-        BodyRead::Piece(_) => unreachable!(),
-        BodyRead::Done => Poll::Ready(Ok(())),
-        BodyRead::Broken => refuse(&mut body.refused, ErrorType::InvalidBody),
-        BodyRead::Cut => refuse(&mut body.refused, ErrorType::ConnectionClosed),
-        BodyRead::NotReady | BodyRead::Spent => Poll::Pending,
-        BodyRead::Failed => refuse(&mut body.refused, ErrorType::ReadError),
-        BodyRead::NoMemory => Poll::Ready(Err(Error::from(ErrorType::NoMemory))),
+    match stop {
+        BodyStop::Done => Poll::Ready(Ok(())),
+        BodyStop::Broken => refuse(&mut body.refused, ErrorType::InvalidBody),
+        BodyStop::Cut => refuse(&mut body.refused, ErrorType::ConnectionClosed),
+        BodyStop::NotReady | BodyStop::Spent => Poll::Pending,
+        BodyStop::Failed => refuse(&mut body.refused, ErrorType::ReadError),
+        BodyStop::NoMemory => Poll::Ready(Err(Error::from(ErrorType::NoMemory))),
     }
 }

@@ -2,7 +2,7 @@
 ghost use Rattle.std.specs.Prelude.{◌≡◌, ◌&&◌, [], Some, false};
 ghost use Rattle.h1_transfer.specs.Moved.{Moved, Sent};
 ghost use Rattle.h1_transfer.specs.Writing.{DeliveryAnswer, FlushCause, with_count};
-ghost use Rattle.h1_transfer.specs.Calls.{Called, is_unflushed, is_done, write_fault_of, fault_of_flush};
+ghost use Rattle.h1_transfer.specs.Calls.{Called, is_unflushed, succeeds, write_fault_of, fault_of_flush};
 ghost use Rattle.h1_transfer.specs.declared.outgoing.Step.TheVariants.{Free};
 ghost use Rattle.h1_error.specs.declared.error.ErrorType.TheVariants.{WriteError};
 
@@ -28,9 +28,12 @@ pub fn deliver<L: Link>(
     how: Delivery,
     budget: &mut u32,
 ) -> Poll<Result<(), Error>>
-    ensures sent { Sent (L.state link.old) (L.state link.new) outgoing.old.owed outgoing.new.owed budget.old budget.new }
-    ensures answer { DeliveryAnswer how (L.state link.old) (L.state link.new) outgoing.old outgoing.new budget.new result }
-    ensures calls { Called (L.state link.old) (L.state link.new) (is_unflushed how && is_done result) (write_fault_of result) }
+    ensures sent { Sent (L.state link.old)
+        (L.state link.new) outgoing.old.owed outgoing.new.owed budget.old budget.new }
+    ensures answer { DeliveryAnswer how (L.state link.old)
+        (L.state link.new) outgoing.old outgoing.new budget.new result }
+    ensures calls { Called (L.state link.old) (L.state link.new)
+        (is_unflushed how && succeeds result) (write_fault_of result) }
     ensures plan { L.same_plan link.old link.new }
 {
     match send(link, &mut outgoing.owed, &mut outgoing.sent, budget) {
@@ -55,7 +58,8 @@ fn flush<L: Link>(link: &mut L, how: Delivery) -> FlushStep
     ensures moved { Moved (L.state link.old) (L.state link.new) [] [] 0 }
     ensures unread { (L.state link.new).read_waits ≡ (L.state link.old).read_waits }
     ensures cause { FlushCause how (L.state link.old) (L.state link.new) result }
-    ensures calls { Called (L.state link.old) (L.state link.new) (is_unflushed how) (fault_of_flush result) }
+    ensures calls { Called (L.state link.old) (L.state link.new) (is_unflushed how)
+        (fault_of_flush result) }
     ensures plan { L.same_plan link.old link.new }
 {
     match how {

@@ -24,8 +24,6 @@ pub struct Outgoing {
     pub writer: BodyWriter,
     /// A head was taken up that is not an interim one.
     pub headed: bool,
-    /// The flag of that header.
-    pub keep: bool,
     /// The refusal that each later write answers.
     pub refused: Option<Error>,
     /// How many bytes of the message were written; it stops at 2^64 - 1.
@@ -42,7 +40,6 @@ impl Outgoing {
             owed: Wire::empty(),
             writer: BodyWriter::new(),
             headed: false,
-            keep: false,
             refused: None,
             sent: 0,
         }

@@ -2,8 +2,8 @@
 ghost use Rattle.std.specs.Prelude.{◌≡◌, ◌<◌, ◌≤◌, ◌+◌, ◌-◌, ℕ, List, []};
 ghost use Rattle.h1_body.specs.Body.{unfinished};
 ghost use Rattle.h1_body.specs.Reader.{reads};
-ghost use Rattle.h1_transfer.specs.Decoding.{ReadsBody, BodyCause, IsStopOf, IsUnfinished, payload_of};
-ghost use Rattle.h1_transfer.specs.Calls.{Called, is_part, fault_of_read};
+ghost use Rattle.h1_transfer.specs.Decoding.{ReadsBody, BodyCause, StopCause, IsUnfinished, payload_of};
+ghost use Rattle.h1_transfer.specs.Calls.{Called, is_part, is_done, fault_of_read, fault_of_stop};
 
 use crate::receiving::{Filled, fill};
 use crate::taking::{Taken, take};
@@ -12,11 +12,9 @@ use h1_body::{BodyBytes, BodyReader};
 use h1_link::Link;
 use std::alloc::Global;
 
-/// What reading a part of a body came to.
-#[derive(Drop)]
-pub enum BodyRead {
-    /// Payload, which is not empty.
-    Piece(Bytes),
+/// Why the reading of a body goes no further.
+#[derive(Clone, Copy, Debug, PartialEq, Eq)]
+pub enum BodyStop {
     /// The body is at its end.
     Done,
     /// The bytes of the body are none that its framing allows.
@@ -30,8 +28,17 @@ pub enum BodyRead {
     NoMemory,
 }
 
+/// What reading a part of a body came to.
+#[derive(Drop)]
+pub enum BodyRead {
+    /// Payload, which is not empty.
+    Piece(Bytes),
+    Stopped(BodyStop),
+}
+
 /// Reads until payload is there, the body ends or reading can't go on. What is received already
 /// is used before the first read.
+#[tactic(auto, using(crate::proofs::BodyLemmas::reads_body_took))]
 pub fn read_body<L: Link>(
     alloc: Global,
     link: &mut L,
@@ -40,35 +47,39 @@ pub fn read_body<L: Link>(
     kept: &mut Option<BodyBytes>,
     budget: &mut u32,
 ) -> BodyRead
-    ensures reads { ReadsBody (L.state link.old) (L.state link.new) received.old.items received.new.items reader.old reader.new kept.old kept.new budget.old budget.new (payload_of result) }
-    ensures cause { BodyCause (L.state link.old) (L.state link.new) reader.new received.new.items (payload_of result) budget.new result }
+    ensures reads { ReadsBody (L.state link.old)
+        (L.state link.new) received.old.items received.new.items reader.old reader.new kept.old
+        kept.new budget.old budget.new (payload_of result) }
+    ensures cause { BodyCause (L.state link.old) (L.state link.new) reader.new received.new.items
+        budget.new result }
     ensures few { (L.state link.new).read_waits ≤ (L.state link.old).read_waits + 1 }
     ensures parsed { budget.new < budget.old → reads reader.old received.old.items ≡ unfinished [] }
-    ensures calls { Called (L.state link.old) (L.state link.new) (is_part result) (fault_of_read result) }
+    ensures calls { Called (L.state link.old) (L.state link.new) (is_part result)
+        (fault_of_read result) }
     ensures plan { L.same_plan link.old link.new }
 {
     'reads: loop {
         match take(alloc, received, reader, kept) {
             Ok(Taken::Piece(bytes)) => return BodyRead::Piece(bytes),
-            Ok(Taken::Done) => return BodyRead::Done,
-            Ok(Taken::Broken) => return BodyRead::Broken,
+            Ok(Taken::Done) => return BodyRead::Stopped(BodyStop::Done),
+            Ok(Taken::Broken) => return BodyRead::Stopped(BodyStop::Broken),
             Ok(Taken::Lacks) => {}
-            Err(_) => return BodyRead::NoMemory,
+            Err(_) => return BodyRead::Stopped(BodyStop::NoMemory),
         }
         if *budget == 0 {
-            return BodyRead::Spent;
+            return BodyRead::Stopped(BodyStop::Spent);
         }
         match fill(link, received) {
             Filled::Got => *budget -= 1,
-            Filled::End => return BodyRead::Cut,
-            Filled::NotReady => return BodyRead::NotReady,
-            Filled::Failed => return BodyRead::Failed,
-            Filled::NoMemory => return BodyRead::NoMemory,
+            Filled::End => return BodyRead::Stopped(BodyStop::Cut),
+            Filled::NotReady => return BodyRead::Stopped(BodyStop::NotReady),
+            Filled::Failed => return BodyRead::Stopped(BodyStop::Failed),
+            Filled::NoMemory => return BodyRead::Stopped(BodyStop::NoMemory),
         }
     }
 }
 
-/// Reads on until the body ends or can't be read on. It answers no payload.
+/// Reads on until the body ends or can't be read on.
 pub fn drain_body<L: Link>(
     alloc: Global,
     link: &mut L,
@@ -76,30 +87,26 @@ pub fn drain_body<L: Link>(
     reader: &mut BodyReader,
     kept: &mut Option<BodyBytes>,
     budget: &mut u32,
-) -> BodyRead
-    ensures reads { (payload : List ℕ) × ReadsBody (L.state link.old) (L.state link.new) received.old.items received.new.items reader.old reader.new kept.old kept.new budget.old budget.new payload }
-    ensures cause { BodyCause (L.state link.old) (L.state link.new) reader.new received.new.items [] budget.new result }
+) -> BodyStop
+    ensures reads { (payload : List ℕ)
+        × ReadsBody (L.state link.old)
+        (L.state link.new) received.old.items received.new.items reader.old reader.new kept.old
+        kept.new budget.old budget.new payload }
+    ensures cause { StopCause (L.state link.old) (L.state link.new) reader.new received.new.items
+        budget.new result }
     ensures few { (L.state link.new).read_waits ≤ (L.state link.old).read_waits + 1 }
     ensures parsed { budget.new < budget.old → IsUnfinished (reads reader.old received.old.items) }
-    ensures calls { Called (L.state link.old) (L.state link.new) (is_part result) (fault_of_read result) }
+    ensures calls { Called (L.state link.old) (L.state link.new) (is_done result)
+        (fault_of_stop result) }
     ensures plan { L.same_plan link.old link.new }
 {
     'drains: loop {
         let read = read_body(alloc, link, received, reader, kept, budget);
         // What is received is bounded by its buffer before the next read.
         let _left_over = received.len();
-        if let Some(stop) = stop_of(read) {
-            return stop;
+        match read {
+            BodyRead::Piece(payload) => drop(payload),
+            BodyRead::Stopped(stop) => return stop,
         }
-    }
-}
-
-/// What a read came to, unless it was payload.
-fn stop_of(read: BodyRead) -> Option<BodyRead>
-    ensures { IsStopOf read result }
-{
-    match read {
-        BodyRead::Piece(_) => None,
-        other => Some(other),
     }
 }

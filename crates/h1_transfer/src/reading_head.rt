@@ -14,11 +14,9 @@ use h1_error::HeadFault;
 use h1_link::Link;
 use std::alloc::Global;
 
-/// What reading a head came to.
-#[derive(Drop)]
-pub enum HeadRead<H> {
-    /// The head, and how many of the received bytes it takes.
-    Whole(H, usize),
+/// Why the reading of a head goes no further.
+#[derive(Clone, Copy, Debug, PartialEq, Eq)]
+pub enum HeadStop {
     Refused(HeadFault),
     /// The link ended, and no byte was received.
     Closed,
@@ -31,6 +29,14 @@ pub enum HeadRead<H> {
     NoMemory,
 }
 
+/// What reading a head came to.
+#[derive(Drop)]
+pub enum HeadRead<H> {
+    /// The head, and how many of the received bytes it takes.
+    Whole(H, usize),
+    Stopped(HeadStop),
+}
+
 /// Reads until a head is whole, is refused or can't go on. What is received already is judged
 /// before the first read.
 pub fn read_head<H: Head, L: Link>(
@@ -41,31 +47,34 @@ pub fn read_head<H: Head, L: Link>(
     budget: &mut u32,
 ) -> HeadRead<H>
     requires { HasLooked MAX_HEADER_SIZE search.old received.old.items }
-    ensures received { Received (L.state link.old) (L.state link.new) received.old.items received.new.items budget.old budget.new }
-    ensures cause { HeadCause H.is_at H.refuses H.lacks (L.state link.old) (L.state link.new) received.new.items budget.new result }
+    ensures received { Received (L.state link.old)
+        (L.state link.new) received.old.items received.new.items budget.old budget.new }
+    ensures cause { HeadCause H.is_at H.refuses H.lacks (L.state link.old)
+        (L.state link.new) received.new.items budget.new result }
     ensures looked { HasLooked MAX_HEADER_SIZE search.new received.new.items }
     ensures few { (L.state link.new).read_waits ≤ (L.state link.old).read_waits + 1 }
     ensures parsed { budget.new < budget.old → H.lacks received.old.items }
-    ensures calls { Called (L.state link.old) (L.state link.new) (is_whole_head result) (fault_of_head result) }
+    ensures calls { Called (L.state link.old) (L.state link.new) (is_whole_head result)
+        (fault_of_head result) }
     ensures plan { L.same_plan link.old link.new }
 {
     'reads: loop {
         match H::search(alloc, search, received.as_slice()) {
             Ok(Found::Whole(head, used)) => return HeadRead::Whole(head, used),
-            Ok(Found::Refused(fault)) => return HeadRead::Refused(fault),
+            Ok(Found::Refused(fault)) => return HeadRead::Stopped(HeadStop::Refused(fault)),
             Ok(Found::NotYet) => {}
-            Err(_) => return HeadRead::NoMemory,
+            Err(_) => return HeadRead::Stopped(HeadStop::NoMemory),
         }
         if *budget == 0 {
-            return HeadRead::Spent;
+            return HeadRead::Stopped(HeadStop::Spent);
         }
         match fill(link, received) {
             Filled::Got => *budget -= 1,
-            Filled::End if received.is_empty() => return HeadRead::Closed,
-            Filled::End => return HeadRead::Cut,
-            Filled::NotReady => return HeadRead::NotReady,
-            Filled::Failed => return HeadRead::Failed,
-            Filled::NoMemory => return HeadRead::NoMemory,
+            Filled::End if received.is_empty() => return HeadRead::Stopped(HeadStop::Closed),
+            Filled::End => return HeadRead::Stopped(HeadStop::Cut),
+            Filled::NotReady => return HeadRead::Stopped(HeadStop::NotReady),
+            Filled::Failed => return HeadRead::Stopped(HeadStop::Failed),
+            Filled::NoMemory => return HeadRead::Stopped(HeadStop::NoMemory),
         }
     }
 }

@@ -22,8 +22,10 @@ pub enum Filled {
 /// Reads once, after the bytes that are received. The room is made before the read, so that no
 /// byte that the link gave is lost.
 pub fn fill<L: Link>(link: &mut L, received: &mut BytesMut) -> Filled
-    ensures fills { FillsBy (L.state link.old) (L.state link.new) received.old.items received.new.items result }
-    ensures calls { Called (L.state link.old) (L.state link.new) (is_got result) (fault_of_fill result) }
+    ensures fills { FillsBy (L.state link.old)
+        (L.state link.new) received.old.items received.new.items result }
+    ensures calls { Called (L.state link.old) (L.state link.new) (is_got result)
+        (fault_of_fill result) }
     ensures plan { L.same_plan link.old link.new }
 {
     if received.reserve(READ_SIZE).is_err() {

@@ -22,10 +22,12 @@ pub enum Sending {
 /// Writes what is owed, from its front, until all of it is written or the link takes no more. Counts
 /// the bytes that were written in `sent`.
 pub fn send<L: Link>(link: &mut L, owed: &mut Wire, sent: &mut u64, budget: &mut u32) -> Sending
-    ensures sent { Sent (L.state link.old) (L.state link.new) owed.old owed.new budget.old budget.new }
+    ensures sent { Sent (L.state link.old)
+        (L.state link.new) owed.old owed.new budget.old budget.new }
     ensures cause { SendCause (L.state link.old) (L.state link.new) owed.new budget.new result }
     ensures counted { sent.new ≡ sent_after sent.old owed.old owed.new }
-    ensures calls { Called (L.state link.old) (L.state link.new) (is_all result) (fault_of_send result) }
+    ensures calls { Called (L.state link.old) (L.state link.new) (is_all result)
+        (fault_of_send result) }
     ensures plan { L.same_plan link.old link.new }
 {
     let _counted = *sent;

@@ -28,7 +28,8 @@ pub fn take(
     reader: &mut BodyReader,
     kept: &mut Option<BodyBytes>,
 ) -> Result<Taken, Error>
-    ensures { TakesBody received.old.items received.new.items reader.old reader.new kept.old kept.new result }
+    ensures { TakesBody received.old.items received.new.items reader.old reader.new kept.old
+        kept.new result }
 {
     let mut behind = *reader;
     let fed = behind.feed(received.as_slice());

@@ -32,7 +32,13 @@ impl<L: Link + Drop> Model for Transfer<L> {
 
     ghost Value = { TransferView L };
 
-    ghost view = { λ t. record { link = t.link; received = t.received.items; body = t.body; outgoing = t.outgoing; budget = t.budget } };
+    ghost view = { λ t. record {
+      link = t.link;
+      received = t.received.items;
+      body = t.body;
+      outgoing = t.outgoing;
+      budget = t.budget;
+    } };
 
     ghost invariant = { λ t. Settled t.outgoing };
 }
@@ -117,7 +123,9 @@ impl<L: Link + Drop> Transfer<L> {
     /// pending, stays.
     pub fn begin_body(&mut self, framing: Framing)
         ensures begins { (rest : List ℕ) → reads self.new.body.reader rest ≡ body framing rest }
-        ensures rest { self.new ≡ record self.old { body = record self.old.body { reader = self.new.body.reader; refused = None } } }
+        ensures rest { self.new
+            ≡ record self.old
+            { body = record self.old.body { reader = self.new.body.reader; refused = None } } }
     {
         self.body.reader = BodyReader::new(framing);
         self.body.refused = None;
@@ -142,7 +150,8 @@ impl<L: Link + Drop> Transfer<L> {
     /// Whether a read of the body was pending since this was last asked.
     pub fn take_waits(&mut self) -> bool
         ensures asked { result ≡ self.old.body.waits }
-        ensures rest { self.new ≡ record self.old { body = record self.old.body { waits = false } } }
+        ensures rest { self.new
+            ≡ record self.old { body = record self.old.body { waits = false } } }
     {
         mem::replace(&mut self.body.waits, false)
     }
@@ -165,7 +174,9 @@ impl<L: Link + Drop> Transfer<L> {
     /// Calls a function on the link, which may move none of its bytes.
     pub fn with_link<T, F: FnOnce(&mut L) -> T>(&mut self, f: F) -> T
         requires may { FnOnceTakesAtMut F.FnOnce f self.old.link }
-        requires keeps { (answer : T) (link : L) → FnOnceReturnsAtMut F.FnOnce f self.old.link answer link → KeepsBytes (L.state self.old.link) (L.state link) }
+        requires keeps { (answer : T) (link : L)
+            → FnOnceReturnsAtMut F.FnOnce f self.old.link answer link
+            → KeepsBytes (L.state self.old.link) (L.state link) }
         ensures called { FnOnceReturnsAtMut F.FnOnce f self.old.link result self.new.link }
         ensures rest { self.new ≡ record self.old { link = self.new.link } }
         ensures keeps { KeepsBytes (L.state self.old.link) (L.state self.new.link) }

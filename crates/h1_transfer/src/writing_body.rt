@@ -41,7 +41,8 @@ fn count_at(step: Step) -> Option<usize>
 
 /// How much of a piece is taken, or None where none is admitted any more.
 fn taken_count(writer: &BodyWriter, payload: &[u8]) -> Option<usize>
-    ensures { (outgoing : Outgoing) → outgoing.writer ≡ writer.now → result ≡ piece_count outgoing (Some payload.now) }
+    ensures { (outgoing : Outgoing) → outgoing.writer ≡ writer.now
+        → result ≡ piece_count outgoing (Some payload.now) }
 {
     if writer.framing().is_some() && !writer.finished() {
         Some(writer.taken_len(payload))

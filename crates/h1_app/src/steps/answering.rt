@@ -6,10 +6,9 @@ ghost use Rattle.h1_head.specs.Views.{RequestView};
 ghost use Rattle.h1_server.specs.declared.settings.Settings.{Settings};
 ghost use Rattle.h1_application.specs.Application.{how_of, IsAskedFor};
 ghost use Rattle.h1_transcript.specs.Exchange.{given_to};
-ghost use Rattle.h1_app.specs.Sound.{IsAnswerStage};
+ghost use Rattle.h1_app.specs.Beginning.{IsAnswerStage};
 ghost use Rattle.h1_app.specs.Asking.{AsksAs, RunsOn, GivesAsked, PendsAsked, IsAskedOf, noted};
-ghost use Rattle.h1_app.specs.Leaves.{Leaves};
-ghost use Rattle.h1_app.specs.Turn.{outcome_end};
+ghost use Rattle.h1_app.specs.Turn.{LeavesBy};
 ghost use Rattle.h1_app.specs.Step.{StepReady, Stepped, Continues};
 
 use crate::exchange::{Exchange, Outcome, Stage};
@@ -31,10 +30,12 @@ pub(super) fn answer<L: Link + Drop, SV: ServeHttp<L, C> + Drop, B: Drop, C: Dro
 ) -> Outcome
     requires ready { StepReady (SV.gives server.now.app) (SV.runs server.now.app) now exchange.old }
     requires at { IsAnswerStage exchange.old.stage }
-    ensures stepped { (shutdown : Bool) → Stepped L.state SV.pends (SV.gives server.now.app) (SV.runs server.now.app) now shutdown
+    ensures stepped { (shutdown : Bool)
+        → Stepped L.state SV.pends (SV.gives server.now.app) (SV.runs server.now.app) now shutdown
         exchange.old exchange.new result }
-    ensures continues { Continues L.state L.same_plan SV.begins SV.pends exchange.old exchange.new result }
-    ensures leaves { Leaves (L.state exchange.old.session.link) (L.state exchange.new.session.link) exchange.new.transcript.last (outcome_end result) }
+    ensures continues { Continues L.state L.same_plan SV.begins SV.pends exchange.old exchange.new
+        result }
+    ensures leaves { LeavesBy L.state exchange.old exchange.new result }
 {
     let Some(entry) = &mut exchange.transcript.last else {
         unreachable!()
@@ -88,7 +89,8 @@ where
         → RunsOn (SV.runs app.now job.new head began session.new.settings entry.new.body) result }
     ensures gives { (head : RequestView) (began : Settings) → IsAskedFor head session.old
         → SV.runs app.now job.old head began session.old.settings entry.old.body
-        → GivesAsked (SV.gives app.now) (record (given_to entry.new head) { began = began }) result }
+        → GivesAsked (SV.gives app.now)
+        (record (given_to entry.new head) { began = began }) result }
     ensures never_falls { SV.pends job.old ≤ SV.pends job.new }
     ensures pends { PendsAsked (SV.pends job.old) (SV.pends job.new) result }
 {
@@ -112,7 +114,8 @@ fn seen_as(answer: Poll<Result<Reply, Error>>, waits: bool) -> Asked
 /// The payload goes back to the exchange, with how the body stands.
 fn take_back<L: Link + Drop, C: Drop>(session: &mut HttpSession<L, C>, entry: &mut Entry)
     requires { IsSome session.old.body.kept }
-    ensures session { session.new ≡ record session.old { body = record session.old.body { kept = None } } }
+    ensures session { session.new
+        ≡ record session.old { body = record session.old.body { kept = None } } }
     ensures entry { entry.new ≡ noted entry.old session.old }
 {
     if let Some(body) = session.take_payload() {

@@ -5,10 +5,9 @@ ghost use Rattle.h1_transcript.specs.declared.transcript.Entry.{Entry};
 ghost use Rattle.h1_app.specs.Draining.{ReusesAs, CalledForReuse};
 ghost use Rattle.h1_server.specs.Calls.{is_reused};
 ghost use Rattle.h1_transfer.specs.Calls.{read_fault_of};
-ghost use Rattle.h1_server.specs.Reuse.{is_replied, keeps_alive};
+ghost use Rattle.h1_server.specs.Persistence.{is_replied, keeps_alive};
 ghost use Rattle.h1_transfer.specs.declared.outgoing.Step.TheVariants.{Free};
-ghost use Rattle.h1_app.specs.Leaves.{Leaves};
-ghost use Rattle.h1_app.specs.Turn.{outcome_end};
+ghost use Rattle.h1_app.specs.Turn.{LeavesBy};
 ghost use Rattle.h1_app.specs.Step.{StepReady, Stepped, Continues};
 
 use crate::exchange::{Exchange, Outcome, Stage};
@@ -31,10 +30,12 @@ pub(super) fn drain<L: Link + Drop, SV: ServeHttp<L, C> + Drop, B: Drop, C: Drop
 ) -> Outcome
     requires ready { StepReady (SV.gives server.now.app) (SV.runs server.now.app) now exchange.old }
     requires at { exchange.old.stage ≡ at.Drain }
-    ensures stepped { (shutdown : Bool) → Stepped L.state SV.pends (SV.gives server.now.app) (SV.runs server.now.app) now shutdown
+    ensures stepped { (shutdown : Bool)
+        → Stepped L.state SV.pends (SV.gives server.now.app) (SV.runs server.now.app) now shutdown
         exchange.old exchange.new result }
-    ensures continues { Continues L.state L.same_plan SV.begins SV.pends exchange.old exchange.new result }
-    ensures leaves { Leaves (L.state exchange.old.session.link) (L.state exchange.new.session.link) exchange.new.transcript.last (outcome_end result) }
+    ensures continues { Continues L.state L.same_plan SV.begins SV.pends exchange.old exchange.new
+        result }
+    ensures leaves { LeavesBy L.state exchange.old exchange.new result }
 {
     let Some(entry) = &mut exchange.transcript.last else {
         unreachable!()
@@ -67,7 +68,8 @@ fn reuse<L: Link + Drop, C: Drop>(
     requires free { session.old.reply.step ≡ Free }
     requires replied { is_replied session.old.reply ≡ true }
     ensures reuses { ReusesAs L.state session.old session.new entry.old entry.new result }
-    ensures calls { CalledForReuse (L.state session.old.link) (L.state session.new.link) (keeps_alive session.old) (is_reused result) (read_fault_of result) }
+    ensures calls { CalledForReuse (L.state session.old.link) (L.state session.new.link)
+        (keeps_alive session.old) (is_reused result) (read_fault_of result) }
     ensures plan { L.same_plan session.old.link session.new.link }
 {
     session.keep_payload(mem::replace(&mut entry.body, BodyBytes::new(alloc)));

@@ -1,5 +1,6 @@
 //! An exchange is over: it joins those that ended, and the next one begins on the same link.
-ghost use Rattle.h1_app.specs.Draining.{IsLastOver, JoinsNext};
+ghost use Rattle.h1_app.specs.Draining.{LastMayGoOn};
+ghost use Rattle.h1_app.specs.Joins.{JoinsNext};
 
 use crate::exchange::{Exchange, Outcome, Stage};
 use h1_error::End;
@@ -9,9 +10,8 @@ use h1_link::Link;
 pub(crate) fn next_exchange<L: Link + Drop, C: Drop, J: Drop>(
     exchange: &mut Exchange<L, J, C>,
 ) -> Outcome
-    requires { IsLastOver exchange.old.session exchange.old.transcript.last }
-    ensures { JoinsNext exchange.old.session exchange.new.session exchange.old.transcript exchange.new.transcript
-        exchange.old.stage exchange.new.stage result }
+    requires { LastMayGoOn exchange.old.session exchange.old.transcript.last }
+    ensures { JoinsNext exchange.old exchange.new result }
 {
     if let Err(error) = exchange.transcript.end_last() {
         return Outcome::Ends(End::Failed(error));

@@ -1,12 +1,11 @@
 //! A head is awaited; with it the exchange begins.
 ghost use Rattle.std.specs.Prelude.{◌≡◌, ◌+◌, ◌<◌, IsSome, IfOk, IfErr, None, Some};
-ghost use Rattle.h1_error.specs.declared.error.ErrorType.TheVariants.{NoMemory};
+ghost use Rattle.h1_error.specs.Memory.{no_memory};
 ghost use Rattle.h1_transcript.specs.declared.transcript.Entry.{Entry};
 ghost use Rattle.h1_server.specs.Keepalive.{keepalive_set};
-ghost use Rattle.h1_app.specs.Sound.{IsNewEntry, BegunAs, head_time};
+ghost use Rattle.h1_app.specs.Beginning.{IsNewEntry, BegunAs, head_time};
 ghost use Rattle.h1_app.specs.declared.exchange.Stage.TheVariants as at;
-ghost use Rattle.h1_app.specs.Leaves.{Leaves};
-ghost use Rattle.h1_app.specs.Turn.{outcome_end};
+ghost use Rattle.h1_app.specs.Turn.{LeavesBy};
 ghost use Rattle.h1_app.specs.Step.{StepReady, Stepped, Continues};
 
 use crate::exchange::{Exchange, Outcome, Stage};
@@ -31,10 +30,12 @@ pub(super) fn read_head<L: Link + Drop, SV: ServeHttp<L, C> + Drop, B: Drop, C: 
 ) -> Outcome
     requires ready { StepReady (SV.gives server.now.app) (SV.runs server.now.app) now exchange.old }
     requires at { exchange.old.stage ≡ at.Head }
-    ensures stepped { Stepped L.state SV.pends (SV.gives server.now.app) (SV.runs server.now.app) now shutdown
+    ensures stepped { Stepped L.state SV.pends (SV.gives server.now.app)
+        (SV.runs server.now.app) now shutdown
         exchange.old exchange.new result }
-    ensures continues { Continues L.state L.same_plan SV.begins SV.pends exchange.old exchange.new result }
-    ensures leaves { Leaves (L.state exchange.old.session.link) (L.state exchange.new.session.link) exchange.new.transcript.last (outcome_end result) }
+    ensures continues { Continues L.state L.same_plan SV.begins SV.pends exchange.old exchange.new
+        result }
+    ensures leaves { LeavesBy L.state exchange.old exchange.new result }
 {
     match exchange.session.poll_read_request(now) {
         Poll::Pending => Outcome::Waits(Waiting::Read),
@@ -63,8 +64,11 @@ fn begin<L: Link + Drop, SV: ServeHttp<L, C> + Drop, B: Drop, C: Drop>(
     requires read { IsSome session.old.request }
     requires unread { (session.old.body.kept ≡ None) × (session.old.body.refused ≡ None) }
     requires at { (stage.old ≡ at.Head) × (last.old ≡ None) }
-    ensures session { session.new ≡ record session.old { settings = keepalive_set session.old.settings (head_time shutdown) } }
-    ensures begun { BegunAs SV.begins (SV.runs server.now.app) session.new last.new stage.new result }
+    ensures session { session.new
+        ≡ record session.old
+        { settings = keepalive_set session.old.settings (head_time shutdown) } }
+    ensures begun { BegunAs SV.begins
+        (SV.runs server.now.app) session.new last.new stage.new result }
 {
     session.set_server_keepalive(keepalive(shutdown));
     let settings = session.settings();
@@ -99,7 +103,7 @@ fn keepalive(shutdown: bool) -> Option<u64>
 /// The exchange of a request of which no body was read yet.
 fn new_entry(alloc: Global, request: &Request, settings: Settings) -> Result<Entry, Error>
     ensures ok { IfOk result (IsNewEntry request.now settings) }
-    ensures err { IfErr result (λ error. error.kind ≡ NoMemory) }
+    ensures err { IfErr result (λ error. error ≡ no_memory) }
 {
     Ok(Entry {
         head: request.header.copy()?,

@@ -1,14 +1,13 @@
 //! The reply is written: its header, its body, and the end of its body.
-ghost use Rattle.std.specs.Prelude.{◌≡◌, Bool, ◌<◌, ◌/◌, IsSome, IfSome, IfOk, IfErr, None, Some, true};
+ghost use Rattle.std.specs.Prelude.{◌≡◌, Bool, ◌<◌, IsSome, IfSome, IfOk, IfErr, None, Some};
 ghost use Rattle.h1_error.specs.declared.moment.TheConstants.{YEAR_10000};
-ghost use Rattle.h1_error.specs.declared.error.ErrorType.TheVariants.{NoMemory};
-ghost use Rattle.h1_head.specs.Date.{IsDateAt};
+ghost use Rattle.h1_error.specs.Memory.{no_memory};
 ghost use Rattle.h1_app.specs.declared.exchange.Stage.TheVariants as at;
 ghost use Rattle.h1_transcript.specs.declared.transcript.Entry.{Entry};
-ghost use Rattle.h1_app.specs.Sound.{IsPieceOf, failure_of};
-ghost use Rattle.h1_app.specs.Leaves.{Leaves};
-ghost use Rattle.h1_app.specs.Turn.{outcome_end};
+ghost use Rattle.h1_app.specs.Beginning.{IsPieceOf, failure_of};
+ghost use Rattle.h1_app.specs.Turn.{LeavesBy};
 ghost use Rattle.h1_app.specs.Step.{StepReady, Stepped, Continues};
+ghost use Rattle.h1_app.specs.Replying.{NotesHeader, StandsAfter};
 
 use crate::exchange::{Exchange, Outcome, Stage};
 use crate::{Entry, HttpServer, ServeHttp};
@@ -28,10 +27,12 @@ pub(super) fn take_header<L: Link + Drop, SV: ServeHttp<L, C> + Drop, B: Drop, C
 ) -> Outcome
     requires ready { StepReady (SV.gives server.now.app) (SV.runs server.now.app) now exchange.old }
     requires at { exchange.old.stage ≡ at.TakeHeader }
-    ensures stepped { (shutdown : Bool) → Stepped L.state SV.pends (SV.gives server.now.app) (SV.runs server.now.app) now shutdown
+    ensures stepped { (shutdown : Bool)
+        → Stepped L.state SV.pends (SV.gives server.now.app) (SV.runs server.now.app) now shutdown
         exchange.old exchange.new result }
-    ensures continues { Continues L.state L.same_plan SV.begins SV.pends exchange.old exchange.new result }
-    ensures leaves { Leaves (L.state exchange.old.session.link) (L.state exchange.new.session.link) exchange.new.transcript.last (outcome_end result) }
+    ensures continues { Continues L.state L.same_plan SV.begins SV.pends exchange.old exchange.new
+        result }
+    ensures leaves { LeavesBy L.state exchange.old exchange.new result }
 {
     let Some(entry) = &mut exchange.transcript.last else {
         unreachable!()
@@ -43,24 +44,8 @@ pub(super) fn take_header<L: Link + Drop, SV: ServeHttp<L, C> + Drop, B: Drop, C
     let answer = exchange.session.poll_write_response_header(&mut head, now);
     let keep = exchange.session.reply_keeps();
     let written = exchange.session.written_bytes();
-    match answer {
-        Poll::Pending => {
-            note_header(entry, sent, now, keep, written);
-            exchange.stage = Stage::Header;
-            Outcome::Waits(Waiting::Write)
-        }
-        Poll::Ready(Ok(())) => {
-            note_header(entry, sent, now, keep, written);
-            exchange.stage = Stage::TakeBody;
-            Outcome::Done
-        }
-        Poll::Ready(Err(error)) => {
-            if head.is_none() {
-                note_header(entry, sent, now, keep, written);
-            }
-            Outcome::Ends(End::Failed(error))
-        }
-    }
+    note_header(entry, &head, sent, now, keep, written);
+    stand(&mut exchange.stage, &answer, Stage::Header, Stage::TakeBody)
 }
 
 /// Goes on with the header.
@@ -71,10 +56,12 @@ pub(super) fn write_header<L: Link + Drop, SV: ServeHttp<L, C> + Drop, B: Drop, 
 ) -> Outcome
     requires ready { StepReady (SV.gives server.now.app) (SV.runs server.now.app) now exchange.old }
     requires at { exchange.old.stage ≡ at.Header }
-    ensures stepped { (shutdown : Bool) → Stepped L.state SV.pends (SV.gives server.now.app) (SV.runs server.now.app) now shutdown
+    ensures stepped { (shutdown : Bool)
+        → Stepped L.state SV.pends (SV.gives server.now.app) (SV.runs server.now.app) now shutdown
         exchange.old exchange.new result }
-    ensures continues { Continues L.state L.same_plan SV.begins SV.pends exchange.old exchange.new result }
-    ensures leaves { Leaves (L.state exchange.old.session.link) (L.state exchange.new.session.link) exchange.new.transcript.last (outcome_end result) }
+    ensures continues { Continues L.state L.same_plan SV.begins SV.pends exchange.old exchange.new
+        result }
+    ensures leaves { LeavesBy L.state exchange.old exchange.new result }
 {
     let Some(entry) = &mut exchange.transcript.last else {
         unreachable!()
@@ -82,14 +69,7 @@ pub(super) fn write_header<L: Link + Drop, SV: ServeHttp<L, C> + Drop, B: Drop, 
     let mut taken = None;
     let answer = exchange.session.poll_write_response_header(&mut taken, now);
     entry.written = exchange.session.written_bytes();
-    match answer {
-        Poll::Pending => Outcome::Waits(Waiting::Write),
-        Poll::Ready(Ok(())) => {
-            exchange.stage = Stage::TakeBody;
-            Outcome::Done
-        }
-        Poll::Ready(Err(error)) => Outcome::Ends(End::Failed(error)),
-    }
+    stand(&mut exchange.stage, &answer, Stage::Header, Stage::TakeBody)
 }
 
 /// Takes up the reply's body, where it has bytes.
@@ -101,36 +81,27 @@ pub(super) fn take_body<L: Link + Drop, SV: ServeHttp<L, C> + Drop, B: Drop, C: 
 ) -> Outcome
     requires ready { StepReady (SV.gives server.now.app) (SV.runs server.now.app) now exchange.old }
     requires at { exchange.old.stage ≡ at.TakeBody }
-    ensures stepped { (shutdown : Bool) → Stepped L.state SV.pends (SV.gives server.now.app) (SV.runs server.now.app) now shutdown
+    ensures stepped { (shutdown : Bool)
+        → Stepped L.state SV.pends (SV.gives server.now.app) (SV.runs server.now.app) now shutdown
         exchange.old exchange.new result }
-    ensures continues { Continues L.state L.same_plan SV.begins SV.pends exchange.old exchange.new result }
-    ensures leaves { Leaves (L.state exchange.old.session.link) (L.state exchange.new.session.link) exchange.new.transcript.last (outcome_end result) }
+    ensures continues { Continues L.state L.same_plan SV.begins SV.pends exchange.old exchange.new
+        result }
+    ensures leaves { LeavesBy L.state exchange.old exchange.new result }
 {
     let Some(entry) = &mut exchange.transcript.last else {
         unreachable!()
     };
-    let (sent, mut piece) = match bodies(alloc, entry) {
-        Ok(bodies) => bodies,
+    let mut piece = match note_body(alloc, entry) {
+        Ok(piece) => piece,
         Err(error) => return Outcome::Ends(End::Failed(error)),
     };
-    entry.sent_body = Some(sent);
     if piece.is_none() {
         exchange.stage = Stage::Finish;
         return Outcome::Done;
     }
     let answer = exchange.session.poll_write_body(&mut piece, now);
     entry.written = exchange.session.written_bytes();
-    match answer {
-        Poll::Pending => {
-            exchange.stage = Stage::Body;
-            Outcome::Waits(Waiting::Write)
-        }
-        Poll::Ready(Ok(_)) => {
-            exchange.stage = Stage::Finish;
-            Outcome::Done
-        }
-        Poll::Ready(Err(error)) => Outcome::Ends(End::Failed(error)),
-    }
+    stand(&mut exchange.stage, &answer, Stage::Body, Stage::Finish)
 }
 
 /// Goes on with the body.
@@ -141,10 +112,12 @@ pub(super) fn write_body<L: Link + Drop, SV: ServeHttp<L, C> + Drop, B: Drop, C:
 ) -> Outcome
     requires ready { StepReady (SV.gives server.now.app) (SV.runs server.now.app) now exchange.old }
     requires at { exchange.old.stage ≡ at.Body }
-    ensures stepped { (shutdown : Bool) → Stepped L.state SV.pends (SV.gives server.now.app) (SV.runs server.now.app) now shutdown
+    ensures stepped { (shutdown : Bool)
+        → Stepped L.state SV.pends (SV.gives server.now.app) (SV.runs server.now.app) now shutdown
         exchange.old exchange.new result }
-    ensures continues { Continues L.state L.same_plan SV.begins SV.pends exchange.old exchange.new result }
-    ensures leaves { Leaves (L.state exchange.old.session.link) (L.state exchange.new.session.link) exchange.new.transcript.last (outcome_end result) }
+    ensures continues { Continues L.state L.same_plan SV.begins SV.pends exchange.old exchange.new
+        result }
+    ensures leaves { LeavesBy L.state exchange.old exchange.new result }
 {
     let Some(entry) = &mut exchange.transcript.last else {
         unreachable!()
@@ -152,14 +125,7 @@ pub(super) fn write_body<L: Link + Drop, SV: ServeHttp<L, C> + Drop, B: Drop, C:
     let mut taken = None;
     let answer = exchange.session.poll_write_body(&mut taken, now);
     entry.written = exchange.session.written_bytes();
-    match answer {
-        Poll::Pending => Outcome::Waits(Waiting::Write),
-        Poll::Ready(Ok(_)) => {
-            exchange.stage = Stage::Finish;
-            Outcome::Done
-        }
-        Poll::Ready(Err(error)) => Outcome::Ends(End::Failed(error)),
-    }
+    stand(&mut exchange.stage, &answer, Stage::Body, Stage::Finish)
 }
 
 /// Ends the reply. An error of the request's body is the connection's end after it.
@@ -170,10 +136,12 @@ pub(super) fn finish<L: Link + Drop, SV: ServeHttp<L, C> + Drop, B: Drop, C: Dro
 ) -> Outcome
     requires ready { StepReady (SV.gives server.now.app) (SV.runs server.now.app) now exchange.old }
     requires at { exchange.old.stage ≡ at.Finish }
-    ensures stepped { (shutdown : Bool) → Stepped L.state SV.pends (SV.gives server.now.app) (SV.runs server.now.app) now shutdown
+    ensures stepped { (shutdown : Bool)
+        → Stepped L.state SV.pends (SV.gives server.now.app) (SV.runs server.now.app) now shutdown
         exchange.old exchange.new result }
-    ensures continues { Continues L.state L.same_plan SV.begins SV.pends exchange.old exchange.new result }
-    ensures leaves { Leaves (L.state exchange.old.session.link) (L.state exchange.new.session.link) exchange.new.transcript.last (outcome_end result) }
+    ensures continues { Continues L.state L.same_plan SV.begins SV.pends exchange.old exchange.new
+        result }
+    ensures leaves { LeavesBy L.state exchange.old exchange.new result }
 {
     let Some(entry) = &mut exchange.transcript.last else {
         unreachable!()
@@ -209,8 +177,10 @@ fn failure(body_error: Option<Error>, error: Error) -> Error
 /// The reply's header, for the exchange and to be handed in.
 fn headers(entry: &Entry) -> Result<(ResponseHeader, Option<ResponseHeader>), Error>
     requires { IsSome entry.now.reply }
-    ensures ok { IfOk result (λ headers. IfSome entry.now.reply (λ reply. (headers.0 ≡ reply.header) × (headers.1 ≡ Some reply.header))) }
-    ensures err { IfErr result (λ error. error.kind ≡ NoMemory) }
+    ensures ok { IfOk result
+        (λ headers. IfSome entry.now.reply (λ reply. (headers.0 ≡ reply.header)
+        × (headers.1 ≡ Some reply.header))) }
+    ensures err { IfErr result (λ error. error ≡ no_memory) }
 {
     let Some(reply) = &entry.reply else {
         unreachable!()
@@ -219,25 +189,39 @@ fn headers(entry: &Entry) -> Result<(ResponseHeader, Option<ResponseHeader>), Er
     Ok((sent, Some(reply.header.copy()?)))
 }
 
-/// The header of this exchange was taken up in a poll at this moment.
-fn note_header(entry: &mut Entry, sent: ResponseHeader, now: u64, keep: bool, written: u64)
+/// Notes a header that was taken up in a poll at this moment. One that is handed back was not.
+fn note_header(
+    entry: &mut Entry,
+    back: &Option<ResponseHeader>,
+    sent: ResponseHeader,
+    now: u64,
+    keep: bool,
+    written: u64,
+)
     requires { now < YEAR_10000 }
-    ensures date { IsDateAt (now / 1000) entry.new.date_text }
-    ensures rest { entry.new ≡ record entry.old { sent_head = Some sent; date = now / 1000; date_text = entry.new.date_text; keep = keep; owed = true; written = written } }
+    ensures { NotesHeader back.now sent now keep written entry.old entry.new }
 {
-    entry.sent_head = Some(sent);
-    entry.date = now / 1000;
-    entry.date_text = get_cached_date(now);
-    entry.keep = keep;
-    entry.owed = true;
-    entry.written = written;
+    match back {
+        Some(_) => {}
+        None => {
+            entry.sent_head = Some(sent);
+            entry.date = now / 1000;
+            entry.date_text = get_cached_date(now);
+            entry.keep = keep;
+            entry.owed = true;
+            entry.written = written;
+        }
+    }
 }
 
-/// The reply's body, for the exchange, and to be handed in where it has bytes.
-fn bodies(alloc: Global, entry: &Entry) -> Result<(BodyBytes, Option<Bytes>), Error>
-    requires { IsSome entry.now.reply }
-    ensures ok { IfOk result (λ bodies. IfSome entry.now.reply (λ reply. (bodies.0 ≡ reply.body) × IsPieceOf reply.body bodies.1)) }
-    ensures err { IfErr result (λ error. error.kind ≡ NoMemory) }
+/// Notes the reply's body, and hands it out where it has bytes.
+fn note_body(alloc: Global, entry: &mut Entry) -> Result<Option<Bytes>, Error>
+    requires { IsSome entry.old.reply }
+    ensures ok { IfOk result
+        (λ piece. IfSome entry.old.reply (λ reply. IsPieceOf reply.body piece
+        × (entry.new ≡ record entry.old { sent_body = Some reply.body }))) }
+    ensures err { IfErr result
+        (λ error. (error ≡ no_memory) × (entry.new ≡ entry.old)) }
 {
     let Some(reply) = &entry.reply else {
         unreachable!()
@@ -245,10 +229,32 @@ fn bodies(alloc: Global, entry: &Entry) -> Result<(BodyBytes, Option<Bytes>), Er
     let bytes = reply.body.as_slice();
     let sent = BodyBytes::from_slice(alloc, bytes)?;
     if bytes.is_empty() {
-        return Ok((sent, None));
+        entry.sent_body = Some(sent);
+        return Ok(None);
     }
-    Ok((
-        sent,
-        Some(BytesMut::copy_from_slice(alloc, bytes)?.freeze()?),
-    ))
+    let piece = BytesMut::copy_from_slice(alloc, bytes)?.freeze()?;
+    entry.sent_body = Some(sent);
+    Ok(Some(piece))
+}
+
+/// Where the exchange stands after a call that writes a part of the reply.
+fn stand<J: Drop, T>(
+    stage: &mut Stage<J>,
+    answer: &Poll<Result<T, Error>>,
+    owed: Stage<J>,
+    later: Stage<J>,
+) -> Outcome
+    ensures { StandsAfter answer.now owed later stage.old stage.new result }
+{
+    match answer {
+        Poll::Pending => {
+            *stage = owed;
+            Outcome::Waits(Waiting::Write)
+        }
+        Poll::Ready(Ok(_)) => {
+            *stage = later;
+            Outcome::Done
+        }
+        Poll::Ready(Err(error)) => Outcome::Ends(End::Failed(*error)),
+    }
 }

@@ -1,11 +1,10 @@
-//! Whether the connection persists after this request, and what is set for that.
+//! What is set for a connection that persists, and what stands of its request.
 ghost use Rattle.std.specs.Prelude.{◌≡◌, [], is_some, IsSome, IfSome, None};
-ghost use Rattle.h1_server.specs.Reuse.{grants, stays_open, is_empty_framing};
+ghost use Rattle.h1_server.specs.Payload.{is_empty_framing};
 
 use super::HttpSession;
-use crate::persistence::{has_reuses, is_at_end};
+use crate::persistence::is_at_end;
 use crate::settings::{wished, with_keepalive};
-use crate::{Outgoing, Request};
 use bytes::BytesMut;
 use h1_body::Framing;
 use h1_head::HeadSearch;
@@ -13,23 +12,17 @@ use h1_link::Link;
 
 impl<L: Link + Drop, C: Drop> HttpSession<L, C> {
     ghost use Rattle.h1_server.specs.Keepalive.{keepalive_set, wished};
-    ghost use Rattle.h1_server.specs.Reuse.{keeps_alive, is_body_done, is_empty_framing, prefix_of};
-
-    /// Whether the connection persists after this request (RFC 9112, section 9.3).
-    pub fn will_keepalive(&self) -> bool
-        ensures { result ≡ keeps_alive self.now }
-    {
-        !self.settings.keep_off
-            && has_reuses(self.settings.reuses)
-            && grants(&self.asked.request)
-            && self.transfer.body().refused.is_none()
-            && stays_open(self.transfer.outgoing())
-    }
+    ghost use Rattle.h1_server.specs.Persistence.{is_body_done};
+    ghost use Rattle.h1_server.specs.Payload.{is_empty_framing};
+    ghost use Rattle.h1_server.specs.Reuse.{prefix_of};
 
     /// Turns keep-alive on without a deadline where the request wishes it, else off.
     pub fn respect_keepalive(&mut self)
         requires { IsSome self.old.request }
-        ensures { IfSome self.old.request (λ request. self.new ≡ record self.old { settings = keepalive_set self.old.settings (wished request.wish) }) }
+        ensures { IfSome self.old.request
+            (λ request. self.new
+            ≡ record self.old
+            { settings = keepalive_set self.old.settings (wished request.wish) }) }
     {
         let Some(request) = &self.asked.request else {
             unreachable!()
@@ -39,7 +32,8 @@ impl<L: Link + Drop, C: Drop> HttpSession<L, C> {
 
     /// Sets how many requests more may be served after this one; None is no limit.
     pub fn set_keepalive_reuses_remaining(&mut self, reuses: Option<u32>)
-        ensures { self.new ≡ record self.old { settings = record self.old.settings { reuses = reuses } } }
+        ensures { self.new
+            ≡ record self.old { settings = record self.old.settings { reuses = reuses } } }
     {
         self.settings.reuses = reuses;
     }
@@ -52,7 +46,8 @@ impl<L: Link + Drop, C: Drop> HttpSession<L, C> {
 
     /// Sets whether a header that is taken up before the request's body ends closes the connection.
     pub fn set_close_on_response_before_downstream_finish(&mut self, closing: bool)
-        ensures { self.new ≡ record self.old { settings = record self.old.settings { closing = closing } } }
+        ensures { self.new
+            ≡ record self.old { settings = record self.old.settings { closing = closing } } }
     {
         self.settings.closing = closing;
     }
@@ -100,7 +95,8 @@ impl<L: Link + Drop, C: Drop> HttpSession<L, C> {
     /// Whether the request has no body.
     pub fn is_body_empty(&mut self) -> bool
         requires { IsSome self.old.request }
-        ensures answer { IfSome self.old.request (λ request. result ≡ is_empty_framing request.framing) }
+        ensures answer { IfSome self.old.request
+            (λ request. result ≡ is_empty_framing request.framing) }
         ensures same { self.new ≡ self.old }
     {
         let Some(request) = &self.asked.request else {
@@ -108,23 +104,6 @@ impl<L: Link + Drop, C: Drop> HttpSession<L, C> {
         };
         is_empty_framing(request.framing)
     }
-}
-
-/// The wish of the request, once its head was read.
-fn grants(request: &Option<Request>) -> bool
-    ensures { result ≡ grants request.now }
-{
-    match request {
-        Some(request) => request.wish,
-        None => true,
-    }
-}
-
-/// Whether the reply lets the connection go on, as far as it was taken up.
-fn stays_open(reply: &Outgoing) -> bool
-    ensures { result ≡ stays_open reply.now }
-{
-    !reply.headed || (reply.keep && !reply.writer.is_close_delimited())
 }
 
 fn is_empty_framing(framing: Framing) -> bool

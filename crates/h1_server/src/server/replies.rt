@@ -5,7 +5,7 @@ ghost use Rattle.futures.specs.declared.task.Poll.TheVariants.{Ready};
 
 use super::HttpSession;
 use crate::persistence::keep_flag;
-use crate::taking_up::{head_delivery, is_passed_over, take_header};
+use crate::taking_up::{head_delivery, is_passed_over, keep_after, take_header};
 use bytes::Bytes;
 use futures::task::Poll;
 use h1_error::Error;
@@ -13,7 +13,7 @@ use h1_head::ResponseHeader;
 use h1_link::Link;
 
 impl<L: Link + Drop, C: Drop> HttpSession<L, C> {
-    ghost use Rattle.h1_transfer.specs.Calls.{Called, is_done, write_fault_of};
+    ghost use Rattle.h1_transfer.specs.Calls.{Called, succeeds, write_fault_of};
     ghost use Rattle.h1_server.specs.Replies.{HeaderCall, is_passed_over, WritesPiece, EndCall, stage_of, IsHeaderStep};
     ghost use Rattle.h1_transfer.specs.BodyWrites.{IsPieceStep, IsEndStep};
 
@@ -28,9 +28,14 @@ impl<L: Link + Drop, C: Drop> HttpSession<L, C> {
         requires free { IsHeaderStep header.old self.old.reply.step }
         requires is_final { IfSome header.old (λ view. 200 ≤ view.status) }
         requires moment { now < YEAR_10000 }
-        ensures again { IfSome self.old.reply.refused (λ error. (result ≡ Ready (Err error)) × (self.new ≡ self.old) × (header.new ≡ header.old)) }
-        ensures writes { IfNone self.old.reply.refused (IfSome self.old.request (λ request. HeaderCall L.state self.old self.new request header.old header.new now result (is_passed_over header.old self.old.reply.headed))) }
-        ensures calls { Called (L.state self.old.link) (L.state self.new.link) false (write_fault_of result) }
+        ensures again { IfSome self.old.reply.refused (λ error. (result ≡ Ready (Err error))
+            × (self.new ≡ self.old) × (header.new ≡ header.old)) }
+        ensures writes { IfNone self.old.reply.refused
+            (IfSome self.old.request
+            (λ request. HeaderCall L.state self.old self.new request header.old header.new now
+            result (is_passed_over header.old self.old.reply.headed))) }
+        ensures calls { Called (L.state self.old.link) (L.state self.new.link) false
+            (write_fault_of result) }
         ensures plan { L.same_plan self.old.link self.new.link }
     {
         if let Some(error) = self.transfer.outgoing().refused {
@@ -43,10 +48,12 @@ impl<L: Link + Drop, C: Drop> HttpSession<L, C> {
         let Some(request) = &self.asked.request else {
             unreachable!()
         };
-        let keep = keep_flag(request.wish, self.settings, self.transfer.body());
+        let flag = keep_flag(request.wish, self.settings, self.transfer.body());
+        let keep = keep_after(header, self.keep, flag);
         if let Err(error) = take_header(&mut self.transfer, request, keep, header, now) {
             return Poll::Ready(Err(error));
         }
+        self.keep = keep;
         let how = head_delivery(&self.transfer.outgoing().writer);
         self.transfer.poll_deliver(how)
     }
@@ -60,9 +67,12 @@ impl<L: Link + Drop, C: Drop> HttpSession<L, C> {
     ) -> Poll<Result<Option<usize>, Error>>
         requires headed { self.old.reply.headed ≡ true }
         requires free { IsPieceStep buf.old self.old.reply.step }
-        ensures again { IfSome self.old.reply.refused (λ error. (result ≡ Ready (Err error)) × (self.new ≡ self.old) × (buf.new ≡ buf.old)) }
-        ensures writes { IfNone self.old.reply.refused (WritesPiece L.state self.old self.new buf.old buf.new result) }
-        ensures calls { Called (L.state self.old.link) (L.state self.new.link) (is_done result) (write_fault_of result) }
+        ensures again { IfSome self.old.reply.refused (λ error. (result ≡ Ready (Err error))
+            × (self.new ≡ self.old) × (buf.new ≡ buf.old)) }
+        ensures writes { IfNone self.old.reply.refused
+            (WritesPiece L.state self.old self.new buf.old buf.new result) }
+        ensures calls { Called (L.state self.old.link) (L.state self.new.link) (succeeds result)
+            (write_fault_of result) }
         ensures plan { L.same_plan self.old.link self.new.link }
     {
         self.transfer.poll_write_body(buf)
@@ -72,9 +82,12 @@ impl<L: Link + Drop, C: Drop> HttpSession<L, C> {
     /// all, or None where no body was begun or it was finished before.
     pub fn poll_finish_body(&mut self, now: u64) -> Poll<Result<Option<usize>, Error>>
         requires free { IsEndStep self.old.reply.step }
-        ensures again { IfSome self.old.reply.refused (λ error. (result ≡ Ready (Err error)) × (self.new ≡ self.old)) }
-        ensures writes { IfNone self.old.reply.refused (EndCall L.state self.old self.new result (stage_of self.old.reply)) }
-        ensures calls { Called (L.state self.old.link) (L.state self.new.link) false (write_fault_of result) }
+        ensures again { IfSome self.old.reply.refused (λ error. (result ≡ Ready (Err error))
+            × (self.new ≡ self.old)) }
+        ensures writes { IfNone self.old.reply.refused
+            (EndCall L.state self.old self.new result (stage_of self.old.reply)) }
+        ensures calls { Called (L.state self.old.link) (L.state self.new.link) false
+            (write_fault_of result) }
         ensures plan { L.same_plan self.old.link self.new.link }
     {
         self.transfer.poll_finish_body()

@@ -1,14 +1,15 @@
 //! Handing the link on to the next request: the rest of the body is read, and what was received
 //! after it is kept.
 ghost use Rattle.std.specs.Prelude.{◌≡◌, IsSome, IfSome, IfNone, option_map, Err, true};
-ghost use Rattle.h1_server.specs.Reuse.{may_follow, prefix_of, is_replied};
+ghost use Rattle.h1_server.specs.Reuse.{prefix_of};
 ghost use Rattle.futures.specs.declared.task.Poll.TheVariants.{Ready};
 ghost use Rattle.h1_transfer.specs.declared.outgoing.Step.TheVariants.{Free};
 
 use super::HttpSession;
+use crate::ReusableHttpStream;
+use crate::persistence::may_follow;
 use crate::request_state::RequestState;
 use crate::settings::next_settings;
-use crate::{Outgoing, ReusableHttpStream};
 use bytes::BytesMut;
 use futures::task::Poll;
 use h1_error::Error;
@@ -16,16 +17,20 @@ use h1_link::Link;
 
 impl<L: Link + Drop, C: Drop> HttpSession<L, C> {
     ghost use Rattle.h1_server.specs.Payload.{DrainsBody};
-    ghost use Rattle.h1_server.specs.Reuse.{ReusesBy, AwaitsNext, may_go_on, prefix_of};
+    ghost use Rattle.h1_server.specs.Persistence.{may_go_on};
+    ghost use Rattle.h1_server.specs.Reuse.{ReusesBy, AwaitsNext, prefix_of};
     ghost use Rattle.h1_server.specs.Calls.{is_reused};
-    ghost use Rattle.h1_transfer.specs.Calls.{Called, is_done, read_fault_of};
+    ghost use Rattle.h1_transfer.specs.Calls.{Called, succeeds, read_fault_of};
 
     /// Reads the rest of the request's body (RFC 9112, section 9.3).
     pub fn poll_drain_request_body(&mut self, now: u64) -> Poll<Result<(), Error>>
         requires { IsSome self.old.request }
-        ensures again { IfSome self.old.body.refused (λ error. (result ≡ Ready (Err error)) × (self.new ≡ self.old)) }
-        ensures drains { IfNone self.old.body.refused (DrainsBody L.state self.old self.new result) }
-        ensures calls { Called (L.state self.old.link) (L.state self.new.link) (is_done result) (read_fault_of result) }
+        ensures again { IfSome self.old.body.refused (λ error. (result ≡ Ready (Err error))
+            × (self.new ≡ self.old)) }
+        ensures drains { IfNone self.old.body.refused
+            (DrainsBody L.state self.old self.new result) }
+        ensures calls { Called (L.state self.old.link) (L.state self.new.link) (succeeds result)
+            (read_fault_of result) }
         ensures plan { L.same_plan self.old.link self.new.link }
     {
         self.transfer.poll_drain()
@@ -37,7 +42,9 @@ impl<L: Link + Drop, C: Drop> HttpSession<L, C> {
         requires request { IsSome self.old.request }
         requires free { self.old.reply.step ≡ Free }
         ensures reuse { ReusesBy L.state self.old self.new result (may_go_on self.old) }
-        ensures calls { may_go_on self.old ≡ true → Called (L.state self.old.link) (L.state self.new.link) (is_reused result) (read_fault_of result) }
+        ensures calls { may_go_on self.old ≡ true
+            → Called (L.state self.old.link) (L.state self.new.link) (is_reused result)
+            (read_fault_of result) }
         ensures plan { L.same_plan self.old.link self.new.link }
     {
         self.reusable = false;
@@ -53,13 +60,6 @@ impl<L: Link + Drop, C: Drop> HttpSession<L, C> {
                 Poll::Ready(Ok(self.reusable))
             }
         }
-    }
-
-    // Whether the connection persists, and the reply to this request is whole.
-    fn may_go_on(&self) -> bool
-        ensures { result ≡ may_go_on self.now }
-    {
-        self.will_keepalive() && is_replied(self.transfer.outgoing())
     }
 
     /// Whether the link may serve the next request, as `poll_reuse` answered last.
@@ -78,6 +78,7 @@ impl<L: Link + Drop, C: Drop> HttpSession<L, C> {
     {
         self.transfer.start_over();
         self.asked = RequestState::new();
+        self.keep = false;
         self.settings = next_settings(self.settings);
         self.reusable = false;
     }
@@ -85,7 +86,8 @@ impl<L: Link + Drop, C: Drop> HttpSession<L, C> {
     /// The link for the next request, with what was received and not used.
     pub fn into_reusable(self) -> ReusableHttpStream<L>
         requires { self.reusable ≡ true }
-        ensures { (result.stream ≡ self.link) × (option_map (λ bytes. bytes.items) result.prefix ≡ prefix_of self.received) }
+        ensures { (result.stream ≡ self.link)
+            × (option_map (λ bytes. bytes.items) result.prefix ≡ prefix_of self.received) }
     {
         let (link, received) = self.transfer.into_parts();
         ReusableHttpStream {
@@ -93,21 +95,6 @@ impl<L: Link + Drop, C: Drop> HttpSession<L, C> {
             prefix: prefix_of(received),
         }
     }
-}
-
-/// Whether a final reply was written to its end, with all bytes that it states, and no write was
-/// refused.
-fn is_replied(reply: &Outgoing) -> bool
-    ensures { result ≡ is_replied reply.now }
-{
-    reply.headed && reply.refused.is_none() && reply.writer.finished() && !reply.writer.is_short()
-}
-
-/// Whether the next request may stand after these bytes.
-fn may_follow(pipelining: bool, received: &[u8]) -> bool
-    ensures { result ≡ may_follow pipelining received.now }
-{
-    pipelining || received.is_empty()
 }
 
 /// The bytes, where there are any.

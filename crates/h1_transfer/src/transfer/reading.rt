@@ -16,7 +16,7 @@ use h1_error::Error;
 use h1_link::Link;
 
 impl<L: Link + Drop> Transfer<L> {
-    ghost use Rattle.h1_transfer.specs.Calls.{Called, is_done, is_got, read_fault_of, fault_of_fill};
+    ghost use Rattle.h1_transfer.specs.Calls.{Called, succeeds, is_got, read_fault_of, fault_of_fill};
     ghost use Rattle.h1_transfer.specs.Payload.{ReadsPayload, DrainsBody};
     ghost use Rattle.h1_transfer.specs.Heads.{ReadsHead, is_whole_head, fault_of_head};
     ghost use Rattle.h1_transfer.specs.Receiving.{FillsBy};
@@ -26,9 +26,14 @@ impl<L: Link + Drop> Transfer<L> {
 
     /// Reads the link once, after what is received. No budget is asked.
     pub fn fill(&mut self) -> Filled
-        ensures fills { FillsBy (L.state self.old.link) (L.state self.new.link) self.old.received self.new.received result }
-        ensures rest { self.new ≡ record self.old { link = self.new.link; received = self.new.received } }
-        ensures calls { Called (L.state self.old.link) (L.state self.new.link) (is_got result) (fault_of_fill result) }
+        ensures fills { FillsBy (L.state self.old.link)
+            (L.state self.new.link) self.old.received self.new.received result }
+        ensures rest { self.new ≡ record self.old {
+          link = self.new.link;
+          received = self.new.received;
+        } }
+        ensures calls { Called (L.state self.old.link) (L.state self.new.link) (is_got result)
+            (fault_of_fill result) }
         ensures plan { L.same_plan self.old.link self.new.link }
     {
         fill(&mut self.link, &mut self.received)
@@ -40,7 +45,8 @@ impl<L: Link + Drop> Transfer<L> {
         requires { HasLooked MAX_HEADER_SIZE search.old self.old.received }
         ensures reads { ReadsHead L.state H.is_at H.refuses H.lacks self.old self.new result }
         ensures looked { HasLooked MAX_HEADER_SIZE search.new self.new.received }
-        ensures calls { Called (L.state self.old.link) (L.state self.new.link) (is_whole_head result) (fault_of_head result) }
+        ensures calls { Called (L.state self.old.link) (L.state self.new.link)
+            (is_whole_head result) (fault_of_head result) }
         ensures plan { L.same_plan self.old.link self.new.link }
     {
         let mut left = allowance_of(self.budget);
@@ -58,9 +64,12 @@ impl<L: Link + Drop> Transfer<L> {
     /// Reads payload of the body; None is its end (RFC 9112, section 6). A refusal is answered
     /// again; out of memory only while payload is kept.
     pub fn poll_read_body_bytes(&mut self) -> Poll<Result<Option<Bytes>, Error>>
-        ensures again { IfSome self.old.body.refused (λ error. (result ≡ Ready (Err error)) × (self.new ≡ self.old)) }
-        ensures reads { IfNone self.old.body.refused (ReadsPayload L.state itself self.old self.new result) }
-        ensures calls { Called (L.state self.old.link) (L.state self.new.link) (is_done result) (read_fault_of result) }
+        ensures again { IfSome self.old.body.refused (λ error. (result ≡ Ready (Err error))
+            × (self.new ≡ self.old)) }
+        ensures reads { IfNone self.old.body.refused
+            (ReadsPayload L.state itself self.old self.new result) }
+        ensures calls { Called (L.state self.old.link) (L.state self.new.link) (succeeds result)
+            (read_fault_of result) }
         ensures plan { L.same_plan self.old.link self.new.link }
         ensures bound { length self.new.received < 2 ^ 63 }
     {
@@ -85,16 +94,19 @@ impl<L: Link + Drop> Transfer<L> {
 
     /// Reads the rest of the body.
     pub fn poll_drain(&mut self) -> Poll<Result<(), Error>>
-        ensures again { IfSome self.old.body.refused (λ error. (result ≡ Ready (Err error)) × (self.new ≡ self.old)) }
-        ensures drains { IfNone self.old.body.refused (DrainsBody L.state itself self.old self.new result) }
-        ensures calls { Called (L.state self.old.link) (L.state self.new.link) (is_done result) (read_fault_of result) }
+        ensures again { IfSome self.old.body.refused (λ error. (result ≡ Ready (Err error))
+            × (self.new ≡ self.old)) }
+        ensures drains { IfNone self.old.body.refused
+            (DrainsBody L.state itself self.old self.new result) }
+        ensures calls { Called (L.state self.old.link) (L.state self.new.link) (succeeds result)
+            (read_fault_of result) }
         ensures plan { L.same_plan self.old.link self.new.link }
     {
         if let Some(error) = self.body.refused {
             return Poll::Ready(Err(error));
         }
         let mut left = allowance_of(self.budget);
-        let read = drain_body(
+        let stop = drain_body(
             self.alloc,
             &mut self.link,
             &mut self.received,
@@ -103,6 +115,6 @@ impl<L: Link + Drop> Transfer<L> {
             &mut left,
         );
         self.budget = budget_left(self.budget, left);
-        rest(&mut self.body, read)
+        rest(&mut self.body, stop)
     }
 }

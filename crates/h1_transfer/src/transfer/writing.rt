@@ -16,7 +16,7 @@ use h1_link::Link;
 impl<L: Link + Drop> Transfer<L> {
     ghost use Rattle.h1_body.specs.Writer.{begun};
     ghost use Rattle.h1_transfer.specs.BodyWrites.{IsPieceStep, IsEndStep};
-    ghost use Rattle.h1_transfer.specs.Calls.{Called, is_done, is_unflushed, write_fault_of};
+    ghost use Rattle.h1_transfer.specs.Calls.{Called, succeeds, is_unflushed, write_fault_of};
     ghost use Rattle.h1_transfer.specs.TransferView.{itself};
     ghost use Rattle.h1_transfer.specs.Writes.{Delivers};
     ghost use Rattle.h1_transfer.specs.PieceWrites.{WritesPiece};
@@ -25,23 +25,31 @@ impl<L: Link + Drop> Transfer<L> {
     ghost use Rattle.std.specs.Prelude.{◌&&◌};
 
     /// Takes up a head, whose body has this framing.
-    pub fn take_up_head(&mut self, head: Wire, framing: Framing, keep: bool)
+    pub fn take_up_head(&mut self, head: Wire, framing: Framing)
         requires free { self.old.outgoing.step ≡ Free }
         requires unrefused { self.old.outgoing.refused ≡ None }
-        ensures takes { self.new ≡ record self.old { outgoing = record self.old.outgoing { owed = head; writer = begun framing; headed = true; keep = keep; step = Head } } }
+        ensures takes { self.new
+            ≡ record self.old {
+              outgoing = record self.old.outgoing {
+                owed = head;
+                writer = begun framing;
+                headed = true;
+                step = Head;
+              };
+            } }
         ensures settled { self.old.outgoing.owed ≡ [] }
     {
         self.outgoing.owed = head;
         self.outgoing.writer.begin(framing);
         self.outgoing.headed = true;
-        self.outgoing.keep = keep;
         self.outgoing.step = Step::Head;
     }
 
     /// Goes on with the write that is in progress.
     pub fn poll_deliver(&mut self, how: Delivery) -> Poll<Result<(), Error>>
         ensures delivers { Delivers L.state how self.old self.new result }
-        ensures calls { Called (L.state self.old.link) (L.state self.new.link) (is_unflushed how && is_done result) (write_fault_of result) }
+        ensures calls { Called (L.state self.old.link) (L.state self.new.link)
+            (is_unflushed how && succeeds result) (write_fault_of result) }
         ensures plan { L.same_plan self.old.link self.new.link }
     {
         let mut left = allowance_of(self.budget);
@@ -54,9 +62,12 @@ impl<L: Link + Drop> Transfer<L> {
     /// where none is admitted any more.
     pub fn poll_write_body(&mut self, buf: &mut Option<Bytes>) -> Poll<Result<Option<usize>, Error>>
         requires free { IsPieceStep buf.old self.old.outgoing.step }
-        ensures again { IfSome self.old.outgoing.refused (λ error. (result ≡ Ready (Err error)) × (self.new ≡ self.old) × (buf.new ≡ buf.old)) }
-        ensures writes { IfNone self.old.outgoing.refused (WritesPiece L.state itself self.old self.new buf.old buf.new result) }
-        ensures calls { Called (L.state self.old.link) (L.state self.new.link) (is_done result) (write_fault_of result) }
+        ensures again { IfSome self.old.outgoing.refused (λ error. (result ≡ Ready (Err error))
+            × (self.new ≡ self.old) × (buf.new ≡ buf.old)) }
+        ensures writes { IfNone self.old.outgoing.refused
+            (WritesPiece L.state itself self.old self.new buf.old buf.new result) }
+        ensures calls { Called (L.state self.old.link) (L.state self.new.link) (succeeds result)
+            (write_fault_of result) }
         ensures plan { L.same_plan self.old.link self.new.link }
     {
         if let Some(error) = self.outgoing.refused {
@@ -78,9 +89,12 @@ impl<L: Link + Drop> Transfer<L> {
     /// None where no body was begun or it was finished before.
     pub fn poll_finish_body(&mut self) -> Poll<Result<Option<usize>, Error>>
         requires free { IsEndStep self.old.outgoing.step }
-        ensures again { IfSome self.old.outgoing.refused (λ error. (result ≡ Ready (Err error)) × (self.new ≡ self.old)) }
-        ensures writes { IfNone self.old.outgoing.refused (EndCall L.state itself self.old self.new result (stage_of self.old.outgoing)) }
-        ensures calls { Called (L.state self.old.link) (L.state self.new.link) false (write_fault_of result) }
+        ensures again { IfSome self.old.outgoing.refused (λ error. (result ≡ Ready (Err error))
+            × (self.new ≡ self.old)) }
+        ensures writes { IfNone self.old.outgoing.refused
+            (EndCall L.state itself self.old self.new result (stage_of self.old.outgoing)) }
+        ensures calls { Called (L.state self.old.link) (L.state self.new.link) false
+            (write_fault_of result) }
         ensures plan { L.same_plan self.old.link self.new.link }
     {
         if let Some(error) = self.outgoing.refused {

@@ -1,6 +1,6 @@
 -- No read was pending or refused so far, and what was read is gathered.
 use Rattle.std.proofs.Common.{◌-◌, ◌^◌, length}
-use Rattle.h1_echo.specs.EchoRun.{Reading}
+use Rattle.h1_echo.proofs.Words.{Reading}
 use Rattle.h1_echo.proofs.echo.read_body.Given as goal
 
 abbrev pub invariant-reads : goal.invariant-reads

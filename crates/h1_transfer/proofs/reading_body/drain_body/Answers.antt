@@ -1,8 +1,7 @@
 -- Each turn reads payload on.
 use Rattle.std.proofs.Common.{[], refl, ◌++◌, ◌∙◌, arith}
-use Rattle.h1_transfer.specs.Decoding.{payload_of}
 use Rattle.h1_transfer.proofs.CalledLemmas.{called_itself, called_on}
-use Rattle.h1_transfer.proofs.BodyLemmas.{parsed_behind, reads_body_itself, reads_body_on, gave_payload, gave_by_moves, drains_less}
+use Rattle.h1_transfer.proofs.BodyLemmas.{parsed_behind, reads_body_itself, reads_body_on, drains_less}
 use Rattle.h1_transfer.proofs.reading_body.drain_body.Goals as goal
 
 pub drains-init : goal.drains-init
@@ -15,33 +14,32 @@ drains-init g c = record {
 }
 
 pub drains-preserved : goal.drains-preserved
-drains-preserved g c =
-    let more = gave_payload (g.L.Link.state c.drains.link) (g.L.Link.state c.read_body-read.new.link) c.read_body-read.new.reader
-    c.read_body-read.new.received.items c.read_body-read.new.budget c.read_body-read.result c.in_default.ensures c.read_body-read.ensures.cause in
-    record {
-      moved = (
-        c.drains.invariant.moved.0 ++ payload_of c.read_body-read.result,
-        reads_body_on _ _ _ _ _ _ _ _ _ _ _ _ _ _ _ _ _ c.drains.invariant.moved.1 c.read_body-read.ensures.reads,
-      );
-      waits = more.1 ∙ c.drains.invariant.waits;
-      parsed = λ less. parsed_behind _ _ _ _ _ _ _ _ _ _ _ _ c.drains.invariant.moved.1 c.drains.invariant.parsed c.read_body-read.ensures.parsed less;
-      calls = called_on _ _ _ _ _ c.drains.invariant.calls
-          (gave_by_moves (g.L.Link.state c.drains.link) (g.L.Link.state c.read_body-read.new.link) c.read_body-read.result c.in_default.ensures c.read_body-read.ensures.calls);
-      plan = g.met.L.Link.plan_on _ _ _ c.drains.invariant.plan c.read_body-read.ensures.plan;
-    }
+drains-preserved g c = record {
+  moved = (
+    c.drains.invariant.moved.0 ++ c.in-Piece.payload,
+    reads_body_on _ _ _ _ _ _ _ _ _ _ _ _ _ _ _ _ _ c.drains.invariant.moved.1
+        c.in-Piece.ensures.reads,
+  );
+  waits = c.in-Piece.ensures.cause.1 ∙ c.drains.invariant.waits;
+  parsed = λ less. parsed_behind _ _ _ _ _ _ _ _ _ _ _ _ c.drains.invariant.moved.1
+      c.drains.invariant.parsed c.in-Piece.ensures.parsed less;
+  calls = called_on _ _ _ _ _ c.drains.invariant.calls c.in-Piece.ensures.calls;
+  plan = g.met.L.Link.plan_on _ _ _ c.drains.invariant.plan c.in-Piece.ensures.plan;
+}
 
 pub drains-smaller : goal.drains-smaller
-drains-smaller g c =
-    let more = gave_payload (g.L.Link.state c.drains.link) (g.L.Link.state c.read_body-read.new.link) c.read_body-read.new.reader
-    c.read_body-read.new.received.items c.read_body-read.new.budget c.read_body-read.result c.in_default.ensures c.read_body-read.ensures.cause in
-    drains_less _ _ _ _ _ _ _ _ _ _ _ c.read_body-read.ensures.reads more.0 (omega (arith, c.len-left_over.ensures.bound, c.len-left_over.ensures.value))
+drains-smaller g c = drains_less _ _ _ _ _ _ _ _ _ _ _ c.in-Piece.ensures.reads
+    c.in-Piece.ensures.cause.0
+    (omega (arith, c.len-left_over.ensures.bound, c.len-left_over.ensures.value))
 
-pub returns-in-Some-clause-parsed : goal.returns-in-Some-clause-parsed
-returns-in-Some-clause-parsed g c = λ less.
-    parsed_behind _ _ _ _ _ _ _ _ _ _ _ _ c.drains.invariant.moved.1 c.drains.invariant.parsed c.read_body-read.ensures.parsed less
+pub returns-in-Stopped-clause-parsed : goal.returns-in-Stopped-clause-parsed
+returns-in-Stopped-clause-parsed g c = λ less.
+    parsed_behind _ _ _ _ _ _ _ _ _ _ _ _ c.drains.invariant.moved.1 c.drains.invariant.parsed
+    c.in-Stopped.ensures.parsed less
 
-pub returns-in-Some-clause-reads : goal.returns-in-Some-clause-reads
-returns-in-Some-clause-reads g c = (
-  c.drains.invariant.moved.0 ++ payload_of c.read_body-read.result,
-  reads_body_on _ _ _ _ _ _ _ _ _ _ _ _ _ _ _ _ _ c.drains.invariant.moved.1 c.read_body-read.ensures.reads,
+pub returns-in-Stopped-clause-reads : goal.returns-in-Stopped-clause-reads
+returns-in-Stopped-clause-reads g c = (
+  c.drains.invariant.moved.0 ++ [],
+  reads_body_on _ _ _ _ _ _ _ _ _ _ _ _ _ _ _ _ _ c.drains.invariant.moved.1
+      c.in-Stopped.ensures.reads,
 )

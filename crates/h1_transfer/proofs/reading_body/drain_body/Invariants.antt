@@ -1,8 +1,7 @@
 -- What was read so far is payload, and no read waited.
 use Rattle.std.proofs.Common.{◌≡◌, ◌<◌, ◌*◌, ◌+◌, ℕ, List, length, true}
-use Rattle.h1_body.specs.Reader.{reads}
-use Rattle.h1_transfer.specs.Decoding.{ReadsBody, IsUnfinished}
-use Rattle.h1_transfer.specs.Calls.{Called, no_fault}
+use Rattle.h1_transfer.specs.Words.{reads}
+use Rattle.h1_transfer.proofs.Words.{ReadsBody, IsUnfinished, Called, no_fault}
 use Rattle.h1_transfer.proofs.reading_body.drain_body.Given as goal
 
 abbrev pub invariant-drains : goal.invariant-drains

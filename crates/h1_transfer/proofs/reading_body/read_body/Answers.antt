@@ -1,9 +1,10 @@
 -- Each turn uses what is received, and then reads once.
 use Rattle.std.proofs.Common.{◌≤◌, arith, refl, ◌∙◌, inl, inr}
 use Rattle.std.proofs.lemmas.Bool.{cases_lt}
-use Rattle.h1_transfer.specs.declared.receiving.Filled.TheVariants.{Got, End, NotReady, Failed, NoMemory}
+use Rattle.h1_transfer.specs.Words.{Got, End}
+use Rattle.h1_transfer.specs.declared.receiving.Filled.TheVariants.{NotReady, Failed, NoMemory}
 use Rattle.h1_transfer.proofs.CalledLemmas.{called_itself, called_on}
-use Rattle.h1_transfer.proofs.BodyLemmas.{parsed_first, reads_body_itself, reads_body_uses, reads_body_fills, reads_body_free}
+use Rattle.h1_transfer.proofs.BodyLemmas.{parsed_first, reads_body_itself, reads_body_took, reads_body_fills, reads_body_free}
 use Rattle.h1_transfer.proofs.reading_body.read_body.Goals as goal
 
 pub reads-init : goal.reads-init
@@ -15,63 +16,39 @@ reads-init g c = record {
   plan = g.met.L.Link.plan_itself _;
 }
 
-pub returns-in-Ok-Piece-clause-reads : goal.returns-in-Ok-Piece-clause-reads
-returns-in-Ok-Piece-clause-reads g c =
-    let took = rw c.in-Ok-Piece.field-0-is at c.in-Ok-Piece.ensures in
-    reads_body_uses _ _ _ _ _ _ _ _ _ _ _ _ _ _ c.reads.invariant.moved took.0
-
-pub returns-in-Ok-Done-clause-reads : goal.returns-in-Ok-Done-clause-reads
-returns-in-Ok-Done-clause-reads g c =
-    let took = rw c.in-Ok-Done.field-0-is at c.in-Ok-Done.ensures in
-    reads_body_uses _ _ _ _ _ _ _ _ _ _ _ _ _ _ c.reads.invariant.moved took.0
-
-pub returns-in-Ok-Broken-clause-reads : goal.returns-in-Ok-Broken-clause-reads
-returns-in-Ok-Broken-clause-reads g c =
-    let took = rw c.in-Ok-Broken.field-0-is at c.in-Ok-Broken.ensures in
-    reads_body_uses _ _ _ _ _ _ _ _ _ _ _ _ _ _ c.reads.invariant.moved took.0
-
-pub returns-then-budget-eq0-clause-reads : goal.returns-then-budget-eq0-clause-reads
-returns-then-budget-eq0-clause-reads g c =
-    let took = rw c.in-Ok-Lacks.field-0-is at c.in-Ok-Lacks.ensures in
-    reads_body_uses _ _ _ _ _ _ _ _ _ _ _ _ _ _ c.reads.invariant.moved took.0
-
 pub reads-preserved : goal.reads-preserved
 reads-preserved g c =
-    let took = rw c.in-Ok-Lacks.field-0-is at c.in-Ok-Lacks.ensures in
+    let took = reads_body_took c.reads.invariant.moved c.in-Ok-Lacks.field-0-is
+    c.in-Ok-Lacks.ensures in
+    let lacks = (rw c.in-Ok-Lacks.field-0-is at c.in-Ok-Lacks.ensures).1 in
     let spend : 1 ≤ c.reads.budget = omega arith in
     record {
-      moved = reads_body_fills _ _ _ _ _ _ _ _ _ _ _ _ Got
-          (reads_body_uses _ _ _ _ _ _ _ _ _ _ _ _ _ _ c.reads.invariant.moved took.0) c.in-Got.ensures.fills spend;
+      moved = reads_body_fills _ _ _ _ _ _ _ _ _ _ _ _ Got took c.in-Got.ensures.fills spend;
       waits = c.in-Got.ensures.fills.cause.1 ∙ c.reads.invariant.waits;
       parsed = λ _. elim (cases_lt c.reads.budget c.args.budget.now) [
         | inl less ↦ c.reads.invariant.parsed less
-        | inr first ↦ parsed_first _ _ _ _ _ _ _ _ _ _
-            (reads_body_uses _ _ _ _ _ _ _ _ _ _ _ _ _ _ c.reads.invariant.moved took.0) first took.1
+        | inr first ↦ parsed_first _ _ _ _ _ _ _ _ _ _ took first lacks
       ];
       calls = called_on _ _ _ _ _ c.reads.invariant.calls c.in-Got.ensures.calls;
       plan = g.met.L.Link.plan_on _ _ _ c.reads.invariant.plan c.fill.ensures.plan;
     }
 
 pub returns-in-End-clause-reads : goal.returns-in-End-clause-reads
-returns-in-End-clause-reads g c =
-    let took = rw c.in-Ok-Lacks.field-0-is at c.in-Ok-Lacks.ensures in
-    reads_body_free _ _ _ _ _ _ _ _ _ _ _ _ End refl
-    (reads_body_uses _ _ _ _ _ _ _ _ _ _ _ _ _ _ c.reads.invariant.moved took.0) c.in-End.ensures.fills
+returns-in-End-clause-reads g c = reads_body_free _ _ _ _ _ _ _ _ _ _ _ _ End refl
+    (reads_body_took c.reads.invariant.moved c.in-Ok-Lacks.field-0-is c.in-Ok-Lacks.ensures)
+    c.in-End.ensures.fills
 
 pub returns-in-NotReady-clause-reads : goal.returns-in-NotReady-clause-reads
-returns-in-NotReady-clause-reads g c =
-    let took = rw c.in-Ok-Lacks.field-0-is at c.in-Ok-Lacks.ensures in
-    reads_body_free _ _ _ _ _ _ _ _ _ _ _ _ NotReady refl
-    (reads_body_uses _ _ _ _ _ _ _ _ _ _ _ _ _ _ c.reads.invariant.moved took.0) c.in-NotReady.ensures.fills
+returns-in-NotReady-clause-reads g c = reads_body_free _ _ _ _ _ _ _ _ _ _ _ _ NotReady refl
+    (reads_body_took c.reads.invariant.moved c.in-Ok-Lacks.field-0-is c.in-Ok-Lacks.ensures)
+    c.in-NotReady.ensures.fills
 
 pub returns-in-Failed-clause-reads : goal.returns-in-Failed-clause-reads
-returns-in-Failed-clause-reads g c =
-    let took = rw c.in-Ok-Lacks.field-0-is at c.in-Ok-Lacks.ensures in
-    reads_body_free _ _ _ _ _ _ _ _ _ _ _ _ Failed refl
-    (reads_body_uses _ _ _ _ _ _ _ _ _ _ _ _ _ _ c.reads.invariant.moved took.0) c.in-Failed.ensures.fills
+returns-in-Failed-clause-reads g c = reads_body_free _ _ _ _ _ _ _ _ _ _ _ _ Failed refl
+    (reads_body_took c.reads.invariant.moved c.in-Ok-Lacks.field-0-is c.in-Ok-Lacks.ensures)
+    c.in-Failed.ensures.fills
 
 pub returns-in-NoMemory-clause-reads : goal.returns-in-NoMemory-clause-reads
-returns-in-NoMemory-clause-reads g c =
-    let took = rw c.in-Ok-Lacks.field-0-is at c.in-Ok-Lacks.ensures in
-    reads_body_free _ _ _ _ _ _ _ _ _ _ _ _ NoMemory refl
-    (reads_body_uses _ _ _ _ _ _ _ _ _ _ _ _ _ _ c.reads.invariant.moved took.0) c.in-NoMemory.ensures.fills
+returns-in-NoMemory-clause-reads g c = reads_body_free _ _ _ _ _ _ _ _ _ _ _ _ NoMemory refl
+    (reads_body_took c.reads.invariant.moved c.in-Ok-Lacks.field-0-is c.in-Ok-Lacks.ensures)
+    c.in-NoMemory.ensures.fills

@@ -1,9 +1,7 @@
 -- What was used so far gave no payload, and no read waits.
 use Rattle.std.proofs.Common.{◌≡◌, ◌<◌, [], true}
-use Rattle.h1_body.specs.Body.{unfinished}
-use Rattle.h1_body.specs.Reader.{reads}
-use Rattle.h1_transfer.specs.Decoding.{ReadsBody}
-use Rattle.h1_transfer.specs.Calls.{Called, no_fault}
+use Rattle.h1_transfer.specs.Words.{unfinished, reads}
+use Rattle.h1_transfer.proofs.Words.{ReadsBody, Called, no_fault}
 use Rattle.h1_transfer.proofs.reading_body.read_body.Given as goal
 
 abbrev pub invariant-reads : goal.invariant-reads

@@ -1,7 +1,7 @@
 -- Each read puts what it gave after what is received.
 use Rattle.std.proofs.Common.{◌≤◌, arith, refl, ◌∙◌, inl, inr}
 use Rattle.std.proofs.lemmas.Bool.{cases_lt}
-use Rattle.h1_transfer.specs.declared.receiving.Filled.TheVariants.{Got, End}
+use Rattle.h1_transfer.specs.Words.{Got, End}
 use Rattle.h1_cut.proofs.SearchLemmas.{HasLooked-append}
 use Rattle.h1_transfer.proofs.CalledLemmas.{called_itself, called_on}
 use Rattle.h1_transfer.proofs.MovedLemmas.{read_nothing, received_itself, received_fills, received_free}

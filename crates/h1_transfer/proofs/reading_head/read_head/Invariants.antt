@@ -2,8 +2,7 @@
 use Rattle.std.proofs.Common.{◌≡◌, ◌<◌, true}
 use Rattle.h1_cut.specs.Search.{HasLooked}
 use Rattle.h1_head.specs.declared.limits.TheConstants.{MAX_HEADER_SIZE}
-use Rattle.h1_transfer.specs.Calls.{Called, no_fault}
-use Rattle.h1_transfer.specs.Moved.{Received}
+use Rattle.h1_transfer.proofs.Words.{Called, no_fault, Received}
 use Rattle.h1_transfer.proofs.reading_head.read_head.Given as goal
 
 abbrev pub invariant-reads : goal.invariant-reads

@@ -1,8 +1,6 @@
 -- What is owed is sent from its front.
 use Rattle.std.proofs.Common.{◌≡◌, true}
-use Rattle.h1_transfer.specs.Moved.{Sent}
-use Rattle.h1_transfer.specs.Writing.{sent_after}
-use Rattle.h1_transfer.specs.Calls.{Called, no_fault}
+use Rattle.h1_transfer.proofs.Words.{Sent, sent_after, Called, no_fault}
 use Rattle.h1_transfer.proofs.sending.send.Given as goal
 
 abbrev pub invariant-sends : goal.invariant-sends

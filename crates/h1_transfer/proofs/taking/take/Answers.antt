@@ -1,7 +1,6 @@
 -- What the reader was fed with is taken.
 use Rattle.std.proofs.Common.{◌∙◌, ap, option_map, ◌++◌, slice_range, subst, List, ℕ}
-use Rattle.h1_body.specs.Feeds.{Feeds}
-use Rattle.h1_body.specs.Reader.{reads}
+use Rattle.h1_transfer.specs.Words.{Feeds, reads}
 use Rattle.h1_transfer.proofs.TakeLemmas.{takes_fed}
 use Rattle.h1_transfer.proofs.taking.take.Goals as goal
 

@@ -7,7 +7,8 @@ pub returns-in-Reads-clause-stepped : goal.returns-in-Reads-clause-stepped
 returns-in-Reads-clause-stepped g c = λ shutdown.
     let state = g.L.Link.state in
     let runs = g.SV.ServeHttp.runs c.args.server.now.app in
-    let s = at_answer runs _ _ _ _ _ c.requires.ready.sound c.in-Answer.is c.in-Some.is in
+    let s = at_answer runs c.args.exchange.now.session _ _ _ _ c.requires.ready.sound c.in-Answer.is
+    c.in-Some.is in
     asked_stepped state _ _ runs c.args.now shutdown _ _ c.in-Some.entry c.ask.new.entry
     c.ask.new.entry _ _ _ c.requires.ready c.in-Answer.is c.in-Some.is refl refl
     c.ask.ensures.asks (search rules) (search rules) (search rules) (

@@ -1,8 +1,6 @@
 use Rattle.std.proofs.Common.{ap, ◌∙◌, refl, sym, subst}
-use Rattle.h1_app.specs.Asking.{noted, GivesAsked}
-use Rattle.h1_transcript.specs.Exchange.{given_to}
-use Rattle.h1_transcript.specs.declared.transcript.Entry.{Entry}
-use Rattle.h1_app.specs.Sound.{lent}
+use Rattle.h1_app.proofs.Words.{noted, GivesAsked, lent}
+use Rattle.h1_app.specs.Words.{given_to, Entry}
 use Rattle.h1_app.proofs.AskLemmas.{asked_as, gives_asked, given_noted}
 use Rattle.h1_app.proofs.steps.answering.ask.Goals as goal
 

@@ -1,6 +1,6 @@
 -- The session was lent the payload, and gave it back.
 use Rattle.std.proofs.Common.{List, ℕ, [], Option, unwrap_or, ◌∙◌, ap, sym}
-use Rattle.h1_app.specs.Sound.{lent}
+use Rattle.h1_app.proofs.Words.{lent}
 use Rattle.h1_app.proofs.DrainLemmas.{reuses_as}
 use Rattle.h1_app.proofs.LeavesLemmas.{called_reuse}
 use Rattle.h1_app.proofs.steps.draining.reuse.Goals as goal
@@ -16,6 +16,13 @@ returns-in-Some-clause-reuses g c =
 
 pub returns-in-Some-clause-calls : goal.returns-in-Some-clause-calls
 returns-in-Some-clause-calls g c =
+    rw c.take_payload.ensures.rest (called_reuse g.L.Link.state c.args.session.now c.keep_payload.new.self
+    c.poll_reuse-answer.new.self c.args.entry.now.body c.poll_reuse-answer.result
+    (c.keep_payload.ensures ∙ ap (lent c.args.session.now) c.replace.ensures.value) c.requires.replied
+    c.poll_reuse-answer.ensures.reuse c.poll_reuse-answer.ensures.calls)
+
+pub returns-in_default-clause-calls : goal.returns-in_default-clause-calls
+returns-in_default-clause-calls g c =
     rw c.take_payload.ensures.rest (called_reuse g.L.Link.state c.args.session.now c.keep_payload.new.self
     c.poll_reuse-answer.new.self c.args.entry.now.body c.poll_reuse-answer.result
     (c.keep_payload.ensures ∙ ap (lent c.args.session.now) c.replace.ensures.value) c.requires.replied

@@ -1,7 +1,6 @@
-use Rattle.std.proofs.Common.{refl, rules, ap}
+use Rattle.std.proofs.Common.{refl}
 use Rattle.h1_app.proofs.HeadLemmas.{at_head, none_few, none_stepped, head_waits, closed_none, closed_ends, failed_ends}
-use Rattle.h1_app.proofs.AccountedLemmas.{moves_received}
-use Rattle.h1_app.proofs.BeginLemmas.{headed_by, begun_accounted, begun_outcome, begun_extends, begun_begins, begun_few, begun_allowed}
+use Rattle.h1_app.proofs.BeginLemmas.{begun_stepped}
 use Rattle.h1_app.proofs.steps.reading_head.read_head.Goals as goal
 
 pub returns-in-Pending-clause-stepped : goal.returns-in-Pending-clause-stepped
@@ -43,7 +42,6 @@ returns-in-Ready-Err-clause-stepped g c =
 pub returns-in-Ready-Ok-Head-clause-stepped : goal.returns-in-Ready-Ok-Head-clause-stepped
 returns-in-Ready-Ok-Head-clause-stepped g c =
     let state = g.L.Link.state in
-    let begins = g.SV.ServeHttp.begins in
     let runs = g.SV.ServeHttp.runs c.args.server.now.app in
     let reads = rw (
       c.in-Ready-Ok-Head.is,
@@ -51,19 +49,6 @@ returns-in-Ready-Ok-Head-clause-stepped g c =
       c.in-Ready-Ok-Head.field-0-0-is,
     ) at c.poll_read_request.ensures.reads in
     let h = at_head state runs _ _ _ _ _ c.requires.ready.sound c.requires.at reads in
-    let headed = headed_by _ _ _ _ _ _ _ h c.begin.ensures.session in
-    record {
-      moves = rw c.begin.ensures.session
-          (moves_received state _ _ _ _ h.reads.received h.reads.budget (ap (λ s. s.context) h.reads.rest));
-      accounted = begun_accounted state begins runs _ _ _ _ _ _ headed c.begin.ensures.begun;
-      allowed = begun_allowed begins runs (g.SV.ServeHttp.gives c.args.server.now.app)
-          c.begin.new.session _ _ _ c.begin.ensures.begun;
-      kept = search rules;
-      extends = begun_extends state begins runs c.args.now c.args.shutdown _ _ _ _ _ _ _ _ h
-          c.begin.ensures.session c.begin.ensures.begun;
-      begins_with = begun_begins state begins runs c.args.shutdown _ _ _ _ _ _ _ _ h
-          c.begin.ensures.session c.begin.ensures.begun;
-      reads_not_ready = begun_few state begins runs _ _ _ _ _ _ headed c.begin.ensures.begun;
-      outcome = begun_outcome state begins g.SV.ServeHttp.pends runs _ _ _ _ _ _ _ c.requires.at
-          headed c.begin.ensures.begun;
-    }
+    rw c.begin.ensures.session (begun_stepped state g.SV.ServeHttp.begins g.SV.ServeHttp.pends _
+    runs c.args.now c.args.shutdown _ _ _ _ _ _ c.requires.at h
+    (rw c.begin.ensures.session at c.begin.ensures.begun))

@@ -1,35 +1,24 @@
 -- The body goes on.
-use Rattle.std.proofs.Common.{Ok, Err, refl}
-use Rattle.h1_app.proofs.ReplyLemmas.{ready_is}
+use Rattle.std.proofs.Common.{refl, arith}
+use Rattle.h1_app.specs.declared.exchange.Stage.TheVariants as at
+use Rattle.h1_app.proofs.CallSteps.{call_continues, call_leaves}
 use Rattle.h1_app.proofs.ReplySteps.{body_stepped}
 use Rattle.h1_app.proofs.steps.replying.write_body.Goals as goal
 
-pub returns-in-Pending-clause-stepped : goal.returns-in-Pending-clause-stepped
-returns-in-Pending-clause-stepped g c = λ shutdown.
-    let call = c.poll_write_body-answer in
-    body_stepped g.L.Link.state _ _ _ c.args.now shutdown _ _ c.in-Some.entry call.new.buf
-    call.result c.written_bytes-entry.result _
-    c.requires.ready c.requires.at c.in-Some.is refl call.ensures.writes
-    c.written_bytes-entry.ensures (rw c.in-Pending.is (c.requires.at, refl))
-
-pub returns-in-Ready-Ok-clause-stepped : goal.returns-in-Ready-Ok-clause-stepped
-returns-in-Ready-Ok-clause-stepped g c = λ shutdown.
-    let told = ready_is _ c.in-Ready-Ok.field-0 (Ok c.in-Ready-Ok.field-0-0) c.in-Ready-Ok.is
-    (rw c.in-Ready-Ok.is at c.in-Ready-Ok.field-0-is) in
-    let call = c.poll_write_body-answer in
-    body_stepped g.L.Link.state _ _ _ c.args.now shutdown _ _ c.in-Some.entry call.new.buf
-    call.result c.written_bytes-entry.result _
-    c.requires.ready c.requires.at c.in-Some.is refl call.ensures.writes
-    c.written_bytes-entry.ensures
-    (rw told (refl, refl))
-
 pub returns-clause-stepped : goal.returns-clause-stepped
 returns-clause-stepped g c = λ shutdown.
-    let told = ready_is _ c.in-Ready-Err.field-0 (Err c.in-Ready-Err.error) c.in-Ready-Err.is
-    (rw c.in-Ready-Err.is at c.in-Ready-Err.field-0-is) in
-    let call = c.poll_write_body-answer in
-    body_stepped g.L.Link.state _ _ _ c.args.now shutdown _ _ c.in-Some.entry call.new.buf
-    call.result c.written_bytes-entry.result _
-    c.requires.ready c.requires.at c.in-Some.is refl call.ensures.writes
-    c.written_bytes-entry.ensures
-    (rw told refl)
+    body_stepped g.L.Link.state _ _ _ c.args.now shutdown _ _ _ c.requires.ready _ _ _
+    (rw c.requires.at at c.requires.ready.sound) c.requires.at (rw c.in-Some.is refl)
+    c.poll_write_body-answer.ensures.writes c.written_bytes-entry.ensures c.stand.ensures
+
+pub returns-clause-continues : goal.returns-clause-continues
+returns-clause-continues g c =
+    let call = c.poll_write_body-answer.ensures in
+    call_continues g.L.Link.state _ _ _ _ _ _ _ (λ done. done) at.Body at.Body at.Finish
+    c.requires.at refl call.plan tt tt tt call.calls (λ few. few) (λ few. omega (arith, few))
+    c.stand.ensures
+
+pub returns-clause-leaves : goal.returns-clause-leaves
+returns-clause-leaves g c =
+    call_leaves _ _ _ _ _ _ _ _ _ _ c.poll_write_body-answer.ensures.calls
+    c.stand.ensures

@@ -1,8 +1,8 @@
 -- What reading a head came to is what the call answers.
 use Rattle.std.proofs.Common.{ap, ◌∙◌}
-use Rattle.h1_transfer.proofs.OptionLemmas.{if_none, if_some_not, is_nothing}
-use Rattle.h1_server.specs.Keepalive.{keepalive_set}
-use Rattle.h1_server.proofs.HeadLemmas.{head_read, head_stopped, stop_called}
+use Rattle.h1_transfer.proofs.OptionLemmas.{if_none, is_nothing}
+use Rattle.h1_server.proofs.Words.{keepalive_set}
+use Rattle.h1_server.proofs.HeadLemmas.{head_read, head_stopped}
 use Rattle.h1_server.proofs.server.HttpSession.poll_read_request.Goals as goal
 
 pub returns-in-Whole-clause-reads : goal.returns-in-Whole-clause-reads
@@ -14,15 +14,16 @@ returns-in-Whole-clause-reads g c =
     c.len-len.result c.with_keepalive-self-inside.result unrefused c.in-Whole.ensures.reads c.skip.ensures c.begin_body.ensures.begins
     c.begin_body.ensures.rest c.len-len.ensures.value settings))
 
-pub returns-in_default-read : goal.returns-in_default-read
-returns-in_default-read g c =
+pub returns-in-Stopped-clause-reads : goal.returns-in-Stopped-clause-reads
+returns-in-Stopped-clause-reads g c =
     let unrefused = is_nothing c.self.inside.asked.refused c.in_default.not-Some in
     let unread = rw (← c.self.view_is) at c.requires in
-    record {
-      again = rw (← c.self.view_is) (if_some_not c.self.inside.asked.refused _ unrefused);
-      reads = rw (← c.self.view_is) (if_none c.self.inside.asked.refused _
-          (head_stopped {C = g.row.C.Denot} g.L.Link.state _ c.read_head-read.new.self c.stop_for.new.refused c.read_head-read.result c.stop_for.result
-          unread unrefused c.stop_for.ensures c.read_head-read.ensures.reads));
-      calls = rw (← c.self.view_is) (stop_called _ _ _ _ c.read_head-read.result c.stop_for.result c.stop_for.ensures c.read_head-read.ensures.calls);
-      plan = rw (← c.self.view_is) c.read_head-read.ensures.plan;
-    }
+    rw (← c.self.view_is) (if_none c.self.inside.asked.refused _
+    (head_stopped {C = g.row.C.Denot} g.L.Link.state _ c.read_head-read.new.self
+    c.stop_for.new.refused c.in-Stopped.stop c.stop_for.result
+    unread unrefused c.stop_for.ensures.answer c.in-Stopped.ensures.reads))
+
+pub returns-in-Stopped-clause-calls : goal.returns-in-Stopped-clause-calls
+returns-in-Stopped-clause-calls g c =
+    rw (← c.self.view_is) (rw (c.stop_for.ensures.told.0, c.stop_for.ensures.told.1)
+    c.in-Stopped.ensures.calls)

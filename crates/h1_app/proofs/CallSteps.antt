@@ -1,0 +1,195 @@
+-- The steps that make one call that writes a part of a reply.
+use Rattle.std.proofs.Common.{Bool, Err, List, None, Ok, Option, Result, Some, [], ap, false, inl, refl, true, ℕ, ◌++◌, ◌+◌, ◌<◌, ◌∙◌, ◌≡◌, ◌≤◌}
+use Rattle.h1_app.specs.Words.{Called, Entry, Error, Exchange, Given, IsAllowed, IsRefused, LinkState, Outcome, Outgoing, Pending, Poll, Ready, Reply, Request, RequestView, RoseBy, Settings, Stage, Step, Writes, written_of}
+use Rattle.h1_transfer.specs.Calls.{CallsFew, OneOther, succeeds, write_fault_of}
+use Rattle.h1_transfer.specs.Writes.{IsFree, IsSameMessage, IsWaiting}
+use Rattle.h1_app.proofs.LeavesLemmas.{write_fails}
+use Rattle.h1_app.proofs.PartLemmas.{Part, WritesPart, more_of, more_part, part_accounted, part_grows, part_replied, replying}
+use Rattle.h1_app.proofs.ReplyLemmas.{ahead_down, at_some, headed_on, moves_wrote, refused_cause, settled_owed, waits_why}
+use Rattle.h1_app.proofs.StepLemmas.{allowed_written, grown_stepped, unread_few}
+use Rattle.h1_app.proofs.Words.{IsHeaded, IsReplied, JobFrom, Leaves, OutcomeCause, SettledSo, SoundStage, StepReady, Stepped, coming, outcome_end, rank, still, ahead}
+use Rattle.h1_app.specs.Pace.{place}
+use Rattle.h1_app.specs.Replying.{StandsAfter}
+use Rattle.h1_app.specs.Step.{Continues}
+use Rattle.h1_app.specs.Waits.{OthersFew}
+
+-- what each call that writes a part answers: the part is owed, it is written, or it was refused
+abbrev pub AnswersCall : {T : Type 0} → LinkState → LinkState → Outgoing → Step → ℕ
+    → Poll (Result T Error) → Type 0
+AnswersCall before now new step left Pending = IsWaiting before now new step left
+AnswersCall before now new step left (Ready (Ok value)) = IsFree new
+AnswersCall before now new step left (Ready (Err error)) =
+    IsRefused before now new step error error.kind × (error.retry ≡ false)
+
+-- what continues through such a step: a call that is done makes few calls of the link
+pub call_continues : {L C J T : Type 0} (state : L → LinkState) (same_plan : L → L → Type 0)
+    (begins : J → Type 0) (pends : J → ℕ) (x y : Exchange L J C) (result : Outcome)
+    (answer : Poll (Result T Error)) (done : Bool → Bool) (from owed later : Stage J)
+    → x.stage ≡ from → y.transcript.done ≡ x.transcript.done
+    → same_plan x.session.link y.session.link
+    → JobFrom begins pends from from → JobFrom begins pends from owed
+    → JobFrom begins pends from later
+    → Called (state x.session.link) (state y.session.link) (done (succeeds answer))
+    (write_fault_of answer)
+    → (CallsFew (state x.session.link) (state y.session.link) (done false)
+    → OneOther (state x.session.link) (state y.session.link))
+    → (CallsFew (state x.session.link) (state y.session.link) (done true)
+    → (state y.session.link).others + still from ≤ (state x.session.link).others + still later)
+    → StandsAfter answer owed later x.stage y.stage result
+    → Continues state same_plan begins pends x y result
+call_continues {L} {C} {J} {T} state same_plan begins pends x y result answer done from owed later
+    stage same plan job job_owed job_later calls once few stands =
+    by_answer answer calls.others (rw stage at stands)
+  where
+    continues : (to : Stage J) → y.stage ≡ to → JobFrom begins pends from to
+        → OthersFew (state x.session.link) (state y.session.link) from to result
+        → Continues state same_plan begins pends x y result
+    continues to is job others = record {
+      done = same;
+      plan = plan;
+      job = rw (stage, is) job;
+      others = rw (stage, is) others;
+    }
+
+    by_answer : (answer : Poll (Result T Error))
+        → CallsFew (state x.session.link) (state y.session.link) (done (succeeds answer))
+        → StandsAfter answer owed later from y.stage result
+        → Continues state same_plan begins pends x y result
+    by_answer Pending others stands = continues owed stands.0 job_owed (rw stands.1 (once others))
+    by_answer (Ready (Ok value)) others stands =
+        continues later stands.0 job_later (rw stands.1 (few others))
+    by_answer (Ready (Err error)) others stands =
+        continues from stands.0 job (rw stands.1 (once others))
+
+-- what it leaves of its link
+pub call_leaves : {J T : Type 0} (before now : LinkState) (last : Option Entry) (done : Bool)
+    (answer : Poll (Result T Error)) (owed later from to : Stage J) (result : Outcome)
+    → Called before now done (write_fault_of answer) → StandsAfter answer owed later from to result
+    → Leaves before now last (outcome_end result)
+call_leaves before now last done Pending owed later from to result calls stands = rw stands.1
+    (record { writes = calls.faults.1; reads = inl calls.faults.0; shut = calls.shut })
+call_leaves before now last done (Ready (Ok value)) owed later from to result calls stands =
+    rw stands.1
+    (record { writes = calls.faults.1; reads = inl calls.faults.0; shut = calls.shut })
+call_leaves before now last done (Ready (Err error)) owed later from to result calls stands =
+    rw stands.1 (write_fails before now last done error calls)
+
+module _ {L C J : Type 0} (state : L → LinkState) (pends : J → ℕ) (gives : Given → Reply → Type 0)
+    (runs : J → RequestView → Settings → Settings → List ℕ → Type 0) (now : ℕ) (shutdown : Bool)
+    (x y : Exchange L J C) (result : Outcome) (ready : StepReady gives runs now x) (e : Entry)
+    (was : x.transcript.last ≡ Some e) where
+  -- the exchange stood so before
+  pub allowed_before : IsAllowed gives e
+  allowed_before = at_some (IsAllowed gives) x.transcript.last e was ready.allowed
+
+  -- the step with the part that was written, by why it goes on
+  pub part_stepped : (p : Part) (taking : List ℕ) (left : ℕ)
+      → WritesPart state now x.session y.session taking left e p
+      → y.transcript.last ≡ Some (replying e p)
+      → ((before : LinkState) (done : List Entry)
+      → RoseBy (written_of done + y.session.reply.sent) before.bytes_out
+      (state y.session.link).bytes_out
+      → SettledSo before (state y.session.link) done (Some (replying e p)))
+      → IsAllowed gives (replying e p)
+      → OutcomeCause state pends runs x.session y.session (Some (replying e p)) x.stage y.stage
+      result
+      → Stepped state pends gives runs now shutdown x y result
+  part_stepped p taking left w is settled allowed outcome =
+      grown_stepped state pends gives runs now shutdown x y e (replying e p) result was is
+      (moves_wrote state x.session y.session w.flag taking left ready.budget w.writes)
+      (λ before done s. part_accounted state now before done x.session y.session taking left e p w
+      (settled before done) s)
+      allowed w.counted (part_grows state now x.session y.session taking left e p w)
+      (unread_few (state x.session.link) (state y.session.link) e (replying e p) result refl
+      w.writes.sent.unread)
+      outcome
+
+  -- the same where the reply is owed, by what the call answered
+  pub call_stepped : {T : Type 0} (p : Part) (taking : List ℕ) (left : ℕ) (step : Step)
+      (answer : Poll (Result T Error)) (owed later : Stage J)
+      → WritesPart state now x.session y.session taking left e p
+      → y.transcript.last ≡ Some (replying e p) → p.owed ≡ true → IsAllowed gives (replying e p)
+      → AnswersCall (state x.session.link) (state y.session.link) y.session.reply step left answer
+      → (y.session.reply.refused ≡ None → y.session.reply.step ≡ step
+      → SoundStage runs y.session (Some (replying e p)) owed)
+      → (IsFree y.session.reply → SoundStage runs y.session (Some (replying e p)) later
+      × (rank later < rank x.stage)
+      × (ahead y.session.budget later < ahead x.session.budget x.stage))
+      → StandsAfter answer owed later x.stage y.stage result
+      → Stepped state pends gives runs now shutdown x y result
+  call_stepped {T} p taking left step answer owed later w is unflushed allowed told waits done
+      stands =
+      part_stepped p taking left w is
+      (λ before done rose. settled_owed before (state y.session.link) done (replying e p) unflushed)
+      allowed (by_answer answer told stands)
+    where
+      by_answer : (answer : Poll (Result T Error))
+          → AnswersCall (state x.session.link) (state y.session.link) y.session.reply step left
+          answer
+          → StandsAfter answer owed later x.stage y.stage result
+          → OutcomeCause state pends runs x.session y.session (Some (replying e p)) x.stage y.stage
+          result
+      by_answer Pending told stands = rw (stands.0, stands.1) (
+        waits told.refused told.at_step,
+        (
+          waits_why state x.session y.session w.flag taking left ready.budget w.writes told.why,
+          unflushed,
+        ),
+      )
+      by_answer (Ready (Ok value)) told stands = rw (stands.0, stands.1) (done told)
+      by_answer (Ready (Err error)) told stands = rw stands.1 (λ before done s. (
+        told.1,
+        refused_cause before (state x.session.link) (state y.session.link) done
+            y.session.reply step (Some (replying e p)) error error.kind told.0,
+      ))
+
+  -- what is left of a round after a step to a later stage
+  pub lower : (p : Part) (taking : List ℕ) (left : ℕ) (from later : Stage J)
+      → WritesPart state now x.session y.session taking left e p
+      → x.stage ≡ from → rank later < rank from → place later < place from
+      → (rank later < rank x.stage)
+      × (ahead y.session.budget later < ahead x.session.budget x.stage)
+  lower p taking left from later w stage less before = (
+    rw stage less,
+    ahead_down state x.session y.session x.stage later
+        (moves_wrote state x.session y.session w.flag taking left ready.budget w.writes)
+        (rw stage before),
+  )
+
+  -- a call that goes on with a part takes nothing up
+  pub goes_on_stepped : {T : Type 0} (request : Request) (reply : Reply) (taking : List ℕ)
+      (left written : ℕ) (step : Step) (answer : Poll (Result T Error)) (from later : Stage J)
+      → x.stage ≡ from → rank later < rank from → place later < place from
+      → y.transcript.last ≡ Some (record e { written = written }) → written ≡ y.session.reply.sent
+      → IsReplied e x.session request reply → IsHeaded e x.session reply
+      → Writes state x.session y.session taking left
+      → (taking ≡ []) × IsSameMessage x.session.reply y.session.reply
+      → AnswersCall (state x.session.link) (state y.session.link) y.session.reply step left answer
+      → (IsReplied (record e { written = written }) y.session request reply
+      → IsHeaded (record e { written = written }) y.session reply
+      → y.session.reply.step ≡ step
+      → SoundStage runs y.session (Some (record e { written = written })) from)
+      → (IsReplied (record e { written = written }) y.session request reply
+      → IsHeaded (record e { written = written }) y.session reply
+      → IsFree y.session.reply
+      → SoundStage runs y.session (Some (record e { written = written })) later)
+      → StandsAfter answer from later x.stage y.stage result
+      → Stepped state pends gives runs now shutdown x y result
+  goes_on_stepped request reply taking left written step answer from later stage less before is
+      count replied headed w takes told owed free stands =
+      let p : Part = more_of e e.owed written in
+      let part : WritesPart state now x.session y.session taking left e p =
+      more_part state now x.session y.session e e.owed written request reply taking left replied w
+      (ap (λ xs. xs ++ coming e.sent_body y.session.reply.writer) takes.0
+      ∙ ap (λ writer. coming e.sent_body writer) takes.1.writer) count in
+      let after : IsReplied (replying e p) y.session request reply =
+      part_replied state now x.session y.session taking left e p request reply part replied in
+      let headed_after = λ (refused : y.session.reply.refused ≡ None).
+      headed_on x.session y.session e (replying e p) reply refl refl refl takes.1.headed
+      (ap (λ s. s.keep) w.rest) refused headed in
+      let below = lower p taking left from later part stage less before in
+      call_stepped p taking left step answer from later part is headed.owed
+      (allowed_written gives e e.sent_body e.owed written allowed_before
+      allowed_before.sent_body (λ owed. owed))
+      told (λ refused at_step. owed after (headed_after refused) at_step)
+      (λ done. (free after (headed_after done.refused) done, below.0, below.1)) stands

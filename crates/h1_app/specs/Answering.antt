@@ -1,0 +1,78 @@
+-- How a session and the exchange that is last stand to each other until the application replies.
+use Rattle.std.specs.Prelude.{◌≡◌, ℕ, ◌^◌, ◌<◌, List, [], length, false, Some, None}
+use Rattle.h1_app.specs.Words.{wish, SessionView, Request, Outgoing, Entry}
+use Rattle.h1_transfer.specs.declared.outgoing.Step.TheVariants as step
+
+-- the session with the payload handed in, as the application is lent it
+abbrev pub lent : {L C : Type 0} → SessionView L C → List ℕ → SessionView L C
+lent session payload = record session { body = record session.body { kept = Some payload } }
+
+-- The session but for its link, its budget and what the caller keeps with it. What is sound says
+-- nothing of these, so it holds on as they change.
+abbrev pub Bare : Type 0
+Bare = SessionView (Unit {0}) (Unit {0})
+
+abbrev pub bare : {L C : Type 0} → SessionView L C → Bare
+bare session = record {
+  link = tt;
+  received = session.received;
+  request = session.request;
+  refused = session.refused;
+  body = session.body;
+  reply = session.reply;
+  keep = session.keep;
+  settings = session.settings;
+  budget = None;
+  reusable = session.reusable;
+  context = None;
+}
+
+-- nothing of a reply was taken up
+pub record IsUnwritten (reply : Outgoing) : Type 0 where
+  pub owed : reply.owed ≡ []
+  pub free : reply.step ≡ step.Free
+  pub headed : reply.headed ≡ false
+  pub refused : reply.refused ≡ None
+  pub sent : reply.sent ≡ 0
+
+-- a head is awaited, and nothing was read or taken up
+pub record IsAwaitingIn (session : Bare) : Type 0 where
+  pub request : session.request ≡ None
+  pub refused : session.refused ≡ None
+  pub unwritten : IsUnwritten session.reply
+  pub kept : session.body.kept ≡ None
+  pub body_refused : session.body.refused ≡ None
+  pub waits : session.body.waits ≡ false
+
+abbrev pub IsAwaiting : {L C : Type 0} → SessionView L C → Type 0
+IsAwaiting session = IsAwaitingIn (bare session)
+
+-- the exchange is that of the session's request, and all payload that was read was handed in
+pub record IsAskedIn (e : Entry) (session : Bare) (request : Request) : Type 0 where
+  pub is : session.request ≡ Some request
+  pub header : request.header ≡ e.head
+  pub both : request.both ≡ e.both
+  pub wish : request.wish ≡ wish e.head e.both
+  pub reuses : session.settings.reuses ≡ e.began.reuses
+  pub body_error : e.body_error ≡ session.body.refused
+  pub handed : e.handed ≡ length e.body
+  pub filtered : e.filtered ≡ Some e.head
+  pub kept : session.body.kept ≡ None
+  pub waits : session.body.waits ≡ false
+  pub written : e.written ≡ session.reply.sent
+  pub limit : e.written < 2 ^ 64
+
+abbrev pub IsAsked : {L C : Type 0} → Entry → SessionView L C → Request → Type 0
+IsAsked e session request = IsAskedIn e (bare session) request
+
+-- the application runs, and nothing of its reply is there
+pub record IsAnsweringIn (e : Entry) (session : Bare) : Type 0 where
+  pub request : Request
+  pub asked : IsAskedIn e session request
+  pub unwritten : IsUnwritten session.reply
+  pub reply : e.reply ≡ None
+  pub sent_head : e.sent_head ≡ None
+  pub sent_body : e.sent_body ≡ None
+
+abbrev pub IsAnswering : {L C : Type 0} → Entry → SessionView L C → Type 0
+IsAnswering e session = IsAnsweringIn e (bare session)

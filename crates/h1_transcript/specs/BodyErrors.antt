@@ -1,0 +1,12 @@
+-- What an error of a request's body says of the body (RFC 9112, sections 6 and 8).
+use Rattle.h1_transcript.specs.Words.{ErrorType}
+use Rattle.h1_error.specs.declared.error.ErrorType.TheVariants as kind
+
+-- The body is broken, or its link ended or failed inside it. Out of memory, which comes anywhere,
+-- says nothing.
+abbrev pub SaysOfBody : Type 0 → Type 0 → Type 0 → ErrorType → Type 0
+SaysOfBody broken cut failed kind.InvalidBody = broken
+SaysOfBody broken cut failed kind.ConnectionClosed = cut
+SaysOfBody broken cut failed kind.ReadError = failed
+SaysOfBody broken cut failed kind.NoMemory = Unit {0}
+SaysOfBody broken cut failed _ = ⊥
