@@ -1,0 +1,9 @@
+pub mod TextLemmas
+pub mod SpelledLemmas
+pub mod HeadLemmas
+pub mod BodyLemmas
+pub mod ValidLemmas
+pub mod AskedLemmas
+pub mod EchoLemmas
+pub mod EndLemmas
+pub mod LengthLemmas

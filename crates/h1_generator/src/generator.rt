@@ -1,0 +1,159 @@
+//! The requests of `gen N`, one after the other.
+ghost use Rattle.std.specs.Prelude.{◌≡◌, ◌+◌, ◌<◌, ◌≤◌, ◌∷◌, [], ◌++◌, ◌%◌, codes, replicate, OnOk, IfOk, IfErr};
+ghost use Rattle.std.specs.Fmt.{decimal};
+ghost use Rattle.h1_error.specs.Memory.{no_memory};
+ghost use Rattle.h1_body.specs.Written.{chunk_bytes};
+ghost use Rattle.h1_generator.specs.Generated.{form_of, asked, asked_as, print_asked, generated};
+
+use h1_error::Error;
+use std::alloc::Global;
+
+/// How many requests are made at most.
+pub const MOST_REQUESTS: u32 = 20_000;
+
+/// A request has at most so many bytes.
+const MOST_BYTES: usize = 80;
+
+/// A request has fewer bytes of body than this.
+const SIZES: u32 = 7;
+
+/// How a request states its body (RFC 9112, section 6.3).
+#[derive(Clone, Copy, Debug, PartialEq, Eq)]
+pub enum Form {
+    /// A GET without a body.
+    Plain,
+    /// A POST whose body has a stated length.
+    Counted,
+    /// A POST whose body comes in chunks.
+    Chunked,
+}
+
+/// The bytes of requests 1 to `count`.
+pub fn generate(alloc: Global, count: u32) -> Result<Vec<u8>, Error>
+    requires { count ≤ MOST_REQUESTS }
+    ensures ok { IfOk result (λ bytes. bytes.items ≡ generated count) }
+    ensures err { IfErr result (λ error. error ≡ no_memory) }
+{
+    let mut bytes = Vec::with_capacity(alloc, count as usize * MOST_BYTES)?;
+    for number in 1..count + 1 {
+        push_request(&mut bytes, number)?;
+    }
+    Ok(bytes)
+}
+
+/// Adds the request with this number.
+fn push_request(bytes: &mut Vec<u8>, number: u32) -> Result<(), Error>
+    ensures ok { OnOk result (bytes.new.items ≡ bytes.old.items ++ print_asked (asked number)) }
+    ensures err { IfErr result (λ error. error ≡ no_memory) }
+{
+    let size = number % SIZES;
+    match form_of(number) {
+        Form::Plain => push_plain(bytes, number),
+        Form::Counted => push_counted(bytes, number, size),
+        Form::Chunked => push_chunked(bytes, number, size),
+    }
+}
+
+fn form_of(number: u32) -> Form
+    ensures { result ≡ form_of number }
+{
+    match number % 3 {
+        1 => Form::Plain,
+        2 => Form::Counted,
+        _ => Form::Chunked,
+    }
+}
+
+fn push_plain(bytes: &mut Vec<u8>, number: u32) -> Result<(), Error>
+    ensures ok { OnOk result (bytes.new.items
+        ≡ bytes.old.items ++ print_asked (asked_as Form.Plain number (number % SIZES))) }
+    ensures err { IfErr result (λ error. error ≡ no_memory) }
+{
+    push_line(bytes, b"GET", number)?;
+    push(bytes, b"\r\n")
+}
+
+/// Adds the request line with this number.
+fn push_line(bytes: &mut Vec<u8>, method: &[u8], number: u32) -> Result<(), Error>
+    ensures ok { OnOk result (bytes.new.items
+        ≡ bytes.old.items ++ (method.now ++ 32 ∷ 47 ∷ [] ++ decimal number ++ codes " HTTP/1.1"
+        ++ (13 ∷ 10 ∷ []))) }
+    ensures err { IfErr result (λ error. error ≡ no_memory) }
+{
+    push(bytes, method)?;
+    push(bytes, b" /")?;
+    push_decimal(bytes, number)?;
+    push(bytes, b" HTTP/1.1\r\n")
+}
+
+fn push_counted(bytes: &mut Vec<u8>, number: u32, size: u32) -> Result<(), Error>
+    requires { size < SIZES }
+    ensures ok { OnOk result (bytes.new.items
+        ≡ bytes.old.items ++ print_asked (asked_as Form.Counted number size)) }
+    ensures err { IfErr result (λ error. error ≡ no_memory) }
+{
+    push_line(bytes, b"POST", number)?;
+    push(bytes, b"Content-Length: ")?;
+    push_decimal(bytes, size)?;
+    push(bytes, b"\r\n\r\n")?;
+    push_run(bytes, b'a', size)
+}
+
+fn push_chunked(bytes: &mut Vec<u8>, number: u32, size: u32) -> Result<(), Error>
+    requires { size < SIZES }
+    ensures ok { OnOk result (bytes.new.items
+        ≡ bytes.old.items ++ print_asked (asked_as Form.Chunked number size)) }
+    ensures err { IfErr result (λ error. error ≡ no_memory) }
+{
+    push_line(bytes, b"POST", number)?;
+    push(bytes, b"Transfer-Encoding: chunked\r\n\r\n")?;
+    push_chunk(bytes, size)?;
+    push(bytes, b"0\r\n\r\n")
+}
+
+/// Adds a chunk of so many bytes, and nothing where there are none.
+fn push_chunk(bytes: &mut Vec<u8>, size: u32) -> Result<(), Error>
+    requires { size < SIZES }
+    ensures ok { OnOk result (bytes.new.items
+        ≡ bytes.old.items ++ chunk_bytes (replicate size 98)) }
+    ensures err { IfErr result (λ error. error ≡ no_memory) }
+{
+    if size == 0 {
+        return Ok(());
+    }
+    push_decimal(bytes, size)?;
+    push(bytes, b"\r\n")?;
+    push_run(bytes, b'b', size)?;
+    push(bytes, b"\r\n")
+}
+
+/// Adds so many bytes of one kind.
+fn push_run(bytes: &mut Vec<u8>, byte: u8, count: u32) -> Result<(), Error>
+    ensures ok { OnOk result (bytes.new.items ≡ bytes.old.items ++ replicate count byte) }
+    ensures err { IfErr result (λ error. error ≡ no_memory) }
+{
+    for _ in 0..count {
+        bytes.push(byte)?;
+    }
+    Ok(())
+}
+
+/// Adds a number in decimal.
+fn push_decimal(bytes: &mut Vec<u8>, number: u32) -> Result<(), Error>
+    ensures ok { OnOk result (bytes.new.items ≡ bytes.old.items ++ decimal number) }
+    ensures err { IfErr result (λ error. error ≡ no_memory) }
+{
+    if number >= 10 {
+        push_decimal(bytes, number / 10)?;
+    }
+    bytes.push(b'0' + (number % 10) as u8)?;
+    Ok(())
+}
+
+fn push(bytes: &mut Vec<u8>, piece: &[u8]) -> Result<(), Error>
+    ensures ok { OnOk result (bytes.new.items ≡ bytes.old.items ++ piece.now) }
+    ensures err { IfErr result (λ error. error ≡ no_memory) }
+{
+    bytes.extend_from_slice(piece)?;
+    Ok(())
+}

@@ -1,0 +1,11 @@
+//! Requests that are made: up to 20,000, one after the other, as valid input.
+#![tactic(auto)]
+
+mod generator;
+mod laws;
+
+pub use generator::{MOST_REQUESTS, generate};
+pub use laws::generated_input_is_valid;
+
+#[cfg(test)]
+mod tests;

@@ -1,0 +1,25 @@
+//! The requests that are made, byte by byte.
+use crate::generate;
+use std::test::Fail;
+
+#[test]
+fn requests_are_made_in_turn(rt: HostRuntime) -> Result<(), Fail> {
+    let bytes = generate(rt.alloc(), 3)?;
+    assert_eq!(rt;
+        bytes.as_slice(),
+        b"GET /1 HTTP/1.1\r\n\r\n\
+            POST /2 HTTP/1.1\r\nContent-Length: 2\r\n\r\naa\
+            POST /3 HTTP/1.1\r\nTransfer-Encoding: chunked\r\n\r\n3\r\nbbb\r\n0\r\n\r\n"
+            .as_slice()
+    );
+    Ok(())
+}
+
+#[test]
+fn a_chunk_of_no_bytes_is_left_out(rt: HostRuntime) -> Result<(), Fail> {
+    let bytes = generate(rt.alloc(), 21)?;
+    let last = b"POST /21 HTTP/1.1\r\nTransfer-Encoding: chunked\r\n\r\n0\r\n\r\n";
+    assert!(rt; bytes.ends_with(last));
+    assert!(rt; generate(rt.alloc(), 0)?.is_empty());
+    Ok(())
+}

@@ -1,0 +1,75 @@
+use Rattle.std.proofs.Common.{◌≡◌, [], arith}
+use Rattle.h1_echo.specs.declared.echo.EchoJob.{EchoJob}
+use Rattle.h1_serving.specs.declared.serving.TheConstants.{MOST_POLLS}
+use Rattle.h1_serving.proofs.ServeLemmas.{poll_of, serving_none, serving_on, call_of, waiting_of, never_waits}
+use Rattle.h1_serving.proofs.serving.serve_link.Goals as goal
+
+pub loop-init : goal.loop-init
+loop-init g c =
+    serving_none g.L.Link.state g.L.Link.same_plan
+    (g.T.Clock.moment c.args.clock.now) c.args.connection.now
+    (g.met.L.Link.plan_itself c.args.connection.now.session.link) c.requires
+
+pub loop-preserved : goal.loop-preserved
+loop-preserved g c =
+    let p = c.poll-answer.ensures in
+    let at = c.now-now.ensures in
+    serving_on g.L.Link.state g.L.Link.same_plan (λ (job : EchoJob). job.body ≡ []) c.loop.counter
+    (g.T.Clock.moment c.args.clock.now)
+    (g.T.Clock.moment c.loop.clock)
+    (g.T.Clock.moment c.now-now.new.self) c.args.connection.now
+    c.loop.connection c.poll-answer.new.self c.poll-answer.result
+    g.met.L.Link.plan_on (omega (arith, at.moment, at.later)) c.loop.invariant
+    (poll_of at.moment p.app p.later p.plan p.accounted p.agrees p.extends p.cause)
+    (waiting_of c.poll-answer.result c.in_default.not-Ready)
+
+pub returns-in-Ready : goal.returns-in-Ready
+returns-in-Ready g c =
+    let p = c.poll-answer.ensures in
+    let at = c.now-now.ensures in
+    let call =
+    call_of g.L.Link.state g.L.Link.same_plan
+    (λ (job : EchoJob). job.body ≡ []) c.loop.counter MOST_POLLS
+    (g.T.Clock.moment c.args.clock.now)
+    (g.T.Clock.moment c.loop.clock)
+    (g.T.Clock.moment c.now-now.new.self) c.args.connection.now
+    c.loop.connection c.poll-answer.new.self c.poll-answer.result
+    g.met.L.Link.plan_on (omega (arith, at.moment, at.later))
+    (λ waits. absurd
+    (never_waits c.poll-answer.result c.in-Ready.field-0 c.in-Ready.is waits)) c.loop.invariant
+    (poll_of at.moment p.app p.later p.plan p.accounted p.agrees p.extends p.cause) in
+    record {
+      app = call.app;
+      clock = call.clock;
+      later = call.later;
+      plan = call.plan;
+      accounted = call.accounted;
+      agrees = call.agrees;
+      served = call.served;
+      answer = call.answers;
+    }
+
+pub returns : goal.returns
+returns g c =
+    let p = c.poll.ensures in
+    let at = c.now-now-2.ensures in
+    let call =
+    call_of g.L.Link.state g.L.Link.same_plan
+    (λ (job : EchoJob). job.body ≡ []) c.loop.counter MOST_POLLS
+    (g.T.Clock.moment c.args.clock.now)
+    (g.T.Clock.moment c.loop.clock)
+    (g.T.Clock.moment c.now-now-2.new.self) c.args.connection.now
+    c.loop.connection c.poll.new.self c.poll.result
+    g.met.L.Link.plan_on (omega (arith, at.moment, at.later))
+    (λ waits. omega (arith, c.loop-test.false, c.loop.auto.counter-end)) c.loop.invariant
+    (poll_of at.moment p.app p.later p.plan p.accounted p.agrees p.extends p.cause) in
+    record {
+      app = call.app;
+      clock = call.clock;
+      later = call.later;
+      plan = call.plan;
+      accounted = call.accounted;
+      agrees = call.agrees;
+      served = call.served;
+      answer = call.answers;
+    }

@@ -1,0 +1,63 @@
+-- What serving a connection by one call leaves and answers.
+use Rattle.std.specs.Prelude.{◌≡◌, ℕ, ◌+◌, ◌*◌, ◌/◌, ◌≤◌, List, [], true, false, Option, Some, None, IfSome}
+use Rattle.h1_error.specs.declared.progress.Waiting.{Waiting}
+use Rattle.h1_error.specs.declared.progress.Waiting.TheVariants as waiting
+use Rattle.h1_error.specs.declared.progress.Progress.{Progress}
+use Rattle.h1_error.specs.declared.progress.Progress.TheVariants as progress
+use Rattle.h1_link.specs.Counts.{Rose, RoseBy}
+use Rattle.h1_link.specs.LinkState.{LinkState}
+use Rattle.h1_transcript.specs.declared.transcript.Entry.{Entry}
+use Rattle.h1_transcript.specs.Ends.{EndCause, LacksSo, OfLast}
+use Rattle.h1_transcript.specs.Growth.{RefusedIn}
+use Rattle.h1_transcript.specs.Told.{ToldGrowth}
+use Rattle.h1_transfer.specs.declared.budget.TheConstants.{CALL_BUDGET}
+use Rattle.h1_app.specs.View.{View}
+
+-- a connection that was not polled yet
+pub record IsUnpolled {L C A J : Type 0} (view : View L C A J) : Type 0 where
+  pub done : view.done ≡ []
+  pub last : view.last ≡ None
+  pub end : view.end ≡ None
+
+-- The exchange began with keep-alive on. Its header has the second of a moment between these two,
+-- and its body was refused for a failed read only where a read failed between the link's states.
+pub record IsServed (first last : ℕ) (before behind : LinkState) (e : Entry) : Type 0 where
+  pub began : e.began.keep_off ≡ false
+  pub dated : IfSome e.sent_head (λ header. (now : ℕ) × (first ≤ now) × (now ≤ last)
+      × (e.date ≡ now / 1000))
+  pub refused : RefusedIn before behind None e.body_error
+
+-- So many polls waited: some for a read, some for a write or a flush, and the others for their
+-- budget. The counts of the link rose by as many, and the budgets moved as many bytes.
+pub record Waited (polls : ℕ) (old now : LinkState) : Type 0 where
+  pub reads : ℕ
+  pub writes : ℕ
+  pub budgets : ℕ
+  pub all : reads + writes + budgets ≡ polls
+  pub reads_rose : RoseBy reads old.read_waits now.read_waits
+  pub writes_rose : RoseBy writes old.write_waits now.write_waits
+  pub moves_rose : RoseBy (CALL_BUDGET * budgets) old.moves now.moves
+  pub moved : ToldGrowth old.given now.given old.written now.written (CALL_BUDGET * budgets)
+
+-- what the last poll waits for: never for the application
+abbrev pub WaitsFor : LinkState → LinkState → LinkState → List Entry → Option Entry → Waiting
+    → Type 0
+WaitsFor before old now done last waiting.Read =
+    Rose old.read_waits now.read_waits × LacksSo before now done last
+WaitsFor before old now done last waiting.Write =
+    Rose old.write_waits now.write_waits × OfLast last (λ e. e.owed ≡ true)
+WaitsFor before old now done last waiting.App = ⊥
+WaitsFor before old now done last waiting.Budget = RoseBy CALL_BUDGET old.moves now.moves
+    × ToldGrowth old.given now.given old.written now.written CALL_BUDGET
+
+-- When the call gives each answer: it waits only after so many polls that all waited, and an end
+-- has its cause in this call; `before` is the link's state since which bytes count.
+abbrev pub AnswersFor : {L C A J : Type 0} → (L → LinkState) → ℕ → LinkState → LinkState
+    → View L C A J
+    → Progress → Type 0
+AnswersFor state polls before old to (progress.Pending what) =
+    (to.end ≡ None) × Waited polls old (state to.session.link)
+    × WaitsFor before old (state to.session.link) to.done to.last what
+AnswersFor state polls before old to (progress.Ready reason) =
+    (to.end ≡ Some reason)
+    × EndCause before old (state to.session.link) to.done to.last reason

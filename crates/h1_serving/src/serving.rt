@@ -1,0 +1,57 @@
+//! A connection that is served by one call.
+ghost use Rattle.std.specs.Prelude.{◌≡◌, ◌≤◌};
+ghost use Rattle.std.specs.List.{AllByRecursion};
+ghost use Rattle.h1_link.specs.LinkState.{LinkState};
+ghost use Rattle.h1_link.specs.Later.{Later};
+ghost use Rattle.h1_transcript.specs.Agrees.{Agrees};
+ghost use Rattle.h1_app.specs.Accounted.{Accounted};
+ghost use Rattle.h1_app.specs.View.{entries};
+ghost use Rattle.h1_echo.specs.Echo.{EchoGives};
+ghost use Rattle.h1_serving.specs.Served.{IsUnpolled, IsServed, AnswersFor};
+
+use h1_app::{Connection, EchoApp, NoModules};
+use h1_error::Progress;
+use h1_link::{Clock, Link};
+
+/// How often [`serve_link`] polls at most.
+pub const MOST_POLLS: u32 = 1_000_000;
+
+/// A connection that [`EchoApp`] serves.
+pub type Echoed<L> = Connection<L, EchoApp, NoModules, ()>;
+
+/// Polls a connection at the clock's moments until it ends, at most [`MOST_POLLS`] times, and
+/// answers what the last poll answered.
+pub fn serve_link<L: Link + Drop, T: Clock>(connection: &mut Echoed<L>, clock: &mut T) -> Progress
+    requires { IsUnpolled connection.old }
+    ensures app { (connection.new.app ≡ connection.old.app)
+        × (connection.new.limit ≡ connection.old.limit) }
+    ensures clock { T.moment clock.old ≤ T.moment clock.new }
+    ensures later { Later (L.state connection.old.session.link)
+        (L.state connection.new.session.link) }
+    ensures plan { L.same_plan connection.old.session.link connection.new.session.link }
+    ensures accounted { (before : LinkState)
+        → Accounted L.state before connection.old.session connection.old.done connection.old.last
+        → Accounted L.state before connection.new.session connection.new.done
+        connection.new.last }
+    ensures agrees { (before : LinkState)
+        → Accounted L.state before connection.old.session connection.old.done connection.old.last
+        → Agrees EchoGives connection.new.limit before (L.state connection.new.session.link)
+        (entries connection.new) }
+    ensures served { AllByRecursion (IsServed (T.moment clock.old) (T.moment clock.new)
+        (L.state connection.old.session.link) (L.state connection.new.session.link))
+        (entries connection.new) }
+    ensures answer { (before : LinkState)
+        → Accounted L.state before connection.old.session connection.old.done connection.old.last
+        → AnswersFor L.state MOST_POLLS before (L.state connection.old.session.link)
+        connection.new result }
+{
+    for _ in 0..MOST_POLLS - 1 {
+        let now = clock.now();
+        let answer = connection.poll(now, false);
+        if let Progress::Ready(_) = answer {
+            return answer;
+        }
+    }
+    let now = clock.now();
+    connection.poll(now, false)
+}
