@@ -5,3 +5,4 @@ pub mod LineLemmas
 pub mod NumberLemmas
 pub mod LengthLemmas
 pub mod CodingLemmas
+pub mod SpanLemmas

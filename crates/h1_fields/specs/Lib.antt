@@ -5,3 +5,4 @@ pub mod ContentLength
 pub mod Codings
 pub mod Search
 pub mod Pieces
+pub mod Spans

@@ -2,30 +2,37 @@
 ghost use Rattle.std.specs.Prelude.{◌≡◌};
 ghost use Rattle.std.specs.Iterator.{YieldsFirstBy, item_count};
 ghost use Rattle.h1_fields.specs.Lines.{values_of};
+ghost use Rattle.h1_fields.specs.Spans.{AllFit, lines_of};
 
-use crate::fields::Field;
+use crate::span::Span;
 use std::marker::Model;
 
 /// The lines that are left, each as its name and its value. A contract sees the list of these
 /// pairs.
 #[derive(Drop)]
 pub struct FieldsIter<'a> {
-    left: &'a [Field],
+    text: &'a [u8],
+    left: &'a [Span],
 }
 
 impl<'a> Model for FieldsIter<'a> {
     ghost use Rattle.std.specs.Prelude.{ℕ, List};
+    ghost use Rattle.h1_fields.specs.Spans.{AllFit, lines_of};
 
     ghost Value = { List (List ℕ × List ℕ) };
 
-    ghost view = { λ i. i.left.now };
+    ghost view = { λ i. lines_of i.text.now i.left.now };
+
+    ghost invariant = { λ i. AllFit i.text.now i.left.now };
 }
 
 impl<'a> FieldsIter<'a> {
-    pub(crate) fn new(left: &'a [Field]) -> Self
-        ensures { result ≡ left.now }
+    #[inline(always)]
+    pub(crate) fn new(text: &'a [u8], left: &'a [Span]) -> Self
+        requires { AllFit text.now left.now }
+        ensures { result ≡ lines_of text.now left.now }
     {
-        FieldsIter { left }
+        FieldsIter { text, left }
     }
 }
 
@@ -39,7 +46,7 @@ impl<'a> Iterator for FieldsIter<'a> {
     fn next(&mut self) -> Option<(&'a [u8], &'a [u8])> {
         let (first, left) = self.left.split_first()?;
         self.left = left;
-        Some((first.name(), first.value()))
+        Some((first.name(self.text), first.value(self.text)))
     }
 }
 
@@ -47,23 +54,29 @@ impl<'a> Iterator for FieldsIter<'a> {
 #[derive(Drop)]
 pub struct ValuesIter<'a> {
     name: &'a [u8],
-    left: &'a [Field],
+    text: &'a [u8],
+    left: &'a [Span],
 }
 
 impl<'a> Model for ValuesIter<'a> {
     ghost use Rattle.std.specs.Prelude.{ℕ, List};
     ghost use Rattle.h1_fields.specs.Lines.{values_of};
+    ghost use Rattle.h1_fields.specs.Spans.{AllFit, lines_of};
 
     ghost Value = { List (List ℕ) };
 
-    ghost view = { λ i. values_of i.name.now i.left.now };
+    ghost view = { λ i. values_of i.name.now (lines_of i.text.now i.left.now) };
+
+    ghost invariant = { λ i. AllFit i.text.now i.left.now };
 }
 
 impl<'a> ValuesIter<'a> {
-    pub(crate) fn new(name: &'a [u8], left: &'a [Field]) -> Self
-        ensures { result ≡ values_of name.now left.now }
+    #[inline(always)]
+    pub(crate) fn new(name: &'a [u8], text: &'a [u8], left: &'a [Span]) -> Self
+        requires { AllFit text.now left.now }
+        ensures { result ≡ values_of name.now (lines_of text.now left.now) }
     {
-        ValuesIter { name, left }
+        ValuesIter { name, text, left }
     }
 }
 
@@ -77,8 +90,8 @@ impl<'a> Iterator for ValuesIter<'a> {
     fn next(&mut self) -> Option<&'a [u8]> {
         while let Some((first, left)) = self.left.split_first() {
             self.left = left;
-            if first.is_named(self.name) {
-                return Some(first.value());
+            if first.is_named(self.text, self.name) {
+                return Some(first.value(self.text));
             }
         }
         None

@@ -12,6 +12,7 @@ mod laws;
 mod lists;
 mod meaning;
 mod name;
+mod span;
 #[cfg(test)]
 mod tests;
 
@@ -19,3 +20,4 @@ pub use content_length::ContentLength;
 pub use fields::Fields;
 pub use iter::{FieldsIter, ValuesIter};
 pub use laws::{chunked_last_is, content_length_is, insertion_and_removal, names_ignore_case};
+pub use name::is_same_name;

@@ -1,0 +1,74 @@
+-- The lines of a text that grows.
+use Rattle.std.proofs.Common.{◌≡◌, ℕ, ◌≤◌, ◌-◌, List, [], ◌∷◌, ◌++◌, length, take, drop, refl, sym, ap, ◌∙◌, arith}
+use Rattle.std.proofs.lemmas.List.{take-append-drop, take-append-le, drop-append-le, length-drop, length-append, map-append}
+use Rattle.std.proofs.lemmas.List.Elements.{All-head, All-tail, All-rest, All-push, All-weaker}
+use Rattle.std.specs.List.{slice_range}
+use Rattle.h1_fields.specs.declared.span.Span.{Span}
+use Rattle.h1_fields.specs.Spans.{AllFit, Fits, IsPlaceOf, line_of, lines_of}
+
+-- a part of the old text is the same part of the new one
+part_grown : (old more : List ℕ) (start end : ℕ) → start ≤ end → end ≤ length old
+    → slice_range (old ++ more) start end ≡ slice_range old start end
+part_grown old more start end order within =
+    ap (take (end - start)) (drop-append-le start old more (omega arith))
+    ∙ take-append-le (end - start) (drop start old) more (omega (arith, length-drop start old))
+
+line_grown : (old more : List ℕ) (span : Span) → Fits (length old) span
+    → line_of (old ++ more) span ≡ line_of old span
+line_grown old more span fits =
+    let name = part_grown old more span.start span.middle fits.name (omega arith) in
+    let value = part_grown old more span.middle span.end fits.value fits.within in
+    cc
+
+lines_grown : (old more : List ℕ) (spans : List Span) → AllFit old spans
+    → lines_of (old ++ more) spans ≡ lines_of old spans
+lines_grown old more [] fit = refl
+lines_grown old more (span ∷ spans) fit =
+    let here = line_grown old more span (All-head (Fits (length old)) span spans fit) in
+    let rest = lines_grown old more spans (All-tail (Fits (length old)) span spans fit) in
+    cc
+
+-- a text that begins with the old one
+behind : (old new : List ℕ) → take (length old) new ≡ old → new ≡ old ++ drop (length old) new
+behind old new kept =
+    sym (take-append-drop (length old) new) ∙ ap (λ front. front ++ drop (length old) new) kept
+
+-- the lines of the old text are those of the new one
+pub lines_kept : (old new : List ℕ) (spans : List Span) → take (length old) new ≡ old
+    → AllFit old spans → lines_of new spans ≡ lines_of old spans
+lines_kept old new spans kept fit =
+    ap (λ text. lines_of text spans) (behind old new kept)
+    ∙ lines_grown old (drop (length old) new) spans fit
+
+pub fit_kept : (old new : List ℕ) (spans : List Span) → take (length old) new ≡ old
+    → AllFit old spans → AllFit new spans
+fit_kept old new spans kept fit =
+    let longer : length old ≤ length new =
+    omega (arith, ap length (behind old new kept), length-append old (drop (length old) new)) in
+    All-weaker (Fits (length old)) (Fits (length new)) (wider longer) spans fit
+  where
+    wider : length old ≤ length new → (span : Span) → Fits (length old) span
+        → Fits (length new) span
+    wider longer span fits =
+        record { name = fits.name; value = fits.value; within = omega arith }
+
+-- a line that was written behind the old text
+pub fit_added : (old new name value : List ℕ) (spans after : List Span) (span : Span)
+    → take (length old) new ≡ old → AllFit old spans → IsPlaceOf new name value span
+    → after ≡ spans ++ span ∷ [] → AllFit new after
+fit_added old new name value spans after span kept fit place added =
+    rw added (All-push (Fits (length new)) spans span (fit_kept old new spans kept fit) place.fits)
+
+pub lines_added : (old new name value : List ℕ) (spans after : List Span) (span : Span)
+    → take (length old) new ≡ old → AllFit old spans → IsPlaceOf new name value span
+    → after ≡ spans ++ span ∷ []
+    → lines_of new after ≡ lines_of old spans ++ (name, value) ∷ []
+lines_added old new name value spans after span kept fit place added =
+    ap (lines_of new) added ∙ map-append (line_of new) spans (span ∷ [])
+    ∙ ap (λ lines. lines ++ line_of new span ∷ []) (lines_kept old new spans kept fit)
+    ∙ ap (λ line. lines_of old spans ++ line ∷ []) place.line
+
+-- the lines behind the first
+pub fit_rest : (text : List ℕ) (spans left : List Span) (span : Span) → spans ≡ span ∷ left
+    → AllFit text spans → AllFit text left
+fit_rest text spans left span is fit = All-rest (Fits (length text)) span left spans is fit

@@ -1,9 +1,0 @@
-use Rattle.std.proofs.Common.{sym, ◌∙◌}
-use Rattle.h1_fields.proofs.SearchLemmas.{first_here}
-use Rattle.h1_fields.proofs.fields.first_named.Goals as goal
-
-pub returns-then-is_named : goal.returns-then-is_named
-returns-then-is_named c =
-    let before = c.loop-at.invariant in
-    first_here _ _ _ c.index-lines-at.result c.loop-at-test.true c.index-lines-at.is
-    (sym c.is_named.ensures ∙ c.if-is_named.true) before.0 before.1 before.2

@@ -1,0 +1,15 @@
+use Rattle.std.proofs.Common.{sym, ◌∙◌}
+use Rattle.h1_fields.proofs.SpanLemmas.{fit_rest}
+use Rattle.h1_fields.proofs.SearchLemmas.{values_behind}
+use Rattle.h1_fields.proofs.iter.ValuesIterIterator.next.Goals as goal
+
+pub invariant_of-self : goal.invariant_of-self
+invariant_of-self c = fit_rest _ _ _ _ c.in-Some.ensures.cases.0 c.loop-first.invariant.0
+
+pub loop-first-preserved : goal.loop-first-preserved
+loop-first-preserved c =
+    let first = c.in-Some.ensures.cases.0 in (
+      fit_rest _ _ _ _ first c.loop-first.invariant.0,
+      values_behind _ _ _ _ _ first (sym c.is_named.ensures ∙ c.if-is_named.false)
+          ∙ c.loop-first.invariant.1,
+    )

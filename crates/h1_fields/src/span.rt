@@ -1,0 +1,93 @@
+//! The places of field lines in one text.
+ghost use Rattle.std.specs.Prelude.{◌≡◌, ◌≤◌, ◌++◌, length, drop, take, IfOk, IsOkUnless, MatchOption};
+ghost use Rattle.h1_error.specs.Memory.{no_memory};
+ghost use Rattle.h1_fields.specs.Lines.{is_named, without};
+ghost use Rattle.h1_fields.specs.Search.{HasNone, IsFirstAt};
+ghost use Rattle.h1_fields.specs.Spans.{AllFit, Fits, IsPlaceOf, line_of, lines_of};
+
+use crate::name::is_same_name;
+use h1_error::Error;
+
+/// The place of one line in a text: its name, and right behind it its value.
+#[derive(Clone, Copy, Debug)]
+pub(crate) struct Span {
+    start: usize,
+    middle: usize,
+    end: usize,
+}
+
+impl Span {
+    /// Copies the line to the end of the text. With an error a part of it may be there.
+    #[inline(always)]
+    pub(crate) fn write(text: &mut Vec<u8>, name: &[u8], value: &[u8]) -> Result<Span, Error>
+        ensures ok { IfOk result (IsPlaceOf text.new.items name.now value.now) }
+        ensures err { IsOkUnless result no_memory }
+        ensures kept { take (length text.old.items) text.new.items ≡ text.old.items }
+    {
+        let start = text.len();
+        text.extend_from_slice(name)?;
+        let middle = text.len();
+        text.extend_from_slice(value)?;
+        let end = text.len();
+        Ok(Span { start, middle, end })
+    }
+
+    #[inline(always)]
+    pub(crate) fn name<'a>(self, text: &'a [u8]) -> &'a [u8]
+        requires { Fits (length text.now) self }
+        ensures { result.now ≡ (line_of text.now self).0 }
+    {
+        &text[self.start..self.middle]
+    }
+
+    #[inline(always)]
+    pub(crate) fn value<'a>(self, text: &'a [u8]) -> &'a [u8]
+        requires { Fits (length text.now) self }
+        ensures { result.now ≡ (line_of text.now self).1 }
+    {
+        &text[self.middle..self.end]
+    }
+
+    /// Whether the line has this name, in any case.
+    #[inline(always)]
+    pub(crate) fn is_named(self, text: &[u8], name: &[u8]) -> bool
+        requires { Fits (length text.now) self }
+        ensures { result ≡ is_named name.now (line_of text.now self) }
+    {
+        is_same_name(name, self.name(text))
+    }
+}
+
+/// The place of the first line of that name.
+pub(crate) fn first_named(text: &[u8], spans: &[Span], name: &[u8]) -> Option<usize>
+    requires { AllFit text.now spans.now }
+    ensures { MatchOption result (HasNone name.now (lines_of text.now spans.now))
+        (IsFirstAt name.now (lines_of text.now spans.now)) }
+{
+    for (at, span) in spans.iter().enumerate() {
+        if span.is_named(text, name) {
+            return Some(at);
+        }
+    }
+    None
+}
+
+/// Removes the lines of that name from the place `start` on.
+pub(crate) fn remove_named(text: &[u8], spans: &mut Vec<Span>, start: usize, name: &[u8])
+    requires start { start ≤ length spans.old.items }
+    requires fit { AllFit text.now spans.old.items }
+    ensures lines { lines_of text.now spans.new.items
+        ≡ lines_of text.now (take start spans.old.items)
+        ++ without name.now (lines_of text.now (drop start spans.old.items)) }
+    ensures fit { AllFit text.now spans.new.items }
+    ensures front { start ≤ length spans.new.items }
+{
+    let mut at = start;
+    while at < spans.len() {
+        if spans[at].is_named(text, name) {
+            spans.remove(at);
+        } else {
+            at += 1;
+        }
+    }
+}
