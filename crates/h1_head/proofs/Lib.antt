@@ -1,5 +1,7 @@
 pub mod SyntaxLemmas
 pub mod DateLemmas
+pub mod OwnLineLemmas
 pub mod ReplyLemmas
 pub mod RequestHeadLemmas
+pub mod SpanLemmas
 pub mod TokenLemmas

@@ -91,6 +91,7 @@ impl RequestHeader {
     }
 
     /// A request that was read, of version 1.0 or 1.1 by its last digit.
+    #[inline(always)]
     pub(crate) fn from_read(
         alloc: Global,
         method: &[u8],
@@ -114,10 +115,12 @@ impl RequestHeader {
         })
     }
 
+    #[inline(always)]
     pub(crate) fn allocator(&self) -> Global {
         self.alloc
     }
 
+    #[inline(always)]
     pub fn method(&self) -> &Method
         ensures { result.now ≡ self.now.method }
     {
@@ -125,12 +128,14 @@ impl RequestHeader {
     }
 
     /// The target as it stands on the request line.
+    #[inline(always)]
     pub fn raw_path(&self) -> &[u8]
         ensures { result.now ≡ self.now.target }
     {
         self.target.as_slice()
     }
 
+    #[inline(always)]
     pub fn version(&self) -> Version
         ensures { result ≡ self.now.version }
     {
@@ -138,6 +143,7 @@ impl RequestHeader {
     }
 
     /// The authority of the URI that the request was made from.
+    #[inline(always)]
     pub fn authority(&self) -> Option<&[u8]>
         ensures { option_map (λ bytes. bytes.now) result ≡ self.now.authority }
     {
@@ -147,18 +153,21 @@ impl RequestHeader {
         }
     }
 
+    #[inline(always)]
     pub fn fields(&self) -> &Fields
         ensures { result.now ≡ self.now.fields }
     {
         &self.fields
     }
 
+    #[inline(always)]
     pub fn set_version(&mut self, version: Version)
         ensures { self.new ≡ record self.old { version = version } }
     {
         self.version = version;
     }
 
+    #[inline(always)]
     pub fn set_send_end_stream(&mut self, on: bool)
         ensures { self.new ≡ record self.old { send_end_stream = on } }
     {
@@ -166,6 +175,7 @@ impl RequestHeader {
     }
 
     /// The flag, where the version is HTTP/2.
+    #[inline(always)]
     pub fn send_end_stream(&self) -> Option<bool>
         ensures { result ≡ end_stream_of self.now }
     {
@@ -200,6 +210,7 @@ impl RequestHeader {
     }
 
     /// Removes all lines of that name. True exactly where there was one.
+    #[inline(always)]
     pub fn remove_header(&mut self, name: &[u8]) -> bool
         ensures fields { self.new ≡ record self.old { fields = without name.now self.old.fields } }
         ensures found { result ≡ has_line name.now self.old.fields }
@@ -208,6 +219,7 @@ impl RequestHeader {
     }
 
     /// The value of the first line of that name.
+    #[inline(always)]
     pub fn get(&self, name: &[u8]) -> Option<&[u8]>
         ensures { option_map (λ value. value.now) result ≡ first_value name.now self.now.fields }
     {
@@ -215,6 +227,7 @@ impl RequestHeader {
     }
 
     /// The values of all lines of that name, in order.
+    #[inline(always)]
     pub fn get_all<'a>(&'a self, name: &'a [u8]) -> ValuesIter<'a>
         ensures { result ≡ values_of name.now self.now.fields }
     {
@@ -240,6 +253,7 @@ impl RequestHeader {
 }
 
 /// The method that these bytes name. A token is refused only where there is no memory.
+#[inline(always)]
 fn method_of(alloc: Global, method: &[u8]) -> Result<Method, Error>
     ensures ok { IfOk result (λ made. made ≡ method.now) }
     ensures refused { RefusedFor (method_fault method.now) result }

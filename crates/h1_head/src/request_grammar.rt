@@ -13,8 +13,28 @@ use httparse::Status;
 use httparse::spans::{EMPTY_HEADER_SPAN, HeaderSpan, RequestSpans, parse_request};
 use std::alloc::Global;
 
+/// So many field lines most heads have at most.
+const FEW_HEADERS: usize = 16;
+
 /// What the bytes say, if they are one head from their first byte to their last.
 pub(crate) fn parse_head(alloc: Global, bytes: &[u8]) -> Result<Option<RequestHeader>, Error>
+    ensures ok { IfOk result (λ found. MatchOption found (HasNoHead bytes.now) (IsHead bytes.now)) }
+    ensures err { IsOkUnless result no_memory }
+{
+    // To clear as many spans as a head may need costs more than a short head does, so a few are
+    // tried first.
+    let mut spans = [EMPTY_HEADER_SPAN; FEW_HEADERS];
+    match parse_request(bytes, &mut spans) {
+        Ok(Status::Complete(head)) if head.len == bytes.len() => {
+            Ok(Some(request_at(alloc, bytes, &spans, head)?))
+        }
+        _ => parse_long_head(alloc, bytes),
+    }
+}
+
+/// The same, with spans for as many field lines as a head may have.
+#[inline(never)]
+fn parse_long_head(alloc: Global, bytes: &[u8]) -> Result<Option<RequestHeader>, Error>
     ensures ok { IfOk result (λ found. MatchOption found (HasNoHead bytes.now) (IsHead bytes.now)) }
     ensures err { IsOkUnless result no_memory }
 {
@@ -28,6 +48,7 @@ pub(crate) fn parse_head(alloc: Global, bytes: &[u8]) -> Result<Option<RequestHe
 }
 
 /// The request whose parts lie at these places.
+#[inline(always)]
 fn request_at(
     alloc: Global,
     bytes: &[u8],
@@ -46,6 +67,7 @@ fn request_at(
 }
 
 /// The field lines whose names and values lie at these places.
+#[inline(always)]
 fn fields_at(alloc: Global, bytes: &[u8], spans: &[HeaderSpan]) -> Result<Fields, Error>
     requires { All (IsHeaderWithin (length bytes.now)) spans.now }
     ensures ok { IfOk result (λ fields. fields ≡ map (header_bytes bytes.now) spans.now) }

@@ -79,6 +79,7 @@ enum Verdict {
     Refused(HeadFault),
 }
 
+#[inline(always)]
 fn judge(alloc: Global, head: &[u8]) -> Result<Verdict, Error>
     ensures ok { IfOk result (IsVerdictOn head.now) }
     ensures err { IsOkUnless result no_memory }
@@ -97,6 +98,7 @@ struct Spelled {
 }
 
 /// Parses the head, or else its escape.
+#[inline(always)]
 fn spell(alloc: Global, head: &[u8]) -> Result<Option<Spelled>, Error>
     ensures ok { IfOk result (λ found. MatchOption found (IsNoHead head.now) (IsSaidBy head.now)) }
     ensures err { IsOkUnless result no_memory }
@@ -116,6 +118,7 @@ fn spell(alloc: Global, head: &[u8]) -> Result<Option<Spelled>, Error>
 }
 
 /// Drops Content-Length lines beside Transfer-Encoding, and judges what is left.
+#[inline(always)]
 fn settle(spelled: Spelled) -> Verdict
     ensures { IsSettlingOf spelled result }
 {

@@ -1,5 +1,5 @@
 //! The head of a response (RFC 9112, section 4).
-ghost use Rattle.std.specs.Prelude.{◌≡◌, ◌++◌, ◌∷◌, [], MatchOption, IfOk, OnOk, OnErr, IsOkUnless, option_map, decimal, codes};
+ghost use Rattle.std.specs.Prelude.{◌≡◌, ◌++◌, ◌∷◌, [], MatchOption, IfOk, OnOk, OnErr, IsOkUnless, option_map, is_some, decimal, codes};
 ghost use Rattle.http.specs.StatusCode.{IsStatusCode, code_digits, reason_phrase};
 ghost use Rattle.h1_error.specs.Memory.{no_memory};
 ghost use Rattle.h1_fields.specs.Lines.{has_line, first_value, values_of, with_line, without, print_lines};
@@ -46,6 +46,7 @@ impl Model for ResponseHeader {
 impl ResponseHeader {
     /// A response of version 1.1 with no fields, and with no phrase set. `size_hint` is how many
     /// fields are to come.
+    #[inline(always)]
     pub fn build(alloc: Global, status: u16, size_hint: Option<usize>) -> Result<Self, Error>
         ensures ok { IfOk result (λ head. head ≡ new_response status) }
         ensures refused { RefusedFor (status_fault status) result }
@@ -85,17 +86,20 @@ impl ResponseHeader {
         Ok(())
     }
 
+    #[inline(always)]
     pub(crate) fn allocator(&self) -> Global {
         self.alloc
     }
 
     /// The three digits of the status code.
+    #[inline(always)]
     pub(crate) fn status_digits(&self) -> &'static str
         ensures { result.now ≡ code_digits self.now.status }
     {
         self.status.as_str()
     }
 
+    #[inline(always)]
     pub fn status(&self) -> u16
         ensures value { result ≡ self.now.status }
         ensures valid { IsStatusCode result }
@@ -103,18 +107,21 @@ impl ResponseHeader {
         self.status.as_u16()
     }
 
+    #[inline(always)]
     pub fn version(&self) -> Version
         ensures { result ≡ self.now.version }
     {
         self.version
     }
 
+    #[inline(always)]
     pub fn set_version(&mut self, version: Version)
         ensures { self.new ≡ record self.old { version = version } }
     {
         self.version = version;
     }
 
+    #[inline(always)]
     pub fn fields(&self) -> &Fields
         ensures { result.now ≡ self.now.fields }
     {
@@ -134,7 +141,16 @@ impl ResponseHeader {
         Ok(())
     }
 
+    /// Whether a phrase was set.
+    #[inline(always)]
+    pub(crate) fn has_own_phrase(&self) -> bool
+        ensures { result ≡ is_some self.now.reason }
+    {
+        self.reason.is_some()
+    }
+
     /// The phrase that was set, else that of the status code, if it has one.
+    #[inline(always)]
     pub fn get_reason_phrase(&self) -> Option<&[u8]>
         ensures { option_map (λ phrase. phrase.now) result ≡ reason_of self.now }
     {
@@ -167,16 +183,6 @@ impl ResponseHeader {
         self.fields.insert(name, value)
     }
 
-    /// Inserts a line that is known to be one.
-    pub(crate) fn insert_own(&mut self, name: &[u8], value: &[u8]) -> Result<(), Error>
-        ensures ok { OnOk result (self.new
-            ≡ record self.old { fields = with_line name.now value.now self.old.fields }) }
-        ensures err { IsOkUnless result no_memory }
-        ensures same { OnErr result (self.new ≡ self.old) }
-    {
-        self.fields.insert(name, value)
-    }
-
     /// Inserts Content-Length with this number.
     pub fn set_content_length(&mut self, n: u64) -> Result<(), Error>
         ensures ok { let lines = with_line (codes "Content-Length") (decimal n) self.old.fields in
@@ -189,6 +195,7 @@ impl ResponseHeader {
     }
 
     /// Removes all lines of that name. True exactly where there was one.
+    #[inline(always)]
     pub fn remove_header(&mut self, name: &[u8]) -> bool
         ensures fields { self.new ≡ record self.old { fields = without name.now self.old.fields } }
         ensures found { result ≡ has_line name.now self.old.fields }
@@ -197,6 +204,7 @@ impl ResponseHeader {
     }
 
     /// The value of the first line of that name.
+    #[inline(always)]
     pub fn get(&self, name: &[u8]) -> Option<&[u8]>
         ensures { option_map (λ value. value.now) result ≡ first_value name.now self.now.fields }
     {
@@ -204,6 +212,7 @@ impl ResponseHeader {
     }
 
     /// The values of all lines of that name, in order.
+    #[inline(always)]
     pub fn get_all<'a>(&'a self, name: &'a [u8]) -> ValuesIter<'a>
         ensures { result ≡ values_of name.now self.now.fields }
     {
@@ -239,6 +248,7 @@ impl ResponseHeader {
 }
 
 /// The status code of that number.
+#[inline(always)]
 fn status_of(status: u16) -> Result<StatusCode, Error>
     ensures { MatchOption (status_fault status) (result ≡ Ok status)
         (λ fault. result ≡ Err (refusal fault)) }
@@ -250,6 +260,7 @@ fn status_of(status: u16) -> Result<StatusCode, Error>
 }
 
 /// The phrase of a status code (RFC 9110, section 15).
+#[inline(always)]
 fn canonical_phrase(status: StatusCode) -> Option<&'static [u8]>
     ensures { option_map (λ phrase. phrase.now) result ≡ reason_phrase status }
 {

@@ -95,6 +95,26 @@ fn a_reply_gets_date_and_connection(rt: HostRuntime) -> Result<(), Error> {
 }
 
 #[test]
+fn date_and_connection_stand_once_in_the_first_places(rt: HostRuntime) -> Result<(), Error> {
+    let date = get_cached_date(784_111_777_999);
+    let mut head = ResponseHeader::build(rt.alloc(), 404, None)?;
+    head.append_header(b"connection", b"upgrade")?;
+    head.append_header(b"A", b"1")?;
+    head.append_header(b"CONNECTION", b"keep-alive")?;
+    head.append_header(b"date", b"never")?;
+    head.append_header(b"Dates", b"2")?;
+    head.append_header(b"Date", b"ever")?;
+    let bytes = reply_bytes(&head, &date, false)?;
+    assert_eq!(rt;
+        bytes.as_slice(),
+        b"HTTP/1.1 404 Not Found\r\nConnection: close\r\nA: 1\r\n\
+            Date: Sun, 06 Nov 1994 08:49:37 GMT\r\nDates: 2\r\n\r\n"
+            .as_slice()
+    );
+    Ok(())
+}
+
+#[test]
 fn a_phrase_that_is_set_is_written(rt: HostRuntime) -> Result<(), Error> {
     let mut head = ResponseHeader::build(rt.alloc(), 404, None)?;
     assert_eq!(rt; head.get_reason_phrase(), Some(b"Not Found".as_slice()));

@@ -5,6 +5,7 @@ ghost use Rattle.h1_head.specs.Versions.{is_http_1, is_http_10, is_http_11, is_h
 use http::Version;
 
 /// Whether a reply may have this version: 0.9, 1.0 or 1.1.
+#[inline(always)]
 pub fn is_http_1(version: Version) -> bool
     ensures { result ≡ is_http_1 version }
 {
@@ -12,6 +13,7 @@ pub fn is_http_1(version: Version) -> bool
 }
 
 /// Whether this is HTTP/1.0.
+#[inline(always)]
 pub(crate) fn is_http_10(version: Version) -> bool
     ensures { result ≡ is_http_10 version }
 {
@@ -19,6 +21,7 @@ pub(crate) fn is_http_10(version: Version) -> bool
 }
 
 /// Whether this is HTTP/1.1.
+#[inline(always)]
 pub(crate) fn is_http_11(version: Version) -> bool
     ensures { result ≡ is_http_11 version }
 {
@@ -26,6 +29,7 @@ pub(crate) fn is_http_11(version: Version) -> bool
 }
 
 /// Whether this is HTTP/2.
+#[inline(always)]
 pub(crate) fn is_http_2(version: Version) -> bool
     ensures { result ≡ is_http_2 version }
 {
@@ -50,6 +54,7 @@ pub(crate) fn name_of(version: Version) -> Option<&'static str>
 }
 
 /// HTTP/1.0 or HTTP/1.1, by the digit after the dot.
+#[inline(always)]
 pub(crate) fn with_minor(minor: u8) -> Version
     ensures { result ≡ minor_version minor }
 {

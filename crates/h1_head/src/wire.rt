@@ -1,7 +1,7 @@
 //! The bytes of heads (RFC 9112, sections 2.1, 3 and 4).
-ghost use Rattle.std.specs.Prelude.{◌≡◌, ◌++◌, [], unwrap_or, IsTrue, IsSomeAnd, IfOk, OnOk, OnErr, IsOkUnless, MatchOption};
+ghost use Rattle.std.specs.Prelude.{◌≡◌, ◌∷◌, ◌++◌, [], codes, true, if◌then◌else◌, unwrap_or, IsTrue, IsSomeAnd, IfOk, OnOk, OnErr, IsOkUnless, MatchOption};
 ghost use Rattle.h1_error.specs.Memory.{no_memory};
-ghost use Rattle.h1_fields.specs.Lines.{print_line, print_lines};
+ghost use Rattle.h1_fields.specs.Lines.{with_line, print_line, print_lines};
 ghost use Rattle.h1_head.specs.Versions.{is_http_1, version_name};
 ghost use Rattle.h1_head.specs.Response.{reason_of};
 ghost use Rattle.h1_head.specs.Wire.{print_status_line, head_bytes, reply_head, keep_option, is_forbidden_byte, has_forbidden_byte, print_request_line, print_request, request_bytes};
@@ -10,7 +10,11 @@ use crate::version::name_of;
 use crate::{Fields, RequestHeader, ResponseHeader};
 use bytes::BytesMut;
 use h1_error::Error;
+use h1_fields::is_same_name;
 use http::Version;
+
+/// The bytes that most heads of replies have at most.
+const REPLY_ROOM: usize = 256;
 
 /// Appends the status line, the field lines and the empty line after them.
 pub fn push_response_head(header: &ResponseHeader, out: &mut Vec<u8>) -> Result<(), Error>
@@ -31,10 +35,10 @@ pub fn reply_bytes(header: &ResponseHeader, date: &[u8; 29], keep: bool) -> Resu
         (λ bytes. bytes.items ≡ head_bytes (reply_head header.now date.now keep)) }
     ensures err { IsOkUnless result no_memory }
 {
-    let mut reply = header.copy()?;
-    reply.insert_own(b"Date", date)?;
-    reply.insert_own(b"Connection", option_of(keep))?;
-    response_bytes(&reply)
+    let mut out = Vec::with_capacity(header.allocator(), REPLY_ROOM)?;
+    push_status_line(&mut out, header)?;
+    push_reply_lines(&mut out, header.fields(), date, keep)?;
+    Ok(out)
 }
 
 /// The option of Connection that says whether the connection is kept.
@@ -63,6 +67,10 @@ fn push_status_line(out: &mut Vec<u8>, header: &ResponseHeader) -> Result<(), Er
     ensures ok { OnOk result (out.new.items ≡ out.old.items ++ print_status_line header.now) }
     ensures err { IsOkUnless result no_memory }
 {
+    if is_plain_ok(header) {
+        out.extend_from_slice(b"HTTP/1.1 200 OK\r\n")?;
+        return Ok(());
+    }
     out.extend_from_slice(reply_version(header.version()).as_bytes())?;
     out.extend_from_slice(b" ")?;
     out.extend_from_slice(header.status_digits().as_bytes())?;
@@ -70,6 +78,13 @@ fn push_status_line(out: &mut Vec<u8>, header: &ResponseHeader) -> Result<(), Er
     out.extend_from_slice(phrase_or_nothing(header))?;
     out.extend_from_slice(b"\r\n")?;
     Ok(())
+}
+
+/// Whether the status line is that of most replies: version 1.1, status 200 and its own phrase.
+fn is_plain_ok(header: &ResponseHeader) -> bool
+    ensures { result ≡ true → print_status_line header.now ≡ codes "HTTP/1.1 200 OK\r\n" }
+{
+    header.version() == Version::HTTP_11 && header.status() == 200 && !header.has_own_phrase()
 }
 
 /// The name of a version that a reply may have.
@@ -102,6 +117,86 @@ pub(crate) fn push_lines(out: &mut Vec<u8>, fields: &Fields) -> Result<(), Error
         push_line(out, name, value)?;
     }
     Ok(())
+}
+
+/// Appends the lines of a reply, with Date and Connection in the places of the first lines of these
+/// names and without later ones, or at the end, and an empty line.
+fn push_reply_lines(
+    out: &mut Vec<u8>,
+    fields: &Fields,
+    date: &[u8],
+    keep: bool,
+) -> Result<(), Error>
+    ensures ok { let dated = with_line (codes "Date") date.now fields.now in
+        let lines = with_line (codes "Connection") (keep_option keep) dated in
+        OnOk result (out.new.items ≡ out.old.items ++ print_lines lines ++ (13 ∷ 10 ∷ [])) }
+    ensures err { IsOkUnless result no_memory }
+{
+    let mut dated = false;
+    let mut connected = false;
+    for (name, value) in fields.iter() {
+        if is_same_name(b"Date", name) {
+            push_once(out, dated, b"Date", date)?;
+            dated = true;
+        } else if is_same_name(b"Connection", name) {
+            push_once(out, connected, b"Connection", option_of(keep))?;
+            connected = true;
+        } else {
+            push_line(out, name, value)?;
+        }
+    }
+    push_end(out, dated, date, connected, keep)?;
+    Ok(())
+}
+
+/// Appends Date and Connection, as far as they aren't written yet, and an empty line.
+fn push_end(
+    out: &mut Vec<u8>,
+    dated: bool,
+    date: &[u8],
+    connected: bool,
+    keep: bool,
+) -> Result<(), Error>
+    ensures ok { let first = if dated then [] else (codes "Date", date.now) ∷ [] in
+        let second = if connected then [] else (codes "Connection", keep_option keep) ∷ [] in
+        let lines = print_lines (first ++ second) in
+        OnOk result (out.new.items ≡ out.old.items ++ lines ++ (13 ∷ 10 ∷ [])) }
+    ensures err { IsOkUnless result no_memory }
+{
+    if dated || connected {
+        push_once(out, dated, b"Date", date)?;
+        push_once(out, connected, b"Connection", option_of(keep))?;
+        out.extend_from_slice(b"\r\n")?;
+    } else {
+        out.extend_from_slice(b"Date: ")?;
+        out.extend_from_slice(date)?;
+        out.extend_from_slice(end_of(keep))?;
+    }
+    Ok(())
+}
+
+/// What stands behind the value of Date in a head whose last line is Connection.
+fn end_of(keep: bool) -> &'static [u8]
+    ensures { result.now
+        ≡ codes "\r\nConnection: " ++ keep_option keep ++ codes "\r\n\r\n" }
+{
+    if keep {
+        b"\r\nConnection: keep-alive\r\n\r\n"
+    } else {
+        b"\r\nConnection: close\r\n\r\n"
+    }
+}
+
+/// Appends one line, if it isn't written yet.
+fn push_once(out: &mut Vec<u8>, written: bool, name: &[u8], value: &[u8]) -> Result<(), Error>
+    ensures ok { let lines = if written then [] else (name.now, value.now) ∷ [] in
+        OnOk result (out.new.items ≡ out.old.items ++ print_lines lines) }
+    ensures err { IsOkUnless result no_memory }
+{
+    if written {
+        return Ok(());
+    }
+    push_line(out, name, value)
 }
 
 /// Appends one line.
