@@ -1,5 +1,5 @@
 //! What an application is to a connection.
-ghost use Rattle.std.specs.Prelude.{◌≡◌, ℕ, ◌<◌, ◌≤◌, List, [], IfOk, IfErr, IsSome};
+ghost use Rattle.std.specs.Prelude.{◌≡◌, ℕ, ◌<◌, ◌≤◌, List, [], IfOk, IfErr, IsSome, false};
 ghost use Rattle.h1_error.specs.declared.moment.TheConstants.{YEAR_10000};
 ghost use Rattle.h1_error.specs.Memory.{no_memory};
 ghost use Rattle.h1_server.specs.declared.settings.Settings.{Settings};
@@ -59,6 +59,8 @@ pub trait ServeHttp<L: Link + Drop, C: Drop> {
         requires request { IsSome http.old.request }
         requires kept { IsSome http.old.body.kept }
         requires budget { IsSome http.old.budget }
+        // The session's note of a pending read is clear.
+        requires waits { http.old.body.waits ≡ false }
         requires moment { now < YEAR_10000 }
         ensures reads { ReadsOnly L.state http.old http.new }
         ensures plan { L.same_plan http.old.link http.new.link }

@@ -1,5 +1,5 @@
 //! The application runs, until it has replied.
-ghost use Rattle.std.specs.Prelude.{◌≡◌, ◌+◌, Bool, ◌<◌, ◌≤◌, IsSome, None, Some};
+ghost use Rattle.std.specs.Prelude.{◌≡◌, ◌+◌, Bool, ◌<◌, ◌≤◌, IsSome, None, Some, false};
 ghost use Rattle.h1_error.specs.declared.moment.TheConstants.{YEAR_10000};
 ghost use Rattle.h1_transcript.specs.declared.transcript.Entry.{Entry};
 ghost use Rattle.h1_head.specs.Views.{RequestView};
@@ -81,6 +81,7 @@ where
     C: Drop,
     requires request { IsSome session.old.request }
     requires budget { IsSome session.old.budget }
+    requires waits { session.old.body.waits ≡ false }
     requires moment { now < YEAR_10000 }
     ensures asks { AsksAs L.state session.old session.new entry.old entry.new result }
     ensures plan { L.same_plan session.old.link session.new.link }

@@ -50,8 +50,6 @@ impl<L: Link + Drop, C: Drop> ServeHttp<L, C> for Refuses {
     ) -> Poll<Result<Reply, Error>> {
         if job.waited < self.waits {
             job.waited += 1;
-            // The session's note of a pending read would tell this wait as a read's.
-            http.take_waits();
             return Poll::Pending;
         }
         http.set_close_on_response_before_downstream_finish(false);
