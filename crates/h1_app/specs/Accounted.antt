@@ -2,7 +2,7 @@
 -- into the exchanges and what is still to be used or written.
 use Rattle.std.specs.Prelude.{◌≡◌, ℕ, ◌+◌, ◌-◌, ◌^◌, List, [], ◌++◌, length, drop, min, true, false, Option, Some, None, IfSome, IsSome}
 use Rattle.h1_app.specs.Words.{Error, ErrorType, LinkState, RoseBy, Later, HeadAt, broken, is_whole, BodyState, How, Open, Whole, Failed, reads, wish, HasRead, WriterView, end_bytes, framing, Lacks, SessionView, Request, Entry, AfterRead, AfterWrote, DoneBehind, FlushedBy, IsBelow, written_of, render, IfTold}
-use Rattle.h1_transcript.specs.BodyErrors.{SaysOfBody}
+use Rattle.h1_transfer.specs.BodyErrors.{SaysOfBody}
 
 -- how the body stood when the application replied, of a body that is read on after the reply
 abbrev pub StoodSo : How → Entry → BodyState → Type 0

@@ -1,7 +1,6 @@
 pub mod Given
 pub mod Lawful
 pub mod Told
-pub mod BodyErrors
 pub mod Ends
 pub mod Entries
 pub mod Stream

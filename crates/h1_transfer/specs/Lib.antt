@@ -13,6 +13,7 @@ pub mod Heads
 pub mod Writes
 pub mod PieceWrites
 pub mod EndWrites
+pub mod BodyErrors
 pub mod Payload
 pub mod BodyAnswers
 pub mod Words

@@ -2,6 +2,7 @@
 use Rattle.std.specs.Prelude.{◌≡◌, ℕ, ◌≤◌, ◌+◌, ◌<◌, ◌⊎◌, List, [], length, true, false, Option, Some, None, option_map, Result, Ok, Err}
 use Rattle.h1_transfer.specs.Words.{Poll, Ready, Pending, Error, ErrorType, LinkState, Rose, whole, unfinished, broken, reads}
 use Rattle.h1_error.specs.declared.error.ErrorType.TheVariants as kind
+use Rattle.h1_transfer.specs.BodyErrors.{SaysOfBody}
 use Rattle.h1_transfer.specs.Budget.{allowance}
 use Rattle.h1_transfer.specs.Decoding.{ReadsBody, Lacks, IsUnfinished}
 use Rattle.h1_transfer.specs.TransferView.{TransferView, Holds}
@@ -9,14 +10,10 @@ use Rattle.h1_transfer.specs.TransferView.{TransferView, Holds}
 -- when each refusal of the body comes
 abbrev pub BodyRefusal : {L : Type 0} → (L → LinkState) → TransferView L → TransferView L
     → ErrorType → Type 0
-BodyRefusal state old new kind.InvalidBody = reads new.body.reader [] ≡ broken []
-BodyRefusal state old new kind.ConnectionClosed =
-    ((state new.link).ended ≡ true) × Lacks new.body.reader new.received
-BodyRefusal state old new kind.ReadError =
-    Rose (state old.link).read_faults (state new.link).read_faults
-    × Lacks new.body.reader new.received
-BodyRefusal state old new kind.NoMemory = Unit {0}
-BodyRefusal state old new _ = ⊥
+BodyRefusal state old new kind = SaysOfBody (reads new.body.reader [] ≡ broken [])
+    (((state new.link).ended ≡ true) × Lacks new.body.reader new.received)
+    (Rose (state old.link).read_faults (state new.link).read_faults
+    × Lacks new.body.reader new.received) kind
 
 -- every refusal but out of memory is answered again
 abbrev pub refused_for_good : Error → Option Error

@@ -1,5 +1,5 @@
--- What an error of a request's body says of the body (RFC 9112, sections 6 and 8).
-use Rattle.h1_transcript.specs.Words.{ErrorType}
+-- What an error of a message's body says of the body (RFC 9112, sections 6 and 8).
+use Rattle.h1_transfer.specs.Words.{ErrorType}
 use Rattle.h1_error.specs.declared.error.ErrorType.TheVariants as kind
 
 -- The body is broken, or its link ended or failed inside it. Out of memory, which comes anywhere,
