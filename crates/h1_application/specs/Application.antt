@@ -88,6 +88,9 @@ pub record ReadsOnly {L C : Type 0} (state : L → LinkState)
   pub head_refused : new.refused ≡ old.refused
   pub reuses : new.settings.reuses ≡ old.settings.reuses
   pub reply : new.reply ≡ old.reply
+  -- the flag of a header that was taken up, and the mark of a link that is reusable
+  pub keep : new.keep ≡ old.keep
+  pub reusable : new.reusable ≡ old.reusable
   -- what the caller keeps with the connection stays
   pub context : new.context ≡ old.context
   pub refused : RefusedBy state old new old.body.refused
