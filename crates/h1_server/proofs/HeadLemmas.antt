@@ -44,11 +44,11 @@ head_stopped {L} {C} state old new refused stop result unread none is reads =
     record {
       bytes = new.received;
       left = reads.left;
-      parsed = reads.parsed;
-      received = reads.received;
+      parsed = reads.receives.parsed;
+      received = reads.receives.received;
       budget = reads.budget;
       rest = ap (λ (t : TransferView L). let s : SessionView L C = record (session.put old new) { refused = refused; reply = t.outgoing } in s) reads.rest;
-      few = reads.few;
+      few = reads.receives.few;
       answer = stop_answer state old behind stop reads.left result none
           (record { request = unread; received = refl; body = ap (λ (t : TransferView L). t.body) reads.rest; settings = refl }) is reads.cause;
     }
@@ -74,12 +74,12 @@ head_read {L} {C} state old mid after new request used n settings none told skip
     record {
       bytes = mid.received;
       left = told.left;
-      parsed = told.parsed;
-      received = rw link told.received;
+      parsed = told.receives.parsed;
+      received = rw link told.receives.received;
       budget = ap (λ (t : TransferView L). t.budget) is ∙ told.budget;
       rest = ap (λ (t : TransferView L). let s : SessionView L C =
           record (session.put old new) { request = Some request; settings = settings; reply = t.outgoing } in s) is;
-      few = rw link told.few;
+      few = rw link told.receives.few;
       answer = (
         request,
         refl,

@@ -6,6 +6,7 @@ use Rattle.h1_transfer.specs.Words.{append_known, LinkState, Later, Filled}
 use Rattle.h1_link.proofs.Laters.{append_known-nil, append_known-on, later_itself, later_on, later_write}
 use Rattle.h1_link.specs.Steps.{after_write, after_bytes, after_no_byte}
 use Rattle.h1_link.specs.declared.link.WriteStep.TheVariants as write
+use Rattle.h1_transfer.specs.Heads.{ReceivesHead}
 use Rattle.h1_transfer.proofs.Words.{Received, Sent, FillsBy, cost, sent_after}
 use Rattle.h1_transfer.specs.Moved.{Moved}
 
@@ -144,6 +145,17 @@ received_free a b c x y z budget left filled free before fills =
     let spend : cost filled ≤ left = omega arith in
     let same : left - cost filled ≡ left = omega arith in
     rw same at (received_fills a b c x y z budget left filled before fills spend)
+
+-- the same of a read of a head, of which no read was pending before
+pub receives_free : (lacks : List ℕ → Type 0) (a b c : LinkState) (x y z : List ℕ) (budget left : ℕ)
+    (filled : Filled) → cost filled ≡ 0 → Received a b x y budget left
+    → b.read_waits ≡ a.read_waits → (left < budget → lacks x) → FillsBy b c y z filled
+    → ReceivesHead lacks a c x z budget left
+receives_free lacks a b c x y z budget left filled free before calm parsed fills = record {
+  received = received_free a b c x y z budget left filled free before fills;
+  parsed = parsed;
+  few = omega (arith, calm, fills.few);
+}
 
 -- what holds of what is received held of it before, where nothing was read
 pub read_nothing : (a b : LinkState) (x y : List ℕ) (budget left : ℕ) (P : List ℕ → Type 0)

@@ -59,18 +59,23 @@ abbrev pub fault_of_head : {H : Type 0} → HeadRead H → Fault
 fault_of_head (h.Whole head n) = no_fault
 fault_of_head (h.Stopped stop) = fault_of_stop stop
 
+-- what a read of a head took from its link
+pub record ReceivesHead (lacks : List ℕ → Type 0) (before now : LinkState) (old new : List ℕ)
+    (budget left : ℕ) : Type 0 where
+  pub received : Received before now old new budget left
+  -- what was received before is parsed before any read
+  pub parsed : left < budget → lacks old
+  -- a read was not ready at most once
+  pub few : now.read_waits ≤ before.read_waits + 1
+
 -- one read of a head, which stays among the received bytes
 pub record ReadsHead {L H : Type 0} (state : L → LinkState) (is_at : List ℕ → ℕ → H → Type 0)
     (refuses : List ℕ → HeadFault → Type 0) (lacks : List ℕ → Type 0) (old new : TransferView L)
     (read : HeadRead H) : Type 0 where
   pub left : ℕ
-  -- what was received before is parsed before any read
-  pub parsed : left < allowance old.budget → lacks old.received
-  pub received : Received (state old.link) (state new.link) old.received new.received
+  pub receives : ReceivesHead lacks (state old.link) (state new.link) old.received new.received
       (allowance old.budget) left
   pub budget : new.budget ≡ option_map (λ _. left) old.budget
   -- all else stays
   pub rest : new ≡ record old { link = new.link; received = new.received; budget = new.budget }
-  -- a read was not ready at most once
-  pub few : (state new.link).read_waits ≤ (state old.link).read_waits + 1
   pub cause : HeadCause is_at refuses lacks (state old.link) (state new.link) new.received left read

@@ -1,9 +1,7 @@
 //! Reading a head off the link (RFC 9112, section 2.2).
-ghost use Rattle.std.specs.Prelude.{◌≡◌, ◌<◌, ◌≤◌, ◌+◌};
 ghost use Rattle.h1_cut.specs.Search.{HasLooked};
 ghost use Rattle.h1_head.specs.declared.limits.TheConstants.{MAX_HEADER_SIZE};
-ghost use Rattle.h1_transfer.specs.Moved.{Received};
-ghost use Rattle.h1_transfer.specs.Heads.{HeadCause, is_whole_head, fault_of_head};
+ghost use Rattle.h1_transfer.specs.Heads.{ReceivesHead, HeadCause, is_whole_head, fault_of_head};
 ghost use Rattle.h1_transfer.specs.Calls.{Called};
 
 use crate::head::{Found, Head};
@@ -47,13 +45,11 @@ pub fn read_head<H: Head, L: Link>(
     budget: &mut u32,
 ) -> HeadRead<H>
     requires { HasLooked MAX_HEADER_SIZE search.old received.old.items }
-    ensures received { Received (L.state link.old)
+    ensures receives { ReceivesHead H.lacks (L.state link.old)
         (L.state link.new) received.old.items received.new.items budget.old budget.new }
     ensures cause { HeadCause H.is_at H.refuses H.lacks (L.state link.old)
         (L.state link.new) received.new.items budget.new result }
     ensures looked { HasLooked MAX_HEADER_SIZE search.new received.new.items }
-    ensures few { (L.state link.new).read_waits ≤ (L.state link.old).read_waits + 1 }
-    ensures parsed { budget.new < budget.old → H.lacks received.old.items }
     ensures calls { Called (L.state link.old) (L.state link.new) (is_whole_head result)
         (fault_of_head result) }
     ensures plan { L.same_plan link.old link.new }

@@ -4,7 +4,7 @@ use Rattle.std.proofs.lemmas.Bool.{cases_lt}
 use Rattle.h1_transfer.specs.Words.{Got, End}
 use Rattle.h1_cut.proofs.SearchLemmas.{HasLooked-append}
 use Rattle.h1_transfer.proofs.CalledLemmas.{called_itself, called_on}
-use Rattle.h1_transfer.proofs.MovedLemmas.{read_nothing, received_itself, received_fills, received_free}
+use Rattle.h1_transfer.proofs.MovedLemmas.{read_nothing, received_itself, received_fills, receives_free}
 use Rattle.h1_transfer.proofs.reading_head.read_head.Goals as goal
 
 pub reads-init : goal.reads-init
@@ -33,10 +33,12 @@ reads-preserved g c =
       plan = g.met.L.Link.plan_on _ _ _ c.reads.invariant.plan c.fill.ensures.plan;
     }
 
-pub returns-in-End-clause-received : goal.returns-in-End-clause-received
-returns-in-End-clause-received g c =
-    received_free _ _ _ _ _ _ _ _ End refl c.reads.invariant.moved c.in-End.ensures.fills
+pub returns-in-End-clause-receives : goal.returns-in-End-clause-receives
+returns-in-End-clause-receives g c =
+    receives_free _ _ _ _ _ _ _ _ _ End refl c.reads.invariant.moved c.reads.invariant.waits
+    c.reads.invariant.parsed c.in-End.ensures.fills
 
-pub returns-in-End-2-clause-received : goal.returns-in-End-2-clause-received
-returns-in-End-2-clause-received g c =
-    received_free _ _ _ _ _ _ _ _ End refl c.reads.invariant.moved c.in-End-2.ensures.fills
+pub returns-in-End-2-clause-receives : goal.returns-in-End-2-clause-receives
+returns-in-End-2-clause-receives g c =
+    receives_free _ _ _ _ _ _ _ _ _ End refl c.reads.invariant.moved c.reads.invariant.waits
+    c.reads.invariant.parsed c.in-End-2.ensures.fills

@@ -7,10 +7,8 @@ returns-clause-reads g c =
     let read = c.read_head-read in
     rw (← c.self.view_is) (record {
       left = read.new.budget;
-      parsed = rw c.allowance_of-left.ensures at read.ensures.parsed;
-      received = rw c.allowance_of-left.ensures at read.ensures.received;
+      receives = rw c.allowance_of-left.ensures at read.ensures.receives;
       budget = c.budget_left-self-inside.ensures;
       rest = refl;
-      few = read.ensures.few;
       cause = read.ensures.cause;
     })
