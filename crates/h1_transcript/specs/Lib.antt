@@ -3,6 +3,7 @@ pub mod Lawful
 pub mod Told
 pub mod Ends
 pub mod Entries
+pub mod Lending
 pub mod Stream
 pub mod Exchange
 pub mod Behind

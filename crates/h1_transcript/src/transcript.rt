@@ -1,6 +1,7 @@
 //! What a connection read and wrote, exchange by exchange.
-ghost use Rattle.std.specs.Prelude.{◌≡◌, ◌<◌, ◌++◌, [], None, IsSome, OnOk, OnErr, IfErr, length, slice_get, option_to_list};
+ghost use Rattle.std.specs.Prelude.{◌≡◌, ◌<◌, ◌++◌, [], None, Some, IsSome, OnOk, OnErr, IfErr, length, slice_get, option_to_list};
 ghost use Rattle.h1_error.specs.Memory.{no_memory};
+ghost use Rattle.std.specs.Borrow.{sem};
 ghost use Rattle.std.specs.Option.{option_copied};
 
 use crate::Reply;
@@ -69,6 +70,7 @@ pub struct Transcript {
 
 impl Transcript {
     ghost use Rattle.h1_transcript.specs.Entries.{transcript_entries};
+    ghost use Rattle.h1_transcript.specs.Lending.{LendsLast};
 
     /// No exchange yet.
     pub fn new(alloc: Global) -> Self
@@ -78,6 +80,18 @@ impl Transcript {
         Transcript {
             done: Vec::new(alloc),
             last: None,
+        }
+    }
+
+    /// The exchange that goes on.
+    pub fn last_entry(&mut self) -> &mut Entry
+        requires { IsSome self.old.last }
+        ensures* lends { sem 𝓛 (LendsLast self.entry result) }
+        ensures value { self.old.last ≡ Some result.now }
+    {
+        match &mut self.last {
+            Some(entry) => entry,
+            None => unreachable!(),
         }
     }
 

@@ -37,9 +37,7 @@ pub(super) fn answer<L: Link + Drop, SV: ServeHttp<L, C> + Drop, B: Drop, C: Dro
         result }
     ensures leaves { LeavesBy L.state exchange.old exchange.new result }
 {
-    let Some(entry) = &mut exchange.transcript.last else {
-        unreachable!()
-    };
+    let entry = exchange.transcript.last_entry();
     let Stage::Answer(job) = &mut exchange.stage else {
         unreachable!()
     };

@@ -37,9 +37,7 @@ pub(super) fn drain<L: Link + Drop, SV: ServeHttp<L, C> + Drop, B: Drop, C: Drop
         result }
     ensures leaves { LeavesBy L.state exchange.old exchange.new result }
 {
-    let Some(entry) = &mut exchange.transcript.last else {
-        unreachable!()
-    };
+    let entry = exchange.transcript.last_entry();
     match reuse(alloc, &mut exchange.session, entry, now) {
         Poll::Pending => Outcome::Waits(Waiting::Read),
         Poll::Ready(Err(error)) => Outcome::Ends(End::Failed(error)),

@@ -34,9 +34,7 @@ pub(super) fn take_header<L: Link + Drop, SV: ServeHttp<L, C> + Drop, B: Drop, C
         result }
     ensures leaves { LeavesBy L.state exchange.old exchange.new result }
 {
-    let Some(entry) = &mut exchange.transcript.last else {
-        unreachable!()
-    };
+    let entry = exchange.transcript.last_entry();
     let (sent, mut head) = match headers(entry) {
         Ok(headers) => headers,
         Err(error) => return Outcome::Ends(End::Failed(error)),
@@ -63,9 +61,7 @@ pub(super) fn write_header<L: Link + Drop, SV: ServeHttp<L, C> + Drop, B: Drop, 
         result }
     ensures leaves { LeavesBy L.state exchange.old exchange.new result }
 {
-    let Some(entry) = &mut exchange.transcript.last else {
-        unreachable!()
-    };
+    let entry = exchange.transcript.last_entry();
     let mut taken = None;
     let answer = exchange.session.poll_write_response_header(&mut taken, now);
     entry.written = exchange.session.written_bytes();
@@ -88,9 +84,7 @@ pub(super) fn take_body<L: Link + Drop, SV: ServeHttp<L, C> + Drop, B: Drop, C: 
         result }
     ensures leaves { LeavesBy L.state exchange.old exchange.new result }
 {
-    let Some(entry) = &mut exchange.transcript.last else {
-        unreachable!()
-    };
+    let entry = exchange.transcript.last_entry();
     let mut piece = match note_body(alloc, entry) {
         Ok(piece) => piece,
         Err(error) => return Outcome::Ends(End::Failed(error)),
@@ -119,9 +113,7 @@ pub(super) fn write_body<L: Link + Drop, SV: ServeHttp<L, C> + Drop, B: Drop, C:
         result }
     ensures leaves { LeavesBy L.state exchange.old exchange.new result }
 {
-    let Some(entry) = &mut exchange.transcript.last else {
-        unreachable!()
-    };
+    let entry = exchange.transcript.last_entry();
     let mut taken = None;
     let answer = exchange.session.poll_write_body(&mut taken, now);
     entry.written = exchange.session.written_bytes();
@@ -143,9 +135,7 @@ pub(super) fn finish<L: Link + Drop, SV: ServeHttp<L, C> + Drop, B: Drop, C: Dro
         result }
     ensures leaves { LeavesBy L.state exchange.old exchange.new result }
 {
-    let Some(entry) = &mut exchange.transcript.last else {
-        unreachable!()
-    };
+    let entry = exchange.transcript.last_entry();
     let answer = exchange.session.poll_finish_body(now);
     entry.written = exchange.session.written_bytes();
     match answer {

@@ -9,15 +9,15 @@ returns-in-Pending-clause-stepped g c = λ shutdown.
     finish_stepped g.L.Link.state _ _ _ c.args.now shutdown _ _ _ _ _ c.requires.ready
     (rw c.requires.at at c.requires.ready.sound) c.requires.at
     c.poll_finish_body-answer.ensures.writes c.written_bytes-entry.ensures
-    (rw (c.in-Some.is, c.in-Pending.is) (refl, refl, refl))
+    (rw (c.last_entry-entry.ensures.value, c.in-Pending.is) (refl, refl, refl))
 
-pub returns-in-Some-body_error-clause-stepped : goal.returns-in-Some-body_error-clause-stepped
-returns-in-Some-body_error-clause-stepped g c = λ shutdown.
+pub returns-in-Some-clause-stepped : goal.returns-in-Some-clause-stepped
+returns-in-Some-clause-stepped g c = λ shutdown.
     let told = rw c.in-Ready-Ok.is at c.in-Ready-Ok.field-0-is in
     finish_stepped g.L.Link.state _ _ _ c.args.now shutdown _ _ _ _ _ c.requires.ready
     (rw c.requires.at at c.requires.ready.sound) c.requires.at
     c.poll_finish_body-answer.ensures.writes c.written_bytes-entry.ensures
-    (rw (c.in-Some.is, c.in-Ready-Ok.is, told) (refl, rw c.in-Some-body_error.is refl))
+    (rw (c.last_entry-entry.ensures.value, c.in-Ready-Ok.is, told) (refl, rw c.in-Some.is refl))
 
 pub returns-in-None-clause-stepped : goal.returns-in-None-clause-stepped
 returns-in-None-clause-stepped g c = λ shutdown.
@@ -25,7 +25,7 @@ returns-in-None-clause-stepped g c = λ shutdown.
     finish_stepped g.L.Link.state _ _ _ c.args.now shutdown _ _ _ _ _ c.requires.ready
     (rw c.requires.at at c.requires.ready.sound) c.requires.at
     c.poll_finish_body-answer.ensures.writes c.written_bytes-entry.ensures
-    (rw (c.in-Some.is, c.in-Ready-Ok.is, told) (refl, rw c.in-None.is (refl, refl)))
+    (rw (c.last_entry-entry.ensures.value, c.in-Ready-Ok.is, told) (refl, rw c.in-None.is (refl, refl)))
 
 pub returns-in-Ready-Err-clause-stepped : goal.returns-in-Ready-Err-clause-stepped
 returns-in-Ready-Err-clause-stepped g c = λ shutdown.
@@ -33,7 +33,7 @@ returns-in-Ready-Err-clause-stepped g c = λ shutdown.
     finish_stepped g.L.Link.state _ _ _ c.args.now shutdown _ _ _ _ _ c.requires.ready
     (rw c.requires.at at c.requires.ready.sound) c.requires.at
     c.poll_finish_body-answer.ensures.writes c.written_bytes-entry.ensures
-    (rw (c.in-Some.is, c.in-Ready-Err.is, told) (refl, rw c.failure.ensures refl))
+    (rw (c.last_entry-entry.ensures.value, c.in-Ready-Err.is, told) (refl, rw c.failure.ensures refl))
 
 pub returns-in-Ready-Err-clause-leaves : goal.returns-in-Ready-Err-clause-leaves
 returns-in-Ready-Err-clause-leaves g c =

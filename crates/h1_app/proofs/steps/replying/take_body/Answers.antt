@@ -8,21 +8,21 @@ use Rattle.h1_app.proofs.steps.replying.take_body.Goals as goal
 
 pub returns-in-Err-clause-stepped : goal.returns-in-Err-clause-stepped
 returns-in-Err-clause-stepped g c = λ shutdown.
-    unchanged_stepped g.L.Link.state _ _ _ c.args.now shutdown _ _ c.in-Some.entry _
-    c.requires.ready c.in-Some.is (ap Some c.in-Err.ensures.err.1) refl (search rules)
+    unchanged_stepped g.L.Link.state _ _ _ c.args.now shutdown _ _ c.last_entry-entry.result.now _
+    c.requires.ready c.last_entry-entry.ensures.value (ap Some c.in-Err.ensures.err.1) refl (search rules)
 
 pub returns-then-is_none-clause-stepped : goal.returns-then-is_none-clause-stepped
 returns-then-is_none-clause-stepped g c = λ shutdown.
     empty_body_stepped g.L.Link.state _ _ _ c.args.now shutdown _ _ _ c.requires.ready
     c.in-Ok.piece _ c.note_body.new.entry (rw c.requires.at at c.requires.ready.sound)
-    c.requires.at (rw c.in-Some.is c.in-Ok.ensures.ok) refl c.is_none.ensures
+    c.requires.at (rw c.last_entry-entry.ensures.value c.in-Ok.ensures.ok) refl c.is_none.ensures
     c.if-is_none.true refl refl refl
 
 pub returns-clause-stepped : goal.returns-clause-stepped
 returns-clause-stepped g c = λ shutdown.
     taken_body_stepped g.L.Link.state _ _ _ c.args.now shutdown _ _ _ c.requires.ready
     c.in-Ok.piece _ _ _ _ c.note_body.new.entry (rw c.requires.at at c.requires.ready.sound)
-    c.requires.at (rw c.in-Some.is c.in-Ok.ensures.ok) refl c.is_none.ensures c.if-is_none.false
+    c.requires.at (rw c.last_entry-entry.ensures.value c.in-Ok.ensures.ok) refl c.is_none.ensures c.if-is_none.false
     c.poll_write_body-answer.ensures.writes c.written_bytes-entry.ensures c.stand.ensures
 
 pub returns-clause-continues : goal.returns-clause-continues

@@ -8,15 +8,15 @@ use Rattle.h1_app.proofs.steps.replying.take_header.Goals as goal
 
 pub returns-in-Err-clause-stepped : goal.returns-in-Err-clause-stepped
 returns-in-Err-clause-stepped g c = λ shutdown.
-    unchanged_stepped g.L.Link.state _ _ _ c.args.now shutdown _ _ c.in-Some.entry _
-    c.requires.ready c.in-Some.is refl refl (search rules)
+    unchanged_stepped g.L.Link.state _ _ _ c.args.now shutdown _ _ c.last_entry-entry.result.now _
+    c.requires.ready c.last_entry-entry.ensures.value refl refl (search rules)
 
 pub returns-clause-stepped : goal.returns-clause-stepped
 returns-clause-stepped g c = λ shutdown.
     taken_header_stepped g.L.Link.state _ _ _ c.args.now shutdown _ _ _ c.requires.ready
     c.in-Ok.headers.0 c.in-Ok.headers.1 c.poll_write_response_header-answer.new.header _ _ _
     c.note_header.new.entry (rw c.requires.at at c.requires.ready.sound) c.requires.at
-    (rw c.in-Some.is c.in-Ok.ensures.ok) (rw c.in-Some.is c.note_header.ensures) refl
+    (rw c.last_entry-entry.ensures.value c.in-Ok.ensures.ok) (rw c.last_entry-entry.ensures.value c.note_header.ensures) refl
     c.poll_write_response_header-answer.ensures.writes c.reply_keeps-keep.ensures
     c.written_bytes-written.ensures c.stand.ensures
 

@@ -8,7 +8,7 @@ use Rattle.h1_app.proofs.steps.replying.write_body.Goals as goal
 pub returns-clause-stepped : goal.returns-clause-stepped
 returns-clause-stepped g c = λ shutdown.
     body_stepped g.L.Link.state _ _ _ c.args.now shutdown _ _ _ c.requires.ready _ _ _
-    (rw c.requires.at at c.requires.ready.sound) c.requires.at (rw c.in-Some.is refl)
+    (rw c.requires.at at c.requires.ready.sound) c.requires.at (rw c.last_entry-entry.ensures.value refl)
     c.poll_write_body-answer.ensures.writes c.written_bytes-entry.ensures c.stand.ensures
 
 pub returns-clause-continues : goal.returns-clause-continues
