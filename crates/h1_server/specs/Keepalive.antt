@@ -2,6 +2,18 @@
 use Rattle.std.specs.Prelude.{ℕ, Bool, true, false, Option, Some, None, if◌then◌else◌}
 use Rattle.h1_server.specs.Words.{Settings}
 
+-- what is set at first: keep-alive is off, a reply before the request's end closes, and nothing is
+-- pipelined
+abbrev pub new_settings : Settings
+new_settings =
+    record {
+      keep_off = true;
+      keepalive = 0;
+      closing = true;
+      pipelining = false;
+      reuses = None;
+    }
+
 -- None turns keep-alive off; a number turns it on and is the deadline of the next head
 abbrev pub keepalive_set : Settings → Option ℕ → Settings
 keepalive_set settings None = record settings { keep_off = true }

@@ -1,6 +1,7 @@
 -- What contracts see of a server session.
 use Rattle.std.specs.Prelude.{◌≡◌, ℕ, List, [], Bool, Option, Some, None, true, false}
 use Rattle.h1_server.specs.Words.{Error, Request, BodyState, Outgoing, IsNoBody, no_reply, Settings, HasLooked, HeadSearch, MAX_HEADER_SIZE}
+use Rattle.h1_server.specs.Keepalive.{new_settings}
 use Rattle.h1_transfer.specs.TransferView.{Holds}
 
 pub record SessionView (L C : Type 0) : Type 0 where
@@ -55,13 +56,7 @@ pub record IsNewSession {L C : Type 0} (start : L) (view : SessionView L C) : Ty
   pub body : IsNoBody view.body
   pub reply : view.reply ≡ no_reply
   pub keep : view.keep ≡ false
-  pub settings : view.settings ≡ record {
-    keep_off = true;
-    keepalive = 0;
-    closing = true;
-    pipelining = false;
-    reuses = None;
-  }
+  pub settings : view.settings ≡ new_settings
   pub budget : view.budget ≡ None
   pub reusable : view.reusable ≡ false
   pub context : view.context ≡ None

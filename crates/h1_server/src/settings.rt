@@ -1,6 +1,6 @@
 //! What a caller sets on a session.
-ghost use Rattle.std.specs.Prelude.{◌≡◌, None, true, false};
-ghost use Rattle.h1_server.specs.Keepalive.{keepalive_set, wished};
+ghost use Rattle.std.specs.Prelude.{◌≡◌};
+ghost use Rattle.h1_server.specs.Keepalive.{keepalive_set, new_settings, wished};
 ghost use Rattle.h1_server.specs.Reuse.{next_settings, one_less};
 
 /// How a session treats its connection. Times are in seconds.
@@ -66,13 +66,7 @@ pub fn one_less(reuses: Option<u32>) -> Option<u32>
 impl Settings {
     /// Keep-alive is off, a reply before the request's end closes, and nothing is pipelined.
     pub(crate) fn new() -> Self
-        ensures { result ≡ record {
-          keep_off = true;
-          keepalive = 0;
-          closing = true;
-          pipelining = false;
-          reuses = None;
-        } }
+        ensures { result ≡ new_settings }
     {
         Settings {
             keep_off: true,
