@@ -32,6 +32,15 @@ impl BodyBytes {
         }
     }
 
+    /// No bytes, with room for that many.
+    pub fn with_capacity(alloc: Global, capacity: usize) -> Result<Self, Error>
+        ensures ok { IfOk result (λ kept. kept ≡ []) }
+        ensures err { IfErr result (λ error. error ≡ no_memory) }
+    {
+        let bytes = Vec::with_capacity(alloc, capacity)?;
+        Ok(BodyBytes { bytes })
+    }
+
     /// A copy of these bytes.
     pub fn from_slice(alloc: Global, bytes: &[u8]) -> Result<Self, Error>
         ensures ok { IfOk result (λ kept. kept ≡ bytes.now) }

@@ -15,6 +15,9 @@ use h1_server::HttpSession;
 use h1_transcript::Reply;
 use std::alloc::Global;
 
+/// The room that is made for the line with method and target.
+const LINE_ROOM: usize = 64;
+
 /// Replies with the method, the target and the body of the request. Some targets make it state the
 /// body's length in another way, or turn pipelining off.
 #[derive(Clone, Copy, Debug, PartialEq, Eq)]
@@ -179,7 +182,8 @@ fn body_of(alloc: Global, header: &RequestHeader, handed: &[u8]) -> Result<BodyB
     ensures ok { IfOk result (λ body. body ≡ echo_body header.now handed.now) }
     ensures err { IfErr result (λ error. error ≡ no_memory) }
 {
-    let mut body = BodyBytes::from_slice(alloc, header.method().as_str().as_bytes())?;
+    let mut body = BodyBytes::with_capacity(alloc, handed.len().saturating_add(LINE_ROOM))?;
+    body.append(header.method().as_str().as_bytes())?;
     body.append(b" ")?;
     body.append(header.raw_path())?;
     body.append(b"\n")?;

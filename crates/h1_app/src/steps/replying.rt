@@ -11,7 +11,7 @@ ghost use Rattle.h1_app.specs.Replying.{NotesHeader, StandsAfter};
 
 use crate::exchange::{Exchange, Outcome, Stage};
 use crate::{Entry, HttpServer, ServeHttp};
-use bytes::{Bytes, BytesMut};
+use bytes::Bytes;
 use futures::task::Poll;
 use h1_body::BodyBytes;
 use h1_error::{End, Error, ErrorType, Waiting};
@@ -222,7 +222,7 @@ fn note_body(alloc: Global, entry: &mut Entry) -> Result<Option<Bytes>, Error>
         entry.sent_body = Some(sent);
         return Ok(None);
     }
-    let piece = BytesMut::copy_from_slice(alloc, bytes)?.freeze()?;
+    let piece = Bytes::copy_from_slice(alloc, bytes)?;
     entry.sent_body = Some(sent);
     Ok(Some(piece))
 }
