@@ -2,3 +2,4 @@ mod LineLemmas
 mod TextLemmas
 mod NumberLemmas
 mod FrontLemmas
+mod WordsLemmas

@@ -1,11 +1,24 @@
 -- The words of the command line.
-use Rattle.std.specs.Prelude.{ℕ, if◌then◌else◌, List, [], ◌∷◌, codes, Option, Some, None}
+use Rattle.std.specs.Prelude.{ℕ, ◌≤◌, if◌then◌else◌, List, [], ◌∷◌, codes, Option, Some, None}
+use Rattle.std.specs.Option.{option_map}
 use Rattle.std.specs.Str.{bytes_eq}
+use Rattle.h1_words.specs.Number.{number_up_to}
+use Rattle.h1_words.specs.declared.words.TheConstants.{MOST_GENERATED}
 use Rattle.h1_words.specs.declared.words.Task.{Task}
-use Rattle.h1_words.specs.declared.words.Task.TheVariants.{Script}
+use Rattle.h1_words.specs.declared.words.Task.TheVariants.{Script, Gen}
 
--- script
+-- the task of `gen` with these digits
+abbrev pub gen_task : List ℕ → Option Task
+gen_task digits = option_map Gen (number_up_to MOST_GENERATED digits)
+
+-- script, or gen N
 abbrev pub task_of : List (List ℕ) → Option Task
 task_of [] = None
 task_of (word ∷ []) = if bytes_eq word (codes "script") then Some Script else None
-task_of (word ∷ next ∷ more) = None
+task_of (word ∷ number ∷ []) = if bytes_eq word (codes "gen") then gen_task number else None
+task_of (word ∷ number ∷ next ∷ more) = None
+
+-- a number is within its limit
+abbrev pub IsWithin : Task → Type 0
+IsWithin Script = Unit {0}
+IsWithin (Gen count) = count ≤ MOST_GENERATED

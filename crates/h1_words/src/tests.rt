@@ -142,16 +142,39 @@ fn an_answer_is_reported_by_its_words(rt: HostRuntime) -> Result<(), Fail> {
     Ok(())
 }
 
+/// The task of the words that spaces part.
+fn task_of(alloc: Global, line: &str) -> Result<Option<Task>, Error> {
+    let mut words = Vec::new(alloc);
+    for word in line.split(' ') {
+        words.push(String::from_str(alloc, word)?)?;
+    }
+    Ok(parse_words(&words))
+}
+
 #[test]
-fn the_one_word_script_is_a_task(rt: HostRuntime) -> Result<(), Fail> {
-    let words = vec![in rt.alloc();
-        "script".to_string(rt.alloc())?,
-        "gen".to_string(rt.alloc())?,
-    ]?;
-    assert_eq!(rt; words.len(), 2);
-    assert_eq!(rt; parse_words(&words[..1]), Some(Task::Script));
-    assert_eq!(rt; parse_words(&words[1..]), None);
-    assert_eq!(rt; parse_words(&words), None);
-    assert_eq!(rt; parse_words(&words[..0]), None);
+fn the_words_script_and_gen_with_a_number_are_tasks(rt: HostRuntime) -> Result<(), Fail> {
+    let cases = [
+        ("script", Some(Task::Script)),
+        ("gen 0", Some(Task::Gen(0))),
+        ("gen 20000", Some(Task::Gen(20_000))),
+        ("gen 00000000000000000007", Some(Task::Gen(7))),
+        ("gen 000000000000000000007", None),
+        ("gen 20001", None),
+        ("gen 99999999999999999999", None),
+        ("gen x", None),
+        ("gen -1", None),
+        ("gen +1", None),
+        ("gen ", None),
+        ("gen", None),
+        ("gen 1 2", None),
+        ("script 1", None),
+        ("script gen 1", None),
+        ("generate 1", None),
+        ("", None),
+    ];
+    for (line, expected) in cases {
+        assert_eq!(rt; task_of(rt.alloc(), line)?, expected, "{line}");
+    }
+    assert_eq!(rt; parse_words(&[]), None);
     Ok(())
 }

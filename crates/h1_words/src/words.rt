@@ -1,20 +1,39 @@
 //! The words of the command line.
-ghost use Rattle.std.specs.Prelude.{◌≡◌, map, string_bytes};
-ghost use Rattle.h1_words.specs.Words.{task_of};
+ghost use Rattle.std.specs.Prelude.{◌≡◌, IfSome, map, string_bytes};
+ghost use Rattle.h1_words.specs.Words.{gen_task, task_of, IsWithin};
+
+use crate::number_up_to;
+
+/// `gen N` makes at most so many requests.
+pub const MOST_GENERATED: u32 = 20_000;
 
 /// What the words after the program's name ask for.
 #[derive(Clone, Copy, Debug, PartialEq, Eq)]
 pub enum Task {
     /// `script`: run the script on standard input and report.
     Script,
+    /// `gen N`: make N requests, serve them, and tell what was read and written in numbers.
+    Gen(u32),
 }
 
 /// The task of the words after the program's name, or nothing where they are none.
 pub fn parse_words(words: &[String]) -> Option<Task>
-    ensures { result ≡ task_of (map string_bytes words.now) }
+    ensures task { result ≡ task_of (map string_bytes words.now) }
+    ensures within { IfSome result IsWithin }
 {
     match words {
         [word] if word.as_str() == "script" => Some(Task::Script),
+        [word, number] if word.as_str() == "gen" => gen_task(number.as_bytes()),
         _ => None,
+    }
+}
+
+fn gen_task(digits: &[u8]) -> Option<Task>
+    ensures task { result ≡ gen_task digits.now }
+    ensures within { IfSome result IsWithin }
+{
+    match number_up_to(u64::from(MOST_GENERATED), digits) {
+        Some(count) => Some(Task::Gen(count as u32)),
+        None => None,
     }
 }
