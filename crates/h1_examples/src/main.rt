@@ -1,5 +1,5 @@
-//! Runs scripts whose reports were worked out by hand, and says of each whether its report is the
-//! expected one.
+//! Runs scripts and command lines whose reports were worked out by hand, and says of each whether its
+//! report is the expected one.
 #![tactic(auto)]
 
 ghost use Rattle.std.specs.Prelude.{◌≡◌, ◌↔◌, IsTrue};
@@ -85,30 +85,47 @@ const EXAMPLES: [(&str, u8); 69] = [
     ("give_behind_end", 3),
 ];
 
+/// The command lines that read no script, each with its words and its exit status: `NAME.report` is
+/// expected.
+const COMMANDS: [(&str, &str, u8); 4] = [
+    ("gen_3", "gen 3", 0),
+    ("gen_0", "gen 0", 0),
+    ("gen_20001", "gen 20001", 2),
+    ("gen_x", "gen x", 2),
+];
+
 fn main(rt: HostRuntime) -> io::Result<()> {
     for (name, status) in EXAMPLES {
-        let verdict = if is_as_expected(&rt, name, status)? {
-            "ok"
-        } else {
-            "differs"
-        };
+        let script = fs::read(&rt, format!(in rt.alloc(); "{name}.script")?)?;
+        let verdict = verdict(is_as_expected(&rt, name, "script", &script, status)?);
+        println!(rt; "{name} {verdict}")?;
+    }
+    for (name, line, status) in COMMANDS {
+        let verdict = verdict(is_as_expected(&rt, name, line, b"", status)?);
         println!(rt; "{name} {verdict}")?;
     }
     Ok(())
 }
 
-/// Whether the script of this name ends with this status and the report of this name.
+fn verdict(as_expected: bool) -> &'static str {
+    if as_expected { "ok" } else { "differs" }
+}
+
+/// Whether the words of a line, over this script, end with this status and the report of this name.
 fn is_as_expected<R: Files + AllocGlobal + Wait + Threads + Sync + Send + Clone + Drop>(
     rt: &R,
     name: &str,
+    line: &str,
+    script: &[u8],
     status: u8,
 ) -> io::Result<bool> {
     let alloc = rt.alloc();
-    let script = fs::read(rt, format!(in alloc; "{name}.script")?)?;
     let report = fs::read(rt, format!(in alloc; "{name}.report")?)?;
     let mut words = Vec::new(alloc);
-    words.push(String::from_str(alloc, "script")?)?;
-    let mut source = MemSource::new(alloc, &script).map_err(no_memory)?;
+    for word in line.split(' ') {
+        words.push(String::from_str(alloc, word)?)?;
+    }
+    let mut source = MemSource::new(alloc, script).map_err(no_memory)?;
     let mut sink = MemSink::new(alloc);
     let mut net = MemAcceptor::new(alloc);
     let mut clock = SetClock::new(0);

@@ -13,12 +13,13 @@ use Rattle.h1_serve.specs.declared.status.Status.{Status}
 use Rattle.h1_serve.specs.declared.status.Status.TheVariants as status
 use Rattle.h1_serve.specs.Input.{Gave}
 use Rattle.h1_serve.specs.Output.{Wrote, usage_line}
-use Rattle.h1_serve.specs.Status.{Reported, Refused, CauseBy, ScriptCause, WordsCause, GaveScript, Ends, number_of}
+use Rattle.h1_serve.specs.Status.{Refused, DoneBy, CauseBy, ScriptCause, WordsCause, GaveScript, Ends, number_of}
 
 done_by : (found : Option Task) (source source' : SourceState) (sink sink' : SinkState) (answer : Status)
     → 0 ≡ number_of answer → CauseBy found source source' sink sink' answer
-    → (found ≡ Some task.Script) × Reported source source' sink sink'
-done_by (Some task.Script) source source' sink sink' status.Done e cause = (refl, cause)
+    → DoneBy found source source' sink sink'
+done_by (Some task.Script) source source' sink sink' status.Done e cause = cause
+done_by (Some (task.Gen count)) source source' sink sink' status.Done e cause = cause
 done_by None source source' sink sink' status.Done e cause = absurd cause
 done_by found source source' sink sink' status.Words e cause = absurd (omega arith)
 done_by found source source' sink sink' status.Script e cause = absurd (omega arith)
@@ -31,6 +32,7 @@ words_by : (found : Option Task) (source source' : SourceState) (sink sink' : Si
     → (found ≡ None) × Wrote sink sink' usage_line
 words_by None source source' sink sink' status.Words e cause = (refl, cause.1)
 words_by (Some task.Script) source source' sink sink' status.Words e cause = absurd cause
+words_by (Some (task.Gen count)) source source' sink sink' status.Words e cause = absurd cause.1
 words_by found source source' sink sink' status.Done e cause = absurd (omega arith)
 words_by found source source' sink sink' status.Script e cause = absurd (omega arith)
 words_by found source source' sink sink' status.Source e cause = absurd (omega arith)
@@ -41,6 +43,7 @@ script_by : (found : Option Task) (source source' : SourceState) (sink sink' : S
     → 3 ≡ number_of answer → CauseBy found source source' sink sink' answer
     → (found ≡ Some task.Script) × Refused source source' sink sink'
 script_by (Some task.Script) source source' sink sink' status.Script e cause = (refl, cause)
+script_by (Some (task.Gen count)) source source' sink sink' status.Script e cause = absurd cause.1
 script_by None source source' sink sink' status.Script e cause = absurd cause
 script_by found source source' sink sink' status.Done e cause = absurd (omega arith)
 script_by found source source' sink sink' status.Words e cause = absurd (omega arith)
@@ -52,6 +55,7 @@ source_by : (found : Option Task) (source source' : SourceState) (sink sink' : S
     → 4 ≡ number_of answer → CauseBy found source source' sink sink' answer
     → (found ≡ Some task.Script) × Rose source.faults source'.faults
 source_by (Some task.Script) source source' sink sink' status.Source e cause = (refl, cause)
+source_by (Some (task.Gen count)) source source' sink sink' status.Source e cause = absurd cause.1
 source_by None source source' sink sink' status.Source e cause = absurd cause
 source_by found source source' sink sink' status.Done e cause = absurd (omega arith)
 source_by found source source' sink sink' status.Words e cause = absurd (omega arith)
@@ -62,6 +66,7 @@ source_by found source source' sink sink' status.Memory e cause = absurd (omega 
 sink_by : (found : Option Task) (source source' : SourceState) (sink sink' : SinkState) (answer : Status)
     → 5 ≡ number_of answer → CauseBy found source source' sink sink' answer → Rose sink.faults sink'.faults
 sink_by (Some task.Script) source source' sink sink' status.Sink e cause = cause
+sink_by (Some (task.Gen count)) source source' sink sink' status.Sink e cause = cause.1
 sink_by None source source' sink sink' status.Sink e cause = cause.1
 sink_by found source source' sink sink' status.Done e cause = absurd (omega arith)
 sink_by found source source' sink sink' status.Words e cause = absurd (omega arith)
@@ -78,6 +83,16 @@ no_task_by source source' sink sink' number status.Memory e cause = inr (inr e)
 no_task_by source source' sink sink' number status.Done e cause = absurd cause
 no_task_by source source' sink sink' number status.Script e cause = absurd cause
 no_task_by source source' sink sink' number status.Source e cause = absurd cause
+
+generated_by : (source source' : SourceState) (sink sink' : SinkState) (number count : ℕ) (answer : Status)
+    → number ≡ number_of answer → CauseBy (Some (task.Gen count)) source source' sink sink' answer
+    → (number ≡ 0) ⊎ ((number ≡ 5) × Rose sink.faults sink'.faults) ⊎ (number ≡ 6)
+generated_by source source' sink sink' number count status.Done e cause = inl e
+generated_by source source' sink sink' number count status.Sink e cause = inr (inl (e, cause.1))
+generated_by source source' sink sink' number count status.Memory e cause = inr (inr e)
+generated_by source source' sink sink' number count status.Words e cause = absurd cause.1
+generated_by source source' sink sink' number count status.Script e cause = absurd cause.1
+generated_by source source' sink sink' number count status.Source e cause = absurd cause.1
 
 -- the bytes that a telling source gave in the call are determined
 told_same : (before now : SourceState) (script other : List ℕ) → GaveScript before now script → Gave before now other
@@ -117,7 +132,7 @@ lawful_by_cause source source' sink sink' number script asked status.Sink told l
 lawful_by_cause source source' sink sink' number script asked status.Memory told lawful e cause = inr (inr (inr e))
 
 pub zero_is_done : (found : Option Task) (source source' : SourceState) (sink sink' : SinkState)
-    → Ends found source source' sink sink' 0 → (found ≡ Some task.Script) × Reported source source' sink sink'
+    → Ends found source source' sink sink' 0 → DoneBy found source source' sink sink'
 zero_is_done found source source' sink sink' ends = done_by found source source' sink sink' ends.0 ends.1 ends.2
 
 pub two_is_words : (found : Option Task) (source source' : SourceState) (sink sink' : SinkState)
@@ -154,3 +169,9 @@ pub lawful_leaves : (source source' : SourceState) (sink sink' : SinkState) (num
     → (number ≡ 0) ⊎ ((number ≡ 4) × Rose source.faults source'.faults) ⊎ ((number ≡ 5) × Rose sink.faults sink'.faults) ⊎ (number ≡ 6)
 lawful_leaves source source' sink sink' number script asked told lawful ends =
     lawful_by_cause source source' sink sink' number script asked ends.0 told lawful ends.1 ends.2
+
+pub generated_leaves : (source source' : SourceState) (sink sink' : SinkState) (number count : ℕ)
+    → Ends (Some (task.Gen count)) source source' sink sink' number
+    → (number ≡ 0) ⊎ ((number ≡ 5) × Rose sink.faults sink'.faults) ⊎ (number ≡ 6)
+generated_leaves source source' sink sink' number count ends =
+    generated_by source source' sink sink' number count ends.0 ends.1 ends.2

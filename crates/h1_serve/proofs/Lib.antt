@@ -3,6 +3,7 @@ pub mod OrderLemmas
 pub mod PollLemmas
 pub mod LineLemmas
 pub mod ExchangeLemmas
+pub mod GeneratedLemmas
 pub mod StatusLemmas
 pub mod CauseLemmas
 pub mod PolledLemmas

@@ -5,6 +5,7 @@ pub mod State
 pub mod PollLine
 pub mod Report
 pub mod Finished
+pub mod Generated
 pub mod Status
 pub mod Polled
 pub mod Running

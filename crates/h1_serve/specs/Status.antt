@@ -13,6 +13,7 @@ use Rattle.h1_serve.specs.declared.output.Written.TheVariants as written
 use Rattle.h1_serve.specs.Input.{Gave, ReadsScript}
 use Rattle.h1_serve.specs.Output.{Wrote, usage_line, fault_line}
 use Rattle.h1_serve.specs.Report.{Report}
+use Rattle.h1_serve.specs.Generated.{IsGenText}
 
 -- The source was read to its end, and the sink took a report of what it gave and flushed it.
 pub record Reported (source_before source_now : SourceState)
@@ -34,6 +35,13 @@ pub record Refused (source_before source_now : SourceState)
   pub faulty : script_of script ≡ faulty_at number
   pub wrote : Wrote sink_before sink_now (fault_line number)
 
+-- The sink took the four lines that tell of so many requests, which were made and served, and
+-- flushed them.
+pub record Counted (count : ℕ) (sink_before sink_now : SinkState) : Type 0 where
+  pub text : List ℕ
+  pub wrote : Wrote sink_before sink_now text
+  pub is_text : IsGenText count text
+
 -- the cause of each status of the task `script`
 abbrev pub ScriptCause : SourceState → SourceState → SinkState → SinkState → Status → Type 0
 ScriptCause source source' sink sink' status.Done = Reported source source' sink sink'
@@ -42,6 +50,15 @@ ScriptCause source source' sink sink' status.Script = Refused source source' sin
 ScriptCause source source' sink sink' status.Source = Rose source.faults source'.faults
 ScriptCause source source' sink sink' status.Sink = Rose sink.faults sink'.faults
 ScriptCause source source' sink sink' status.Memory = Unit {0}
+
+-- the cause of each status of the task `gen` with this number
+abbrev pub GenCause : ℕ → SinkState → SinkState → Status → Type 0
+GenCause count sink sink' status.Done = Counted count sink sink'
+GenCause count sink sink' status.Words = ⊥
+GenCause count sink sink' status.Script = ⊥
+GenCause count sink sink' status.Source = ⊥
+GenCause count sink sink' status.Sink = Rose sink.faults sink'.faults
+GenCause count sink sink' status.Memory = Unit {0}
 
 -- the cause of each status where the words are no task
 abbrev pub WordsCause : SourceState → SourceState → SinkState → SinkState → Status → Type 0
@@ -56,8 +73,11 @@ WordsCause source source' sink sink' status.Source = ⊥
 -- the cause of each status, by what the words ask for
 abbrev pub CauseBy : Option Task → SourceState → SourceState → SinkState → SinkState → Status
     → Type 0
-CauseBy None = WordsCause
-CauseBy (Some task.Script) = ScriptCause
+CauseBy None source source' sink sink' status = WordsCause source source' sink sink' status
+CauseBy (Some task.Script) source source' sink sink' status =
+    ScriptCause source source' sink sink' status
+CauseBy (Some (task.Gen count)) source source' sink sink' status =
+    (source' ≡ source) × GenCause count sink sink' status
 
 -- the number of a status
 abbrev pub number_of : Status → ℕ
@@ -72,6 +92,13 @@ number_of status.Memory = 6
 abbrev pub Ends : Option Task → SourceState → SourceState → SinkState → SinkState → ℕ → Type 0
 Ends found source source' sink sink' number =
     (status : Status) × (number ≡ number_of status) × CauseBy found source source' sink sink' status
+
+-- what status 0 tells, by what the words ask for
+abbrev pub DoneBy : Option Task → SourceState → SourceState → SinkState → SinkState → Type 0
+DoneBy None source source' sink sink' = ⊥
+DoneBy (Some task.Script) source source' sink sink' = Reported source source' sink sink'
+DoneBy (Some (task.Gen count)) source source' sink sink' =
+    (source' ≡ source) × Counted count sink sink'
 
 -- the status once a text was written, which is this one where all of it was taken and flushed
 abbrev pub status_after : Status → Written → Status

@@ -1,16 +1,17 @@
 //! The top call.
-ghost use Rattle.std.specs.Prelude.{◌≡◌, map, string_bytes, IfOk};
+ghost use Rattle.std.specs.Prelude.{◌≡◌, ◌≤◌, map, string_bytes, IfOk};
 ghost use Rattle.h1_words.specs.Words.{task_of};
 ghost use Rattle.h1_serve.specs.Output.{fault_line};
-ghost use Rattle.h1_serve.specs.Status.{CauseBy, ScriptCause, Ends, number_of, status_after};
+ghost use Rattle.h1_serve.specs.Status.{CauseBy, ScriptCause, GenCause, Ends, number_of, status_after};
 
+use crate::generated::gen_text;
 use crate::input::{InputFault, read_script};
 use crate::output::{Written, write_whole};
 use crate::scripted::report_of;
 use crate::status::Status;
 use h1_error::Error;
 use h1_link::{Acceptor, Clock, Sink, Source};
-use h1_words::{ScriptFault, Task, Text, parse_script, parse_words};
+use h1_words::{MOST_GENERATED, ScriptFault, Task, Text, parse_script, parse_words};
 use std::alloc::Global;
 use std::sync::Wait;
 use std::thread::Threads;
@@ -21,7 +22,8 @@ const USAGE: &[u8] = b"usage: h1_serve script | gen N | sub | listen PORT COUNT\
 /// Does what the words ask for, and answers the exit status.
 ///
 /// With the one word `script`, the source is read to its end as a script, which runs over a
-/// connection in memory, and the report is written to the sink.
+/// connection in memory, and the report is written to the sink. With `gen N`, N requests are made
+/// and served over such a connection, and four lines are written that tell it in numbers.
 pub fn run<
     R: Wait + Threads + Sync + Send + Clone + Drop,
     S: Source,
@@ -40,7 +42,7 @@ pub fn run<
     ensures status { Ends (task_of (map string_bytes words.now)) (S.state source.old)
         (S.state source.new) (K.state sink.old) (K.state sink.new) result }
 
-    // This task uses neither the network nor the clock.
+    // These tasks use neither the network nor the clock.
     ensures net { A.state _net.new ≡ A.state _net.old }
     ensures clock { T.moment _clock.new ≡ T.moment _clock.old }
 {
@@ -71,6 +73,7 @@ fn perform<S: Source, K: Sink>(
 {
     match parse_words(words) {
         Some(Task::Script) => run_script(alloc, source, sink),
+        Some(Task::Gen(count)) => run_gen(alloc, count, sink),
         None => status_of(write_whole(sink, USAGE), Status::Words),
     }
 }
@@ -95,6 +98,17 @@ fn run_script<S: Source, K: Sink>(alloc: Global, source: &mut S, sink: &mut K) -
             Err(_) => Status::Memory,
         },
         Err(ScriptFault::NoMemory) => Status::Memory,
+    }
+}
+
+/// Makes so many requests, serves them and tells it in numbers.
+fn run_gen<K: Sink>(alloc: Global, count: u32, sink: &mut K) -> Status
+    requires { count ≤ MOST_GENERATED }
+    ensures { GenCause count (K.state sink.old) (K.state sink.new) result }
+{
+    match gen_text(alloc, count) {
+        Ok(text) => status_of(write_whole(sink, text.as_slice()), Status::Done),
+        Err(_) => Status::Memory,
     }
 }
 

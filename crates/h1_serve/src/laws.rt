@@ -12,13 +12,12 @@ ghost use Rattle.h1_words.specs.Script.{script_of, commands, faulty_at};
 ghost use Rattle.h1_serve.specs.Finished.{IsFinished, IsBehindPolls};
 ghost use Rattle.h1_serve.specs.Output.{Wrote, usage_line};
 ghost use Rattle.h1_serve.specs.Polled.{Tells, AreSpent, state_behind};
-ghost use Rattle.h1_serve.specs.Status.{Ends, Reported, Refused, GaveScript};
+ghost use Rattle.h1_serve.specs.Status.{Ends, DoneBy, Refused, GaveScript};
 
-/// What each status tells, and which statuses the words and the script leave.
+/// What each status tells.
 pub fn statuses_have_causes()
     ensures done { (found : Option Task) (source source' : SourceState) (sink sink' : SinkState)
-        → Ends found source source' sink sink' 0
-        → (found ≡ Some task.Script) × Reported source source' sink sink' }
+        → Ends found source source' sink sink' 0 → DoneBy found source source' sink sink' }
     ensures words { (found : Option Task) (source source' : SourceState) (sink sink' : SinkState)
         → Ends found source source' sink sink' 2 → (found ≡ None) × Wrote sink sink' usage_line }
     ensures script { (found : Option Task) (source source' : SourceState) (sink sink' : SinkState)
@@ -29,9 +28,12 @@ pub fn statuses_have_causes()
         → (found ≡ Some task.Script) × Rose source.faults source'.faults }
     ensures sink { (found : Option Task) (source source' : SourceState) (sink sink' : SinkState)
         → Ends found source source' sink sink' 5 → Rose sink.faults sink'.faults }
+{}
 
-    // The words alone leave 2, and a script outside of its grammar leaves 3, but for a fault of the
-    // source or the sink and where memory ran out.
+/// Which statuses the words and the script leave: where the words are no task 2, with a script
+/// outside of its grammar 3, with one in it and with `gen N` 0, but for a fault of the source or the
+/// sink and where memory ran out.
+pub fn few_statuses_are_left()
     ensures no_task { (source source' : SourceState) (sink sink' : SinkState) (number : ℕ)
         → Ends None source source' sink sink' number
         → (number ≡ 2) ⊎ ((number ≡ 5) × Rose sink.faults sink'.faults) ⊎ (number ≡ 6) }
@@ -47,6 +49,9 @@ pub fn statuses_have_causes()
         → Ends (Some task.Script) source source' sink sink' number
         → (number ≡ 0) ⊎ ((number ≡ 4) × Rose source.faults source'.faults)
         ⊎ ((number ≡ 5) × Rose sink.faults sink'.faults) ⊎ (number ≡ 6) }
+    ensures generated { (source source' : SourceState) (sink sink' : SinkState) (number count : ℕ)
+        → Ends (Some (task.Gen count)) source source' sink sink' number
+        → (number ≡ 0) ⊎ ((number ≡ 5) × Rose sink.faults sink'.faults) ⊎ (number ≡ 6) }
 {}
 
 /// Two reports of one script, whose polls are all at one moment and whose connection finished, have

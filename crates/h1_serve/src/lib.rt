@@ -1,5 +1,5 @@
 //! The program: it runs a script over a connection in memory, and reports what was answered, read
-//! and written.
+//! and written; or it makes requests, serves them, and tells that in numbers.
 //!
 //! [`run`] gets the words of the command line, a source and a sink. The script is read whole and
 //! judged before it runs. Each exit status has its cause, and a report relates each poll's answer to
@@ -8,6 +8,7 @@
 
 mod command;
 mod exchange;
+mod generated;
 mod input;
 mod laws;
 mod output;
@@ -15,7 +16,10 @@ mod scripted;
 mod status;
 
 pub use command::run;
-pub use laws::{finished_reports_are_alike, polls_for_the_budget_are_few, statuses_have_causes};
+pub use laws::{
+    few_statuses_are_left, finished_reports_are_alike, polls_for_the_budget_are_few,
+    statuses_have_causes,
+};
 
 #[cfg(test)]
 mod tests;

@@ -50,12 +50,48 @@ fn a_request_is_reported_and_the_status_is_0(rt: HostRuntime) -> Result<(), Fail
 
 #[test]
 fn words_that_are_no_task_have_status_2(rt: HostRuntime) -> Result<(), Fail> {
-    let mut source = MemSource::new(rt.alloc(), ONE_REQUEST)?;
+    let cases: [&[&str]; 5] = [
+        &[],
+        &["gen"],
+        &["gen", "x"],
+        &["gen", "20001"],
+        &["gen", "1", "2"],
+    ];
+    for words in cases {
+        let mut source = MemSource::new(rt.alloc(), ONE_REQUEST)?;
+        let mut sink = MemSink::new(rt.alloc());
+        let status = status_of(&rt, rt.alloc(), words, &mut source, &mut sink)?;
+        assert_eq!(rt; status, 2);
+        let usage = b"usage: h1_serve script | gen N | sub | listen PORT COUNT\n";
+        assert_eq!(rt; sink.written(), usage.as_slice());
+    }
+    Ok(())
+}
+
+#[test]
+fn made_requests_are_told_in_numbers_and_the_status_is_0(rt: HostRuntime) -> Result<(), Fail> {
+    let cases: [(&str, &[u8]); 2] = [
+        ("3", b"requests 3\nbody bytes 5\nwritten 327\nfinished\n"),
+        ("0", b"requests 0\nbody bytes 0\nwritten 0\nfinished\n"),
+    ];
+    for (number, text) in cases {
+        let mut source = MemSource::new(rt.alloc(), ONE_REQUEST)?;
+        let mut sink = MemSink::new(rt.alloc());
+        let status = status_of(&rt, rt.alloc(), &["gen", number], &mut source, &mut sink)?;
+        assert_eq!(rt; status, 0);
+        assert_eq!(rt; sink.written(), text);
+        assert!(rt; sink.is_flushed());
+    }
+    Ok(())
+}
+
+#[test]
+fn a_sink_that_fails_under_gen_has_status_5(rt: HostRuntime) -> Result<(), Fail> {
+    let mut source = MemSource::new(rt.alloc(), b"")?;
     let mut sink = MemSink::new(rt.alloc());
-    let status = status_of(&rt, rt.alloc(), &["gen", "x"], &mut source, &mut sink)?;
-    assert_eq!(rt; status, 2);
-    let usage = b"usage: h1_serve script | gen N | sub | listen PORT COUNT\n";
-    assert_eq!(rt; sink.written(), usage.as_slice());
+    sink.fail_next();
+    let status = status_of(&rt, rt.alloc(), &["gen", "3"], &mut source, &mut sink)?;
+    assert_eq!(rt; status, 5);
     Ok(())
 }
 

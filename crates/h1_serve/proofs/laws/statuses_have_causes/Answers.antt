@@ -1,4 +1,4 @@
-use Rattle.h1_serve.proofs.CauseLemmas.{zero_is_done, two_is_words, three_is_script, four_is_source, five_is_sink, no_task_leaves, faulty_leaves, lawful_leaves}
+use Rattle.h1_serve.proofs.CauseLemmas.{zero_is_done, two_is_words, three_is_script, four_is_source, five_is_sink}
 use Rattle.h1_serve.proofs.laws.statuses_have_causes.Goals as goal
 
 pub returns-clause-done : goal.returns-clause-done
@@ -15,12 +15,3 @@ returns-clause-source c = four_is_source
 
 pub returns-clause-sink : goal.returns-clause-sink
 returns-clause-sink c = five_is_sink
-
-pub returns-clause-no_task : goal.returns-clause-no_task
-returns-clause-no_task c = no_task_leaves
-
-pub returns-clause-faulty : goal.returns-clause-faulty
-returns-clause-faulty c = faulty_leaves
-
-pub returns-clause-lawful : goal.returns-clause-lawful
-returns-clause-lawful c = lawful_leaves
