@@ -4,6 +4,7 @@ ghost use Rattle.h1_error.specs.declared.moment.TheConstants.{YEAR_10000};
 
 mod applications;
 mod failing;
+mod play;
 mod reuse;
 mod serving;
 mod waiting;
