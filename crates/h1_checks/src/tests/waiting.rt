@@ -2,9 +2,10 @@
 use crate::tests::applications::Trickle;
 use crate::tests::play::Step::*;
 use crate::tests::play::{play_echo, play_refusing};
-use crate::tests::{REPLY, REQUEST, connect, ended_link_of, link_under, polled};
+use crate::tests::{REPLY, REQUEST, Served, connect, ended_link_of, link_under, polled};
 use h1_app::{End, Progress, Waiting};
 use h1_echo::EchoApp;
+use std::process::Abort;
 use std::test::Fail;
 
 #[test]
@@ -32,6 +33,17 @@ fn a_reply_goes_on_at_each_byte_that_has_to_wait(rt: HostRuntime) -> Result<(), 
     Ok(())
 }
 
+/// A poll answers so, and the peer was sent these bytes then.
+fn polls(rt: &impl Abort, served: &mut Served<Trickle, EchoApp>, answer: Progress, sent: &[u8]) {
+    assert_eq!(rt; polled(served), answer);
+    assert_eq!(rt; link_under(served).link.written(), sent);
+}
+
+/// How many bytes of what the peer was sent are flushed.
+fn flushed(served: &Served<Trickle, EchoApp>) -> u64 {
+    link_under(served).link.flushed()
+}
+
 // The read and 63 bytes of the reply are the 64 moves of the first poll.
 #[test]
 fn a_reply_that_is_taken_byte_by_byte_is_whole(rt: HostRuntime) -> Result<(), Fail> {
@@ -40,13 +52,20 @@ fn a_reply_that_is_taken_byte_by_byte_is_whole(rt: HostRuntime) -> Result<(), Fa
         has_waited: false,
     };
     let mut connection = connect(rt.alloc(), EchoApp, None, trickle)?;
-    assert_eq!(rt; polled(&mut connection), Progress::Pending(Waiting::Budget));
-    assert_eq!(rt; link_under(&connection).link.written(), &REPLY[..63]);
-    assert_eq!(rt; polled(&mut connection), Progress::Pending(Waiting::Write));
-    assert_eq!(rt; link_under(&connection).link.written(), REPLY);
-    assert_eq!(rt; link_under(&connection).link.flushed(), 0);
-    assert_eq!(rt; polled(&mut connection), Progress::Ready(End::Finished));
-    assert_eq!(rt; link_under(&connection).link.written(), REPLY);
-    assert_eq!(rt; link_under(&connection).link.flushed(), 106);
+    polls(
+        &rt,
+        &mut connection,
+        Progress::Pending(Waiting::Budget),
+        &REPLY[..63],
+    );
+    polls(
+        &rt,
+        &mut connection,
+        Progress::Pending(Waiting::Write),
+        REPLY,
+    );
+    assert_eq!(rt; flushed(&connection), 0);
+    polls(&rt, &mut connection, Progress::Ready(End::Finished), REPLY);
+    assert_eq!(rt; flushed(&connection), 106);
     Ok(())
 }
