@@ -37,7 +37,7 @@ pub record Refused (source_before source_now : SourceState)
 
 -- The sink took the four lines that tell of so many requests, which were made and served, and
 -- flushed them.
-pub record Counted (count : ℕ) (sink_before sink_now : SinkState) : Type 0 where
+pub record ToldInNumbers (count : ℕ) (sink_before sink_now : SinkState) : Type 0 where
   pub text : List ℕ
   pub wrote : Wrote sink_before sink_now text
   pub is_text : IsGenText count text
@@ -53,7 +53,7 @@ ScriptCause source source' sink sink' status.Memory = Unit {0}
 
 -- the cause of each status of the task `gen` with this number
 abbrev pub GenCause : ℕ → SinkState → SinkState → Status → Type 0
-GenCause count sink sink' status.Done = Counted count sink sink'
+GenCause count sink sink' status.Done = ToldInNumbers count sink sink'
 GenCause count sink sink' status.Words = ⊥
 GenCause count sink sink' status.Script = ⊥
 GenCause count sink sink' status.Source = ⊥
@@ -98,7 +98,7 @@ abbrev pub DoneBy : Option Task → SourceState → SourceState → SinkState �
 DoneBy None source source' sink sink' = ⊥
 DoneBy (Some task.Script) source source' sink sink' = Reported source source' sink sink'
 DoneBy (Some (task.Gen count)) source source' sink sink' =
-    (source' ≡ source) × Counted count sink sink'
+    (source' ≡ source) × ToldInNumbers count sink sink'
 
 -- the status once a text was written, which is this one where all of it was taken and flushed
 abbrev pub status_after : Status → Written → Status

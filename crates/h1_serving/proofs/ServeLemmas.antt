@@ -12,7 +12,7 @@ use Rattle.h1_error.specs.declared.progress.Progress.TheVariants as progress
 use Rattle.h1_link.specs.Counts.{Rose}
 use Rattle.h1_link.specs.Later.{Later}
 use Rattle.h1_link.specs.LinkState.{LinkState}
-use Rattle.h1_link.proofs.Laters.{later_itself, later_on}
+use Rattle.h1_link.proofs.Laters.{later_itself}
 use Rattle.h1_head.specs.Views.{ResponseView}
 use Rattle.h1_transcript.specs.declared.transcript.Entry.{Entry}
 use Rattle.h1_transcript.specs.Agrees.{Agrees}
@@ -22,8 +22,8 @@ use Rattle.h1_echo.specs.Echo.{EchoGives}
 use Rattle.h1_app.specs.Accounted.{Accounted}
 use Rattle.h1_app.specs.Causes.{Cause}
 use Rattle.h1_app.specs.View.{View, entries}
-use Rattle.h1_serving.specs.Served.{IsUnpolled, IsServed, Waited, AnswersFor}
-use Rattle.h1_serving.proofs.WaitLemmas.{waited_on, waited_none, waits_in_call}
+use Rattle.h1_serving.specs.Served.{IsUnpolled, KeptInCall, LeavesInCall, BeganInCall, Waited, AnswersFor}
+use Rattle.h1_serving.proofs.WaitLemmas.{PollLeaves, at_none, leaves_none, leaves_on, waited_on, waited_none, waits_in_call}
 
 -- what the exchanges are, they are over a longer stretch
 refused_wide : (a b c d : LinkState) (o : Option Error) → a.read_faults ≤ b.read_faults
@@ -67,7 +67,7 @@ dated_grown first mid now old new (Some header) is low high was h =
     dated_kept first mid now old new new.sent_head header high h.0 was
 
 served_wide : (first mid now : ℕ) (a b c : LinkState) (e : Entry) → mid ≤ now → Later b c
-    → IsServed first mid a b e → IsServed first now a c e
+    → BeganInCall first mid a b e → BeganInCall first now a c e
 served_wide first mid now a b c e high later s = record {
   began = s.began;
   dated = wide e.sent_head s.dated;
@@ -80,7 +80,7 @@ served_wide first mid now a b c e high later s = record {
 
 served_grown : (first mid now : ℕ) (a b c : LinkState) (old new : Entry) → first ≤ mid → mid ≤ now
     → Later a b → Later b c
-    → IsServed first mid a b old → Grows now b c old new → IsServed first now a c new
+    → BeganInCall first mid a b old → Grows now b c old new → BeganInCall first now a c new
 served_grown first mid now a b c old new low high one two s g = record {
   began = ap (λ x. x.keep_off) g.began ∙ s.began;
   dated = dated_grown first mid now old new old.sent_head refl low high s.dated g.dated;
@@ -89,7 +89,7 @@ served_grown first mid now a b c old new low high one two s g = record {
 }
 
 served_begun : (first now : ℕ) (a b c : LinkState) (es : List Entry) → first ≤ now → Later a b
-    → AllByRecursion (IsBegun now false b c) es → AllByRecursion (IsServed first now a c) es
+    → AllByRecursion (IsBegun now false b c) es → AllByRecursion (BeganInCall first now a c) es
 served_begun first now a b c [] low one h = tt
 served_begun first now a b c (e ∷ more) low one h = (
   record {
@@ -102,8 +102,8 @@ served_begun first now a b c (e ∷ more) low one h = (
 
 served_on : (first mid now : ℕ) (a b c : LinkState) (old new : List Entry) → first ≤ mid → mid ≤ now
     → Later a b → Later b c
-    → AllByRecursion (IsServed first mid a b) old → Extends now false b c old new
-    → AllByRecursion (IsServed first now a c) new
+    → AllByRecursion (BeganInCall first mid a b) old → Extends now false b c old new
+    → AllByRecursion (BeganInCall first now a c) new
 served_on first mid now a b c [] new low high one two s h =
     served_begun first now a b c new (omega (arith, low, high)) one h
 served_on first mid now a b c (e ∷ []) [] low high one two s h = absurd h
@@ -114,7 +114,7 @@ served_on first mid now a b c (e ∷ []) (n ∷ more) low high one two s h = (
 )
 served_on first mid now a b c (e ∷ f ∷ later) [] low high one two s h = absurd h
 served_on first mid now a b c (e ∷ f ∷ later) (n ∷ more) low high one two s h = (
-  subst (IsServed first now a c) (sym h.0) (served_wide first mid now a b c e high two s.0),
+  subst (BeganInCall first now a c) (sym h.0) (served_wide first mid now a b c e high two s.0),
   served_on first mid now a b c (f ∷ later) more low high one two s.1 h.1,
 )
 
@@ -162,6 +162,7 @@ pub record IsPoll {L C A J : Type 0} (state : L → LinkState) (same_plan : L �
     (from to : View L C A J) (answer : Progress) : Type 0 where
   pub app : (to.app ≡ from.app) × (to.limit ≡ from.limit)
   pub later : Later (state from.session.link) (state to.session.link)
+  pub leaves : PollLeaves state from to answer
   pub plan : same_plan from.session.link to.session.link
   pub accounted : (before : LinkState) → Accounted state before from.session from.done from.last
       → Accounted state before to.session to.done to.last
@@ -178,7 +179,7 @@ pub poll_of : {L C A J : Type 0} {state : L → LinkState} {same_plan : L → L 
     {begins : J → Type 0} {told now : ℕ} {from to : View L C A J} {answer : Progress}
     → told ≡ now → (to.app ≡ from.app) × (to.limit ≡ from.limit)
     → Later (state from.session.link) (state to.session.link)
-    → same_plan from.session.link to.session.link
+    → PollLeaves state from to answer → same_plan from.session.link to.session.link
     → ((before : LinkState) → Accounted state before from.session from.done from.last
     → Accounted state before to.session to.done to.last)
     → ((before : LinkState) → Accounted state before from.session from.done from.last
@@ -189,10 +190,11 @@ pub poll_of : {L C A J : Type 0} {state : L → LinkState} {same_plan : L → L 
     → Accounted state before from.session from.done from.last
     → Cause state begins (λ _. 0) before from to answer)
     → IsPoll state same_plan begins now from to answer
-poll_of {state = state} {from = from} {to = to} at app later plan accounted agrees extends cause =
+poll_of {state = state} {from = from} {to = to} at app later leaves plan accounted agrees extends cause =
     record {
       app = app;
       later = later;
+      leaves = leaves;
       plan = plan;
       accounted = accounted;
       agrees = agrees;
@@ -205,13 +207,12 @@ poll_of {state = state} {from = from} {to = to} at app later plan accounted agre
 pub record IsServing {L C A J : Type 0} (state : L → LinkState) (same_plan : L → L → Type 0)
     (polls first now : ℕ)
     (from to : View L C A J) : Type 0 where
-  pub app : (to.app ≡ from.app) × (to.limit ≡ from.limit)
-  pub clock : first ≤ now
-  pub later : Later (state from.session.link) (state to.session.link)
-  pub plan : same_plan from.session.link to.session.link
+  pub kept : KeptInCall same_plan first now from to
+  pub leaves : LeavesInCall polls (state from.session.link) (state to.session.link) (entries to)
+      to.end
   pub accounted : (before : LinkState) → Accounted state before from.session from.done from.last
       → Accounted state before to.session to.done to.last
-  pub served : AllByRecursion (IsServed first now (state from.session.link) (state to.session.link))
+  pub served : AllByRecursion (BeganInCall first now (state from.session.link) (state to.session.link))
       (entries to)
   pub alive : (before : LinkState) → Accounted state before from.session from.done from.last
       → to.end ≡ None
@@ -222,15 +223,14 @@ pub record IsServing {L C A J : Type 0} (state : L → LinkState) (same_plan : L
 pub record IsCall {L C A J : Type 0} (state : L → LinkState) (same_plan : L → L → Type 0)
     (polls first now : ℕ)
     (from to : View L C A J) (answer : Progress) : Type 0 where
-  pub app : (to.app ≡ from.app) × (to.limit ≡ from.limit)
-  pub clock : first ≤ now
-  pub later : Later (state from.session.link) (state to.session.link)
-  pub plan : same_plan from.session.link to.session.link
+  pub kept : KeptInCall same_plan first now from to
+  pub leaves : LeavesInCall polls (state from.session.link) (state to.session.link) (entries to)
+      to.end
   pub accounted : (before : LinkState) → Accounted state before from.session from.done from.last
       → Accounted state before to.session to.done to.last
   pub agrees : (before : LinkState) → Accounted state before from.session from.done from.last
       → Agrees EchoGives to.limit before (state to.session.link) (entries to)
-  pub served : AllByRecursion (IsServed first now (state from.session.link) (state to.session.link))
+  pub served : AllByRecursion (BeganInCall first now (state from.session.link) (state to.session.link))
       (entries to)
   pub answers : (before : LinkState) → Accounted state before from.session from.done from.last
       → AnswersFor state polls before (state from.session.link) to answer
@@ -251,21 +251,30 @@ pub serving_none : {L C A J : Type 0} (state : L → LinkState) (same_plan : L �
     → same_plan from.session.link from.session.link → IsUnpolled from
     → IsServing state same_plan 0 first first from from
 serving_none state same_plan first from plan new = record {
-  app = (refl, refl);
-  clock = omega arith;
-  later = later_itself (state from.session.link);
-  plan = plan;
+  kept = record { app = refl; limit = refl; plan = plan; clock = omega arith };
+  leaves = subst (LeavesInCall 0 (state from.session.link) (state from.session.link) (entries from))
+      (sym new.end) (leaves_none (state from.session.link) (entries from));
   accounted = λ before h. h;
   served = subst
-      (AllByRecursion (IsServed first first (state from.session.link) (state from.session.link)))
+      (AllByRecursion (BeganInCall first first (state from.session.link) (state from.session.link)))
       (sym (no_entries from new)) tt;
   alive = λ before h. new.end;
   waited = λ before h. waited_none (state from.session.link)
       (later_itself (state from.session.link));
 }
 
-at_none : {X : Type 0} (o : Option X) (P : Type 0) → o ≡ None → IfNone o P → P
-at_none o P is h = subst (λ o. IfNone o P) is h
+-- what stays after one poll more
+kept_on : {L C A J : Type 0} {state : L → LinkState} {same_plan : L → L → Type 0} {begins : J
+    → Type 0} {polls first mid now : ℕ} {from at to : View L C A J} {answer : Progress}
+    → ((a b c : L) → same_plan a b → same_plan b c → same_plan a c) → mid ≤ now
+    → IsServing state same_plan polls first mid from at
+    → IsPoll state same_plan begins now at to answer → KeptInCall same_plan first now from to
+kept_on {from = from} {at = at} {to = to} plan_on high s p = record {
+  app = p.app.0 ∙ s.kept.app;
+  limit = p.app.1 ∙ s.kept.limit;
+  plan = plan_on from.session.link at.session.link to.session.link s.kept.plan p.plan;
+  clock = omega (arith, s.kept.clock, high);
+}
 
 cause_of : {L C A J : Type 0} (state : L → LinkState) (same_plan : L → L → Type 0) (begins : J
     → Type 0) (polls first mid now : ℕ)
@@ -302,21 +311,19 @@ serving_on state same_plan begins polls first mid now from at to
     (progress.Ready reason) plan_on high s p waits = absurd waits
 serving_on state same_plan begins polls first mid now from at to
     (progress.Pending what) plan_on high s p waits = record {
-      app = (p.app.0 ∙ s.app.0, p.app.1 ∙ s.app.1);
-      clock = omega (arith, s.clock, high);
-      later = later_on (state from.session.link) (state at.session.link)
-          (state to.session.link) s.later p.later;
-      plan = plan_on from.session.link at.session.link to.session.link s.plan p.plan;
+      kept = kept_on plan_on high s p;
+      leaves = leaves_on state polls (polls + 1) now (state from.session.link) at to
+          (progress.Pending what) (omega arith) s.leaves p.later p.extends p.leaves;
       accounted = λ before h. p.accounted before (s.accounted before h);
       served = served_on first mid now (state from.session.link) (state at.session.link)
           (state to.session.link) (entries at) (entries to)
-          s.clock high s.later p.later s.served p.extends;
+          s.kept.clock high s.leaves.later p.later s.served p.extends;
       alive = λ before h.
           (cause_of state same_plan begins polls first mid now from at to
           (progress.Pending what) s p before h).0;
       waited = λ before h. waited_on begins polls before (state from.session.link)
           (state at.session.link) (state to.session.link) at to what
-          s.later p.later (s.waited before h)
+          s.leaves.later p.later (s.waited before h)
           (cause_of state same_plan begins polls first mid now from at to
           (progress.Pending what) s p before h).1;
     }
@@ -336,7 +343,7 @@ answers_of state same_plan begins polls most first mid now from at to
     (progress.Ready reason) s p before h in (
       cause.0,
       ends_in_call before (state from.session.link) (state at.session.link)
-          (state to.session.link) to.done to.last reason s.later cause.1,
+          (state to.session.link) to.done to.last reason s.leaves.later cause.1,
     )
 answers_of state same_plan begins polls most first mid now from at to
     (progress.Pending what) last s p before h =
@@ -347,9 +354,9 @@ answers_of state same_plan begins polls most first mid now from at to
       subst (λ n. Waited n (state from.session.link) (state to.session.link)) (last tt)
           (waited_on begins polls before (state from.session.link) (state at.session.link)
           (state to.session.link) at to what
-          s.later p.later (s.waited before h) cause.1),
+          s.leaves.later p.later (s.waited before h) cause.1),
       waits_in_call begins before (state from.session.link) (state at.session.link)
-          (state to.session.link) at to what s.later p.later cause.1,
+          (state to.session.link) at to what s.leaves.later p.later cause.1,
     )
 
 -- what the call gives
@@ -357,22 +364,21 @@ pub call_of : {L C A J : Type 0} (state : L → LinkState) (same_plan : L → L 
     → Type 0) (polls most first mid now : ℕ)
     (from at to : View L C A J) (answer : Progress)
     → ((a b c : L) → same_plan a b → same_plan b c → same_plan a c) → mid ≤ now
-    → (IsWaiting answer → polls + 1 ≡ most)
+    → (IsWaiting answer → polls + 1 ≡ most) → polls + 1 ≤ most
     → IsServing state same_plan polls first mid from at
     → IsPoll state same_plan begins now at to answer
     → IsCall state same_plan most first now from to answer
-call_of state same_plan begins polls most first mid now from at to answer plan_on high last s p =
+call_of state same_plan begins polls most first mid now from at to answer
+    plan_on high last few s p =
     record {
-      app = (p.app.0 ∙ s.app.0, p.app.1 ∙ s.app.1);
-      clock = omega (arith, s.clock, high);
-      later = later_on (state from.session.link) (state at.session.link)
-          (state to.session.link) s.later p.later;
-      plan = plan_on from.session.link at.session.link to.session.link s.plan p.plan;
+      kept = kept_on plan_on high s p;
+      leaves = leaves_on state polls most now (state from.session.link) at to answer few s.leaves
+          p.later p.extends p.leaves;
       accounted = λ before h. p.accounted before (s.accounted before h);
       agrees = λ before h. p.agrees before (s.accounted before h);
       served = served_on first mid now (state from.session.link) (state at.session.link)
           (state to.session.link) (entries at) (entries to)
-          s.clock high s.later p.later s.served p.extends;
+          s.kept.clock high s.leaves.later p.later s.served p.extends;
       answers =
           answers_of state same_plan begins polls most first mid now from at to answer last s p;
     }

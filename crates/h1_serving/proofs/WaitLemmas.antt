@@ -1,18 +1,29 @@
--- What polls that waited leave of the link's counts and bytes.
-use Rattle.std.proofs.Common.{◌≡◌, ℕ, ◌+◌, ◌*◌, ◌<◌, ◌≤◌, ◌⊎◌, inl, inr, List, length, Option, Some, None, refl, sym, ◌∙◌, ap, subst, arith, length-append}
+-- What polls leave of the link: its counts, its bytes and its mark.
+use Rattle.std.proofs.Common.{◌≡◌, ℕ, ◌+◌, ◌*◌, ◌<◌, ◌≤◌, ◌⊎◌, inl, inr, List, [], ◌∷◌, length, ◌++◌, Bool, false, option_to_list, Option, Some, None, IfSome, IfNone, refl, sym, ◌∙◌, ap, subst, arith, length-append}
 use Rattle.std.specs.Io.KnownBytes.{append_known}
 use Rattle.std.proofs.lemmas.Bool.{cases_lt}
+use Rattle.h1_error.specs.declared.progress.End.{End}
+use Rattle.h1_error.specs.declared.progress.End.TheVariants as end
+use Rattle.h1_error.specs.declared.error.ErrorType.{ErrorType}
+use Rattle.h1_error.specs.declared.error.ErrorType.TheVariants as kind
+use Rattle.h1_error.specs.declared.progress.Progress.{Progress}
+use Rattle.h1_error.specs.declared.progress.Progress.TheVariants as progress
 use Rattle.h1_error.specs.declared.progress.Waiting.{Waiting}
 use Rattle.h1_error.specs.declared.progress.Waiting.TheVariants as waiting
 use Rattle.h1_link.specs.Later.{Later}
 use Rattle.h1_link.specs.LinkState.{LinkState}
+use Rattle.h1_link.proofs.Laters.{later_itself, later_on}
+use Rattle.h1_transcript.specs.declared.transcript.Entry.{Entry}
+use Rattle.h1_transcript.specs.Entries.{replies}
+use Rattle.h1_transcript.specs.Growth.{Extends}
 use Rattle.h1_transcript.specs.Told.{ToldGrowth}
 use Rattle.h1_transfer.specs.declared.budget.TheConstants.{CALL_BUDGET}
 use Rattle.h1_app.specs.declared.exchange.Stage.{Stage}
 use Rattle.h1_app.specs.declared.exchange.Stage.TheVariants as stage
 use Rattle.h1_app.specs.Causes.{PendedNew, PendedOn, PendedBy, WaitCause}
-use Rattle.h1_app.specs.View.{View}
-use Rattle.h1_serving.specs.Served.{Waited, WaitsFor}
+use Rattle.h1_app.specs.Leaves.{Leaves, NotesFault, WritesHeld, ReadsHeld, ReadsHeldBy, ShutBy}
+use Rattle.h1_app.specs.View.{View, entries}
+use Rattle.h1_serving.specs.Served.{NotedIn, LeavesInCall, Waited, WaitsFor}
 
 -- an application whose count never rises is not waited for
 never_new : {J : Type 0} (begins : J → Type 0) (to : Stage J) → PendedNew begins (λ _. 0) to → ⊥
@@ -162,3 +173,129 @@ waits_in_call begins before a b c from to waiting.Budget first second cause = (
   told_count a c (0 + CALL_BUDGET) CALL_BUDGET (omega arith)
       (told_on a b c 0 CALL_BUDGET first second (told_later a b first) cause.1),
 )
+
+-- what one poll leaves of its link
+pub record PollLeaves {L C A J : Type 0} (state : L → LinkState) (from to : View L C A J)
+    (answer : Progress) : Type 0 where
+  pub leaves : IfNone from.end
+      (Leaves (state from.session.link) (state to.session.link) to.last to.end)
+  pub ended : IfSome from.end (λ reason. (answer ≡ progress.Ready reason) × (to ≡ from))
+  pub moves : (state to.session.link).moves ≤ (state from.session.link).moves + CALL_BUDGET
+  pub reads_not_ready : (state to.session.link).read_waits + replies (entries from)
+      ≤ (state from.session.link).read_waits + replies (entries to) + 1
+  pub others : (state to.session.link).others + 3 * length from.done
+      ≤ (state from.session.link).others + 3 * length (entries to) + 1
+
+-- before the first poll
+pub leaves_none : (a : LinkState) (es : List Entry) → LeavesInCall 0 a a es None
+leaves_none a es = record {
+  later = later_itself a;
+  writes = refl;
+  reads = inr (inl refl);
+  shut = refl;
+  moves = omega arith;
+  reads_not_ready = omega arith;
+  others = omega arith;
+}
+
+pub at_none : {X : Type 0} (o : Option X) (P : Type 0) → o ≡ None → IfNone o P → P
+at_none o P is h = subst (λ o. IfNone o P) is h
+
+-- one exchange more at most than those that are done
+one_more : (done : List Entry) (last : Option Entry)
+    → length (done ++ option_to_list last) ≤ length done + 1
+one_more done None = let none : List Entry = [] in omega (arith, length-append done none)
+one_more done (Some e) = omega (arith, length-append done (option_to_list (Some e)))
+
+-- an exchange goes on to note a fault
+noted_on : (now : ℕ) (shutdown : Bool) (first second : LinkState) (old new : List Entry)
+    → Extends now shutdown first second old new → NotedIn old → NotedIn new
+noted_on now shutdown first second [] new h noted = absurd noted
+noted_on now shutdown first second (e ∷ []) [] h noted = absurd h
+noted_on now shutdown first second (e ∷ []) (n ∷ more) h (inl noted) =
+    inl (noted.0, (rw noted.1 at h.0.body_error), noted.2)
+noted_on now shutdown first second (e ∷ []) (n ∷ more) h (inr noted) = absurd noted
+noted_on now shutdown first second (e ∷ f ∷ later) [] h noted = absurd h
+noted_on now shutdown first second (e ∷ f ∷ later) (n ∷ more) h (inl noted) =
+    inl (subst (λ e. NotesFault (Some e)) (sym h.0) noted)
+noted_on now shutdown first second (e ∷ f ∷ later) (n ∷ more) h (inr noted) =
+    inr (noted_on now shutdown first second (f ∷ later) more h.1 noted)
+
+-- the last exchange is among them
+noted_last : (done : List Entry) (last : Option Entry) → NotesFault last
+    → NotedIn (done ++ option_to_list last)
+noted_last done None noted = absurd noted
+noted_last [] (Some e) noted = inl noted
+noted_last (d ∷ more) (Some e) noted = inr (noted_last more (Some e) noted)
+
+-- a failed read is noted in an exchange or told by an error of this kind
+noted_by : (before now : ℕ) (done : List Entry) (last : Option Entry) (why : ErrorType)
+    → ReadsHeldBy before now last why
+    → NotedIn (done ++ option_to_list last) ⊎ ReadsHeldBy before now None why
+noted_by before now done last kind.ReadError h = inr tt
+noted_by before now done last _ (inl same) = inr (inl same)
+noted_by before now done last _ (inr noted) = inl (noted_last done last noted)
+
+-- or told in the end
+noted_of : (before now : ℕ) (done : List Entry) (last : Option Entry) (reason : Option End)
+    → ReadsHeld before now last reason
+    → NotedIn (done ++ option_to_list last) ⊎ ReadsHeld before now None reason
+noted_of before now done last (Some (end.Failed error)) h =
+    noted_by before now done last error.kind h
+noted_of before now done last _ (inl same) = inr (inl same)
+noted_of before now done last _ (inr noted) = inl (noted_last done last noted)
+
+-- what is left after one poll more, which changes nothing after an end
+pub leaves_on : {L C A J : Type 0} (state : L → LinkState) (polls most now : ℕ) (a : LinkState)
+    (at to : View L C A J) (answer : Progress) → polls + 1 ≤ most
+    → LeavesInCall polls a (state at.session.link) (entries at) at.end
+    → Later (state at.session.link) (state to.session.link)
+    → Extends now false (state at.session.link) (state to.session.link) (entries at) (entries to)
+    → PollLeaves state at to answer
+    → LeavesInCall most a (state to.session.link) (entries to) to.end
+leaves_on {L} {C} {A} {J} state polls most now a at to answer few first later extends p =
+    let held = by_end at.end refl in
+    record {
+      later = later_on a (state at.session.link) (state to.session.link) first.later later;
+      writes = held.0;
+      reads = held.1;
+      shut = held.2;
+      moves = omega (arith, few, first.moves, p.moves);
+      reads_not_ready = omega (arith, few, first.reads_not_ready, p.reads_not_ready);
+      others = omega (arith, few, first.others, p.others, one_more at.done at.last);
+    }
+  where
+    Held : View L C A J → Option End → Type 0
+    Held view reason = WritesHeld a.write_faults (state view.session.link).write_faults reason
+        × (NotedIn (entries view)
+        ⊎ ReadsHeld a.read_faults (state view.session.link).read_faults None reason)
+        × ShutBy a.shut (state view.session.link).shut reason
+
+    by_reads : NotedIn (entries at)
+        ⊎ ReadsHeld a.read_faults (state at.session.link).read_faults None None
+        → ReadsHeld (state at.session.link).read_faults (state to.session.link).read_faults to.last
+        to.end
+        → NotedIn (entries to)
+        ⊎ ReadsHeld a.read_faults (state to.session.link).read_faults None to.end
+    by_reads (inl noted) reads = inl (noted_on now false (state at.session.link)
+        (state to.session.link) (entries at) (entries to) extends noted)
+    by_reads (inr (inl same)) reads =
+        noted_of a.read_faults (state to.session.link).read_faults to.done to.last to.end
+        (subst (λ n. ReadsHeld n (state to.session.link).read_faults to.last to.end) same reads)
+    by_reads (inr (inr none)) reads = absurd none
+
+    by_end : (o : Option End) → at.end ≡ o → Held to to.end
+    by_end None is =
+        let was = subst (λ o. Held at o) is (first.writes, first.reads, first.shut) in
+        let second =
+        at_none at.end (Leaves (state at.session.link) (state to.session.link) to.last to.end) is
+        p.leaves in (
+          subst (λ n. WritesHeld n (state to.session.link).write_faults to.end) was.0 second.writes,
+          by_reads was.1 second.reads,
+          subst (λ t. ShutBy t (state to.session.link).shut to.end) was.2 second.shut,
+        )
+    by_end (Some reason) is =
+        let same =
+        subst (λ o. IfSome o (λ why. (answer ≡ progress.Ready why) × (to ≡ at))) is p.ended in
+        subst (λ (view : View L C A J). Held view view.end) (sym same.1)
+        (first.writes, first.reads, first.shut)

@@ -24,6 +24,7 @@ use Rattle.h1_transcript.specs.Told.{ToldGrowth}
 use Rattle.h1_transcript.proofs.BehindLemmas.{read_map}
 use Rattle.h1_echo.specs.Echo.{EchoGives}
 use Rattle.h1_app.specs.Accounted.{Accounted, ReadSo}
+use Rattle.h1_app.specs.Leaves.{ShutBy}
 use Rattle.h1_app.specs.View.{View, entries, IsNewConnection, limit_of}
 use Rattle.h1_app.specs.declared.options.HttpServerOptions.{HttpServerOptions}
 use Rattle.h1_echo.specs.declared.echo.EchoApp.{EchoApp}
@@ -35,7 +36,7 @@ use Rattle.h1_generator.specs.declared.generator.TheConstants.{MOST_REQUESTS}
 use Rattle.h1_generator.proofs.EndLemmas.{Over, ends_served}
 use Rattle.h1_generator.proofs.LengthLemmas.{never_spent}
 use Rattle.h1_generator.proofs.ValidLemmas.{many}
-use Rattle.h1_serving.specs.Served.{IsServed, Waited, AnswersFor}
+use Rattle.h1_serving.specs.Served.{BeganInCall, Waited, AnswersFor}
 use Rattle.h1_serving.specs.Whole.{failure_of, IsFed, IsReady, IsServedWhole}
 use Rattle.h1_serving.specs.declared.serving.TheConstants.{MOST_POLLS}
 
@@ -120,7 +121,7 @@ gave bytes link fed rule = record {
     reached h = subst (λ o. EndReached o link.state.bytes_in) fed.end_at (rule.ended h)
 
 kept_on : (first last : ℕ) (link : LinkState) (e : Entry) → link.read_faults ≡ 0
-    → IsServed first last new_mem_state.state link e → IsKeptOn e
+    → BeganInCall first last new_mem_state.state link e → IsKeptOn e
 kept_on first last link e none s =
     record { began = s.began; unfailed = by e.body_error s.refused } where
       by : (o : Option Error) → RefusedIn new_mem_state.state link None o
@@ -129,7 +130,7 @@ kept_on first last link e none s =
       by (Some error) h = λ is. let rose = h is in absurd (omega (arith, rose, none))
 
 all_kept : (first last : ℕ) (link : LinkState) (es : List Entry) → link.read_faults ≡ 0
-    → AllByRecursion (IsServed first last new_mem_state.state link) es → AllByRecursion IsKeptOn es
+    → AllByRecursion (BeganInCall first last new_mem_state.state link) es → AllByRecursion IsKeptOn es
 all_kept first last link [] none h = tt
 all_kept first last link (e ∷ more) none h =
     (kept_on first last link e none h.0, all_kept first last link more none h.1)
@@ -142,9 +143,10 @@ pub record IsCalled {C A J : Type 0} (count first last : ℕ) (view : View MemSt
   pub rule : Rule view.session.link
   pub accounted : Accounted link_state new_mem_state.state view.session view.done view.last
   pub agrees : Agrees EchoGives None new_mem_state.state view.session.link.state (entries view)
-  pub served : AllByRecursion (IsServed first last new_mem_state.state view.session.link.state)
+  pub served : AllByRecursion (BeganInCall first last new_mem_state.state view.session.link.state)
       (entries view)
   pub answers : AnswersFor link_state MOST_POLLS new_mem_state.state new_mem_state.state view answer
+  pub shut : ShutBy false view.session.link.state.shut view.end
 
 over : {C A J : Type 0} (count first last : ℕ) (view : View MemState C A J) (answer : Progress)
     → IsCalled count first last view answer
@@ -212,6 +214,7 @@ whole_of count first last view (progress.Ready end.Finished) c none =
       end = c.answers.0;
       given = o.gave.now_is ∙ ap Some front;
       ended = c.answers.1.1;
+      shut = subst (ShutBy false view.session.link.state.shut) c.answers.0 c.shut;
       many = ap length last_none ∙ served_many view.done (messages count) all.1 ∙ many count;
       served_all = all.1;
       complete = all.0;
@@ -255,12 +258,13 @@ pub record IsCall (count first last : ℕ) (from to : View MemState (Unit {0}) E
   pub rule : Rule to.session.link
   pub limit : to.limit ≡ from.limit
   pub plan : SamePlan from.session.link to.session.link
+  pub shut : ShutBy from.session.link.state.shut to.session.link.state.shut to.end
   pub accounted : (before : LinkState)
       → Accounted link_state before from.session from.done from.last
       → Accounted link_state before to.session to.done to.last
   pub agrees : (before : LinkState) → Accounted link_state before from.session from.done from.last
       → Agrees EchoGives to.limit before to.session.link.state (entries to)
-  pub served : AllByRecursion (IsServed first last from.session.link.state to.session.link.state)
+  pub served : AllByRecursion (BeganInCall first last from.session.link.state to.session.link.state)
       (entries to)
   pub answers : (before : LinkState) → Accounted link_state before from.session from.done from.last
       → AnswersFor link_state MOST_POLLS before from.session.link.state to answer
@@ -276,11 +280,13 @@ called count first last from to answer c = record {
   agrees = subst (λ l. Agrees EchoGives l new_mem_state.state to.session.link.state (entries to))
       (c.limit ∙ c.ready.limit) (c.agrees new_mem_state.state c.ready.accounted);
   served = subst
-      (λ s. AllByRecursion (IsServed first last s to.session.link.state) (entries to))
+      (λ s. AllByRecursion (BeganInCall first last s to.session.link.state) (entries to))
       c.ready.state c.served;
   answers =
       subst (λ s. AnswersFor link_state MOST_POLLS new_mem_state.state s to answer) c.ready.state
       (c.answers new_mem_state.state c.ready.accounted);
+  shut = subst (λ (s : LinkState). ShutBy s.shut to.session.link.state.shut to.end) c.ready.state
+      c.shut;
 }
 
 pub if_ok : {T E : Type 0} (r : Result T E) (P Q : T → Type 0) → ((x : T) → P x → Q x) → IfOk r P

@@ -1,27 +1,60 @@
 -- What serving a connection by one call leaves and answers.
-use Rattle.std.specs.Prelude.{◌≡◌, ℕ, ◌+◌, ◌*◌, ◌/◌, ◌≤◌, List, [], true, false, Option, Some, None, IfSome}
+use Rattle.std.specs.Prelude.{◌≡◌, ◌⊎◌, ℕ, ◌+◌, ◌*◌, ◌/◌, ◌≤◌, List, [], ◌∷◌, length, true, false, Option, Some, None, IfSome}
+use Rattle.h1_error.specs.declared.progress.End.{End}
 use Rattle.h1_error.specs.declared.progress.Waiting.{Waiting}
 use Rattle.h1_error.specs.declared.progress.Waiting.TheVariants as waiting
 use Rattle.h1_error.specs.declared.progress.Progress.{Progress}
 use Rattle.h1_error.specs.declared.progress.Progress.TheVariants as progress
 use Rattle.h1_link.specs.Counts.{Rose, RoseBy}
+use Rattle.h1_link.specs.Later.{Later}
 use Rattle.h1_link.specs.LinkState.{LinkState}
 use Rattle.h1_transcript.specs.declared.transcript.Entry.{Entry}
 use Rattle.h1_transcript.specs.Ends.{EndCause, LacksSo, OfLast}
+use Rattle.h1_transcript.specs.Entries.{replies}
 use Rattle.h1_transcript.specs.Growth.{RefusedIn}
 use Rattle.h1_transcript.specs.Told.{ToldGrowth}
 use Rattle.h1_transfer.specs.declared.budget.TheConstants.{CALL_BUDGET}
+use Rattle.h1_app.specs.Leaves.{NotesFault, WritesHeld, ReadsHeld, ShutBy}
 use Rattle.h1_app.specs.View.{View}
 
--- a connection that was not polled yet
+-- no exchange began yet, and the connection hasn't ended
 pub record IsUnpolled {L C A J : Type 0} (view : View L C A J) : Type 0 where
   pub done : view.done ≡ []
   pub last : view.last ≡ None
   pub end : view.end ≡ None
 
+-- the application, its limit and the link's plan stay, and the clock doesn't go back
+pub record KeptInCall {L C A J : Type 0} (same_plan : L → L → Type 0) (first last : ℕ)
+    (from to : View L C A J) : Type 0 where
+  pub app : to.app ≡ from.app
+  pub limit : to.limit ≡ from.limit
+  pub plan : same_plan from.session.link to.session.link
+  pub clock : first ≤ last
+
+-- an exchange notes that reading its request's body met a fault of the link
+abbrev pub NotedIn : List Entry → Type 0
+NotedIn [] = ⊥
+NotedIn (e ∷ more) = NotesFault (Some e) ⊎ NotedIn more
+
+-- What at most so many polls leave of the link; `es` are the exchanges then, and `reason` the end,
+-- where one came. A failed write is told in the end, and a failed read there or by an exchange. The
+-- mark that the link was shut changes only where the end is `NotKept`, which sets it. The counts of
+-- calls rise by no more than so many polls may make: `CALL_BUDGET` each that move bytes, one read
+-- each that is not ready and one for each reply, and four each that move no byte and three for each
+-- exchange. So the number of polls is bounded as far as they make these calls.
+pub record LeavesInCall (polls : ℕ) (old now : LinkState) (es : List Entry)
+    (reason : Option End) : Type 0 where
+  pub later : Later old now
+  pub writes : WritesHeld old.write_faults now.write_faults reason
+  pub reads : NotedIn es ⊎ ReadsHeld old.read_faults now.read_faults None reason
+  pub shut : ShutBy old.shut now.shut reason
+  pub moves : now.moves ≤ old.moves + CALL_BUDGET * polls
+  pub reads_not_ready : now.read_waits ≤ old.read_waits + replies es + polls
+  pub others : now.others ≤ old.others + 3 * length es + 4 * polls
+
 -- The exchange began with keep-alive on. Its header has the second of a moment between these two,
 -- and its body was refused for a failed read only where a read failed between the link's states.
-pub record IsServed (first last : ℕ) (before behind : LinkState) (e : Entry) : Type 0 where
+pub record BeganInCall (first last : ℕ) (before behind : LinkState) (e : Entry) : Type 0 where
   pub began : e.began.keep_off ≡ false
   pub dated : IfSome e.sent_head (λ header. (now : ℕ) × (first ≤ now) × (now ≤ last)
       × (e.date ≡ now / 1000))

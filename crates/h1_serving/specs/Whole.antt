@@ -1,5 +1,5 @@
 -- A connection over requests that are made, once it served them all.
-use Rattle.std.specs.Prelude.{◌≡◌, ℕ, List, length, true, Option, Some, None}
+use Rattle.std.specs.Prelude.{◌≡◌, ℕ, List, length, true, false, Option, Some, None}
 use Rattle.h1_error.specs.declared.error.Error.{Error}
 use Rattle.h1_error.specs.declared.progress.End.TheVariants as end
 use Rattle.h1_error.specs.declared.progress.Progress.{Progress}
@@ -44,12 +44,14 @@ pub record IsReady {C A J : Type 0} (count : ℕ) (made : View MemState C A J) :
   pub accounted : Accounted
       (λ (link : MemState). link.state) new_mem_state.state made.session made.done made.last
 
--- It finished. Its link gave exactly the bytes of these requests, and ended. Its exchanges are
--- these requests, each whole, and each reply of the echo application was written whole and flushed.
+-- It finished. Its link gave exactly the bytes of these requests, ended and was not shut. Its
+-- exchanges are these requests, each whole, and each reply of the echo application was written
+-- whole and flushed.
 pub record IsServedWhole {C A J : Type 0} (count : ℕ) (served : View MemState C A J) : Type 0 where
   pub end : served.end ≡ Some end.Finished
   pub given : served.session.link.state.given ≡ Some (generated count)
   pub ended : served.session.link.state.ended ≡ true
+  pub shut : served.session.link.state.shut ≡ false
   pub many : length (entries served) ≡ count
   pub served_all : AreServed served.done (messages count)
   pub complete : AreAllDone new_mem_state.state served.session.link.state served.done served.last

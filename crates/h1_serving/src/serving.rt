@@ -1,13 +1,11 @@
 //! A connection that is served by one call.
-ghost use Rattle.std.specs.Prelude.{◌≡◌, ◌≤◌};
 ghost use Rattle.std.specs.List.{AllByRecursion};
 ghost use Rattle.h1_link.specs.LinkState.{LinkState};
-ghost use Rattle.h1_link.specs.Later.{Later};
 ghost use Rattle.h1_transcript.specs.Agrees.{Agrees};
 ghost use Rattle.h1_app.specs.Accounted.{Accounted};
 ghost use Rattle.h1_app.specs.View.{entries};
 ghost use Rattle.h1_echo.specs.Echo.{EchoGives};
-ghost use Rattle.h1_serving.specs.Served.{IsUnpolled, IsServed, AnswersFor};
+ghost use Rattle.h1_serving.specs.Served.{IsUnpolled, KeptInCall, LeavesInCall, BeganInCall, AnswersFor};
 
 use h1_app::{Connection, EchoApp, NoModules};
 use h1_error::Progress;
@@ -23,12 +21,10 @@ pub type Echoed<L> = Connection<L, EchoApp, NoModules, ()>;
 /// answers what the last poll answered.
 pub fn serve_link<L: Link + Drop, T: Clock>(connection: &mut Echoed<L>, clock: &mut T) -> Progress
     requires { IsUnpolled connection.old }
-    ensures app { (connection.new.app ≡ connection.old.app)
-        × (connection.new.limit ≡ connection.old.limit) }
-    ensures clock { T.moment clock.old ≤ T.moment clock.new }
-    ensures later { Later (L.state connection.old.session.link)
-        (L.state connection.new.session.link) }
-    ensures plan { L.same_plan connection.old.session.link connection.new.session.link }
+    ensures kept { KeptInCall L.same_plan (T.moment clock.old) (T.moment clock.new) connection.old
+        connection.new }
+    ensures leaves { LeavesInCall MOST_POLLS (L.state connection.old.session.link)
+        (L.state connection.new.session.link) (entries connection.new) connection.new.end }
     ensures accounted { (before : LinkState)
         → Accounted L.state before connection.old.session connection.old.done connection.old.last
         → Accounted L.state before connection.new.session connection.new.done
@@ -37,7 +33,7 @@ pub fn serve_link<L: Link + Drop, T: Clock>(connection: &mut Echoed<L>, clock: &
         → Accounted L.state before connection.old.session connection.old.done connection.old.last
         → Agrees EchoGives connection.new.limit before (L.state connection.new.session.link)
         (entries connection.new) }
-    ensures served { AllByRecursion (IsServed (T.moment clock.old) (T.moment clock.new)
+    ensures served { AllByRecursion (BeganInCall (T.moment clock.old) (T.moment clock.new)
         (L.state connection.old.session.link) (L.state connection.new.session.link))
         (entries connection.new) }
     ensures answer { (before : LinkState)

@@ -20,7 +20,13 @@ loop-preserved g c =
     (g.T.Clock.moment c.now-now.new.self) c.args.connection.now
     c.loop.connection c.poll-answer.new.self c.poll-answer.result
     g.met.L.Link.plan_on (omega (arith, at.moment, at.later)) c.loop.invariant
-    (poll_of at.moment p.app p.later p.plan p.accounted p.agrees p.extends p.cause)
+    (poll_of at.moment p.app p.later (record {
+      leaves = p.leaves;
+      ended = p.ended;
+      moves = p.moves;
+      reads_not_ready = p.reads_not_ready;
+      others = p.others;
+    }) p.plan p.accounted p.agrees p.extends p.cause)
     (waiting_of c.poll-answer.result c.in_default.not-Ready)
 
 pub returns-in-Ready : goal.returns-in-Ready
@@ -36,13 +42,18 @@ returns-in-Ready g c =
     c.loop.connection c.poll-answer.new.self c.poll-answer.result
     g.met.L.Link.plan_on (omega (arith, at.moment, at.later))
     (λ waits. absurd
-    (never_waits c.poll-answer.result c.in-Ready.field-0 c.in-Ready.is waits)) c.loop.invariant
-    (poll_of at.moment p.app p.later p.plan p.accounted p.agrees p.extends p.cause) in
+    (never_waits c.poll-answer.result c.in-Ready.field-0 c.in-Ready.is waits))
+    (omega (arith, c.loop-test.true)) c.loop.invariant
+    (poll_of at.moment p.app p.later (record {
+      leaves = p.leaves;
+      ended = p.ended;
+      moves = p.moves;
+      reads_not_ready = p.reads_not_ready;
+      others = p.others;
+    }) p.plan p.accounted p.agrees p.extends p.cause) in
     record {
-      app = call.app;
-      clock = call.clock;
-      later = call.later;
-      plan = call.plan;
+      kept = call.kept;
+      leaves = call.leaves;
       accounted = call.accounted;
       agrees = call.agrees;
       served = call.served;
@@ -61,13 +72,18 @@ returns g c =
     (g.T.Clock.moment c.now-now-2.new.self) c.args.connection.now
     c.loop.connection c.poll.new.self c.poll.result
     g.met.L.Link.plan_on (omega (arith, at.moment, at.later))
-    (λ waits. omega (arith, c.loop-test.false, c.loop.auto.counter-end)) c.loop.invariant
-    (poll_of at.moment p.app p.later p.plan p.accounted p.agrees p.extends p.cause) in
+    (λ waits. omega (arith, c.loop-test.false, c.loop.auto.counter-end))
+    (omega (arith, c.loop-test.false, c.loop.auto.counter-end)) c.loop.invariant
+    (poll_of at.moment p.app p.later (record {
+      leaves = p.leaves;
+      ended = p.ended;
+      moves = p.moves;
+      reads_not_ready = p.reads_not_ready;
+      others = p.others;
+    }) p.plan p.accounted p.agrees p.extends p.cause) in
     record {
-      app = call.app;
-      clock = call.clock;
-      later = call.later;
-      plan = call.plan;
+      kept = call.kept;
+      leaves = call.leaves;
       accounted = call.accounted;
       agrees = call.agrees;
       served = call.served;
