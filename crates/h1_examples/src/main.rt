@@ -87,9 +87,10 @@ const EXAMPLES: [(&str, u8); 69] = [
 
 /// The command lines that read no script, each with its words and its exit status: `NAME.report` is
 /// expected.
-const COMMANDS: [(&str, &str, u8); 4] = [
+const COMMANDS: [(&str, &str, u8); 5] = [
     ("gen_3", "gen 3", 0),
     ("gen_0", "gen 0", 0),
+    ("gen_20000", "gen 20000", 0),
     ("gen_20001", "gen 20001", 2),
     ("gen_x", "gen x", 2),
 ];
