@@ -42,7 +42,7 @@ pub HasNoCut-append : (limit : ℕ) (bytes more : List ℕ) → limit ≤ length
 unfolding HasNoCut
 HasNoCut-append limit bytes more full none = ap cut (take_front_le bytes more limit full) ∙ none
 
-split_take : (bytes : List ℕ) (n limit : ℕ) → n ≤ limit
+pub split_take : (bytes : List ℕ) (n limit : ℕ) → n ≤ limit
     → take limit bytes ≡ take n bytes ++ drop n (take limit bytes)
 split_take bytes n limit h =
     sym (take-append-drop n (take limit bytes))

@@ -3,14 +3,19 @@
 //! The lines of the stream are its parts through each LF, and a line is empty if nothing or one CR
 //! stands before its LF. A head ends with the first empty line after a nonempty one; the number of
 //! bytes through that line is its cut. Whole buffers are asked by [`cut_of`] and [`cut_within`],
-//! pieces of a stream by a [`HeadSearch`].
+//! pieces of a stream by a [`HeadSearch`]. What a search costs is the number of bytes that it looks
+//! at, which come one by one from a [`LookedAt`] and are counted by [`Steps`].
 #![tactic(auto)]
 
 mod cut;
 mod laws;
 mod limit_laws;
 mod line;
+mod line_feed;
+mod looked_at;
 mod search;
+mod step_laws;
+mod steps;
 #[cfg(test)]
 mod tests;
 
@@ -20,4 +25,7 @@ pub use limit_laws::{
     heads_within_a_limit_are_stable, heads_within_a_limit_are_unique, searches_go_on,
 };
 pub use line::LineSoFar;
+pub use looked_at::LookedAt;
 pub use search::HeadSearch;
+pub use step_laws::searches_look_once;
+pub use steps::Steps;

@@ -1,5 +1,9 @@
 //! Heads and their ends.
-use crate::{HeadSearch, cut_of, cut_within};
+ghost use Rattle.std.specs.Prelude.{◌≡◌, ◌<◌};
+
+use crate::{HeadSearch, LookedAt, Steps, cut_of, cut_within};
+use std::marker::Brand;
+use std::sync::ledger::{Blank, Ledger};
 
 #[test]
 fn a_head_ends_with_the_first_empty_line_behind_a_nonempty_one(rt: HostRuntime) {
@@ -27,4 +31,31 @@ fn a_search_over_a_buffer_that_grows_finds_the_same_end(rt: HostRuntime) {
     assert_eq!(rt; search.find_within(bytes, 18), Some(18));
     let mut short = HeadSearch::new();
     assert_eq!(rt; short.find_within(bytes, 17), None);
+}
+
+#[test]
+fn a_search_that_is_counted_finds_the_same_end_again(rt: HostRuntime) {
+    let bytes = b"GET / HTTP/1.1\r\n\r\nbody";
+    assert_eq!(rt;
+        found_twice::<Brand>(bytes, Blank::new(1)),
+        (Some(18), Some(18))
+    );
+    assert_eq!(rt;
+        found_twice::<Brand>(b"GET / HTTP/1.1\r\n\r", Blank::new(1)),
+        (None, None)
+    );
+}
+
+/// What two calls over the same bytes find, over one counter.
+fn found_twice<L: Ledger>(bytes: &[u8], blank: Blank) -> (Option<usize>, Option<usize>)
+    requires name { blank.name ≡ L.name }
+    requires parts { blank.parts ≡ L.parts }
+    requires some { 0 < blank.parts }
+{
+    let mut steps = Steps::<L>::new(blank);
+    let mut search = HeadSearch::new();
+    let bytes = LookedAt::new(bytes);
+    let first = search.advance(&bytes, &mut steps);
+    let again = search.advance(&bytes, &mut steps);
+    (first, again)
 }
