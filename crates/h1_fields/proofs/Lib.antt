@@ -6,3 +6,4 @@ pub mod NumberLemmas
 pub mod LengthLemmas
 pub mod CodingLemmas
 pub mod SpanLemmas
+pub mod LivingLemmas

@@ -3,6 +3,8 @@ pub mod Lines
 pub mod ListParts
 pub mod ContentLength
 pub mod Codings
+pub mod Living
+pub mod Held
 pub mod Search
 pub mod Pieces
 pub mod Spans

@@ -1,38 +1,51 @@
 //! The field lines of a message (RFC 9110, section 5).
-ghost use Rattle.std.specs.Prelude.{◌≡◌, ◌==◌, ◌∷◌, ◌++◌, [], length, option_map, IfOk, OnOk, OnErr, IsOkUnless};
+ghost use Rattle.std.specs.Prelude.{◌≡◌, ◌≤◌, ◌==◌, ◌∷◌, ◌++◌, [], length, option_map, IfOk, OnOk, OnErr, IsOkUnless};
+ghost use Rattle.std.specs.Arc.{arc_value};
 ghost use Rattle.h1_error.specs.Memory.{no_memory};
+ghost use Rattle.h1_fields.specs.declared.held.TheConstants.{FLAGS};
+ghost use Rattle.h1_fields.specs.Held.{lines_in};
 ghost use Rattle.h1_fields.specs.Lines.{has_line, values_of, first_value, without, with_line};
+ghost use Rattle.h1_fields.specs.Living.{living};
+ghost use Rattle.h1_fields.specs.Spans.{AllFit, lines_of};
 
+use crate::block::Block;
+use crate::gone::{count_lines, count_values, first_value, hide};
+use crate::held::{FLAGS, Held};
 use crate::iter::{FieldsIter, ValuesIter};
-use crate::span::{Span, first_named, remove_named};
+use crate::span::Span;
 use h1_error::Error;
 use std::alloc::Global;
 use std::fmt;
 use std::marker::Model;
+use std::sync::Arc;
 
-/// The room for text that `Fields::with_capacity` reserves for each line, in bytes.
-const TEXT_PER_LINE: usize = 32;
+/// How many lines there is room for at first where none was reserved.
+const FIRST_LINES: usize = 4;
 
 /// The field lines of a message, in order, with names in their spelling. A contract sees the list
 /// of pairs of name and value.
 ///
-/// All names and values stand in one text. The text of lines that were removed or replaced stays
-/// in memory until the value is dropped, and no call shows it.
+/// A copy shares its lines with the value that it was made from, up to 64 lines. A change of lines
+/// that are shared first copies them, and a removal only marks them. All names and values stand in
+/// one text. The text of lines that were removed or replaced stays in memory until the last owner
+/// of the lines is dropped, and no call shows it.
 #[derive(Drop)]
 pub struct Fields {
-    text: Vec<u8>,
-    lines: Vec<Span>,
+    alloc: Global,
+    held: Held,
+    gone: u64,
 }
 
 impl Model for Fields {
     ghost use Rattle.std.specs.Prelude.{ℕ, List};
-    ghost use Rattle.h1_fields.specs.Spans.{AllFit, lines_of};
+    ghost use Rattle.h1_fields.specs.Held.{lines_in, AreFlags};
+    ghost use Rattle.h1_fields.specs.Living.{living};
 
     ghost Value = { List (List ℕ × List ℕ) };
 
-    ghost view = { λ f. lines_of f.text.items f.lines.items };
+    ghost view = { λ f. living f.gone (lines_in f.held) };
 
-    ghost invariant = { λ f. AllFit f.text.items f.lines.items };
+    ghost invariant = { λ f. AreFlags f.gone f.held };
 }
 
 impl Fields {
@@ -42,8 +55,9 @@ impl Fields {
         ensures { result ≡ [] }
     {
         Fields {
-            text: Vec::new(alloc),
-            lines: Vec::new(alloc),
+            alloc,
+            held: Held::Nothing,
+            gone: 0,
         }
     }
 
@@ -52,92 +66,122 @@ impl Fields {
         ensures ok { IfOk result (λ fields. fields ≡ []) }
         ensures err { IsOkUnless result no_memory }
     {
+        if lines == 0 {
+            return Ok(Fields::new(alloc));
+        }
+        let block = Block::with_capacity(alloc, lines)?;
         Ok(Fields {
-            text: Vec::with_capacity(alloc, lines.saturating_mul(TEXT_PER_LINE))?,
-            lines: Vec::with_capacity(alloc, lines)?,
+            alloc,
+            held: Held::new(alloc, block)?,
+            gone: 0,
         })
     }
 
     /// How many lines there are.
-    #[inline(always)]
     pub fn len(&self) -> usize
         ensures { result ≡ length self.now }
     {
-        self.lines.len()
+        let (text, spans) = parts_of(&self.held);
+        count_lines(text, spans, self.gone)
     }
 
     #[inline(always)]
     pub fn is_empty(&self) -> bool
         ensures { result ≡ (length self.now == 0) }
     {
-        self.lines.is_empty()
+        self.iter().next().is_none()
     }
 
-    /// Adds a line at the end.
+    /// Adds a line at the end. Lines that are shared are copied first.
+    #[tactic(auto, using(crate::proofs::LivingLemmas::living_all))]
     pub fn append(&mut self, name: &[u8], value: &[u8]) -> Result<(), Error>
         ensures ok { OnOk result (self.new ≡ self.old ++ (name.now, value.now) ∷ []) }
         ensures err { IsOkUnless result no_memory }
         ensures same { OnErr result (self.new ≡ self.old) }
     {
-        let span = Span::write(&mut self.text, name, value)?;
-        self.lines.push(span)?;
+        match &mut self.held {
+            Held::Own(block) => return block.append(name, value),
+            Held::Shared(owner) if self.gone == 0 && owner.len() < FLAGS => {
+                if let Some(block) = Arc::get_mut(owner) {
+                    return block.append(name, value);
+                }
+            }
+            _ => {}
+        }
+        let mut block = self.own_lines()?;
+        block.append(name, value)?;
+        self.held = Held::new(self.alloc, block)?;
+        self.gone = 0;
         Ok(())
     }
 
     /// Puts the line in the place of the first of that name, and removes later ones of that name;
-    /// at the end where there is none. The text of the lines that go is kept until the drop.
+    /// at the end where there is none. Lines that are shared are copied first.
+    #[tactic(auto, using(crate::proofs::LivingLemmas::living_all))]
     pub fn insert(&mut self, name: &[u8], value: &[u8]) -> Result<(), Error>
         ensures ok { OnOk result (self.new ≡ with_line name.now value.now self.old) }
         ensures err { IsOkUnless result no_memory }
         ensures same { OnErr result (self.new ≡ self.old) }
     {
-        match first_named(&self.text, &self.lines, name) {
-            None => self.append(name, value),
-            Some(at) => {
-                let span = Span::write(&mut self.text, name, value)?;
-                remove_named(&self.text, &mut self.lines, at + 1, name);
-                self.lines[at] = span;
-                Ok(())
+        match &mut self.held {
+            Held::Own(block) => return block.insert(name, value),
+            Held::Shared(owner) if self.gone == 0 && owner.len() < FLAGS => {
+                if let Some(block) = Arc::get_mut(owner) {
+                    block.insert(name, value)?;
+                    return Ok(());
+                }
             }
+            _ => {}
         }
+        let mut block = self.own_lines()?;
+        block.insert(name, value)?;
+        self.held = Held::new(self.alloc, block)?;
+        self.gone = 0;
+        Ok(())
     }
 
-    /// Removes all lines of that name, though not their text. True exactly where there was one.
+    /// Removes all lines of that name. True exactly where there was one.
     pub fn remove(&mut self, name: &[u8]) -> bool
         ensures lines { self.new ≡ without name.now self.old }
         ensures found { result ≡ has_line name.now self.old }
     {
         let found = self.contains(name);
-        remove_named(&self.text, &mut self.lines, 0, name);
+        self.remove_lines(name);
         found
+    }
+
+    #[tactic(auto, using(crate::proofs::LivingLemmas::living_all))]
+    fn remove_lines(&mut self, name: &[u8])
+        ensures { self.new ≡ without name.now self.old }
+    {
+        match &mut self.held {
+            Held::Nothing => {}
+            Held::Own(block) => block.remove(name),
+            Held::Shared(owner) => self.gone = remove_from(owner, self.gone, name),
+        }
     }
 
     /// Whether there is a line of that name.
     pub fn contains(&self, name: &[u8]) -> bool
         ensures { result ≡ has_line name.now self.now }
     {
-        first_named(&self.text, &self.lines, name).is_some()
+        self.get(name).is_some()
     }
 
     /// The value of the first line of that name.
     pub fn get(&self, name: &[u8]) -> Option<&[u8]>
         ensures { option_map (λ value. value.now) result ≡ first_value name.now self.now }
     {
-        let at = first_named(&self.text, &self.lines, name)?;
-        Some(self.lines[at].value(&self.text))
+        let (text, spans) = parts_of(&self.held);
+        first_value(text, spans, self.gone, name)
     }
 
     /// How many lines have that name.
     pub fn count_named(&self, name: &[u8]) -> usize
         ensures { result ≡ length (values_of name.now self.now) }
     {
-        let mut count = 0;
-        for span in &self.lines {
-            if span.is_named(&self.text, name) {
-                count += 1;
-            }
-        }
-        count
+        let (text, spans) = parts_of(&self.held);
+        count_values(text, spans, self.gone, name)
     }
 
     /// All lines, in order.
@@ -145,7 +189,8 @@ impl Fields {
     pub fn iter(&self) -> FieldsIter<'_>
         ensures { result ≡ self.now }
     {
-        FieldsIter::new(&self.text, &self.lines)
+        let (text, spans) = parts_of(&self.held);
+        FieldsIter::new(text, spans, self.gone)
     }
 
     /// The values of all lines of that name, in order.
@@ -153,20 +198,86 @@ impl Fields {
     pub fn get_all<'a>(&'a self, name: &'a [u8]) -> ValuesIter<'a>
         ensures { result ≡ values_of name.now self.now }
     {
-        ValuesIter::new(name, &self.text, &self.lines)
+        let (text, spans) = parts_of(&self.held);
+        ValuesIter::new(name, text, spans, self.gone)
     }
 
-    /// The same lines again, in memory of exactly their size and that of the text, with that of lines
-    /// that went.
+    /// The same lines again. Takes memory only for more than 64 lines.
     pub fn copy(&self) -> Result<Self, Error>
         ensures ok { IfOk result (λ copy. copy ≡ self.now) }
         ensures err { IsOkUnless result no_memory }
     {
-        let alloc = *self.lines.allocator();
+        let held = match &self.held {
+            Held::Nothing => Held::Nothing,
+            Held::Shared(owner) => Held::Shared(Arc::try_clone(owner)?),
+            Held::Own(_) => return self.own_copy(),
+        };
         Ok(Fields {
-            text: Vec::from_slice(alloc, &self.text)?,
-            lines: Vec::from_slice(alloc, &self.lines)?,
+            alloc: self.alloc,
+            held,
+            gone: self.gone,
         })
+    }
+
+    // The same lines in a block with no other owner.
+    #[tactic(auto, using(crate::proofs::LivingLemmas::living_all))]
+    fn own_copy(&self) -> Result<Self, Error>
+        ensures ok { IfOk result (λ copy. copy ≡ self.now) }
+        ensures err { IsOkUnless result no_memory }
+    {
+        let block = self.own_lines()?;
+        Ok(Fields {
+            alloc: self.alloc,
+            held: Held::new(self.alloc, block)?,
+            gone: 0,
+        })
+    }
+
+    // The same lines, with room for more.
+    fn own_lines(&self) -> Result<Block, Error>
+        ensures ok { IfOk result (λ block. block ≡ self.now) }
+        ensures err { IsOkUnless result no_memory }
+    {
+        let lines = parts_of(&self.held).1.len();
+        Block::of_lines(self.alloc, self.iter(), lines.saturating_add(FIRST_LINES))
+    }
+}
+
+/// Removes the lines of that name from this owner of a block: the lines themselves where there is
+/// no other owner. What it returns tells which lines are gone then.
+#[tactic(auto, using(crate::proofs::LivingLemmas::living_all))]
+fn remove_from(owner: &mut Arc<Block>, gone: u64, name: &[u8]) -> u64
+    requires { length (arc_value owner.old) ≤ FLAGS }
+    ensures lines { living result (arc_value owner.new)
+        ≡ without name.now (living gone (arc_value owner.old)) }
+    ensures few { length (arc_value owner.new) ≤ FLAGS }
+{
+    match Arc::get_mut(owner) {
+        None => {
+            let (text, spans) = owner.parts();
+            hide(text, spans, gone, name)
+        }
+        Some(block) => {
+            if gone == 0 {
+                block.remove(name);
+                return 0;
+            }
+            let (text, spans) = block.parts();
+            hide(text, spans, gone, name)
+        }
+    }
+}
+
+/// The text of a block, and the places of its lines in it.
+#[inline(always)]
+fn parts_of(held: &Held) -> (&[u8], &[Span])
+    ensures fit { AllFit result.0.now result.1.now }
+    ensures lines { lines_of result.0.now result.1.now ≡ lines_in held.now }
+{
+    match held {
+        Held::Nothing => (&[], &[]),
+        Held::Shared(owner) => owner.parts(),
+        Held::Own(block) => block.parts(),
     }
 }
 

@@ -2,8 +2,10 @@
 ghost use Rattle.std.specs.Prelude.{◌≡◌};
 ghost use Rattle.std.specs.Iterator.{YieldsFirstBy, item_count};
 ghost use Rattle.h1_fields.specs.Lines.{values_of};
+ghost use Rattle.h1_fields.specs.Living.{living};
 ghost use Rattle.h1_fields.specs.Spans.{AllFit, lines_of};
 
+use crate::gone::is_shown;
 use crate::span::Span;
 use std::marker::Model;
 
@@ -13,26 +15,28 @@ use std::marker::Model;
 pub struct FieldsIter<'a> {
     text: &'a [u8],
     left: &'a [Span],
+    gone: u64,
 }
 
 impl<'a> Model for FieldsIter<'a> {
     ghost use Rattle.std.specs.Prelude.{ℕ, List};
+    ghost use Rattle.h1_fields.specs.Living.{living};
     ghost use Rattle.h1_fields.specs.Spans.{AllFit, lines_of};
 
     ghost Value = { List (List ℕ × List ℕ) };
 
-    ghost view = { λ i. lines_of i.text.now i.left.now };
+    ghost view = { λ i. living i.gone (lines_of i.text.now i.left.now) };
 
     ghost invariant = { λ i. AllFit i.text.now i.left.now };
 }
 
 impl<'a> FieldsIter<'a> {
     #[inline(always)]
-    pub(crate) fn new(text: &'a [u8], left: &'a [Span]) -> Self
+    pub(crate) fn new(text: &'a [u8], left: &'a [Span], gone: u64) -> Self
         requires { AllFit text.now left.now }
-        ensures { result ≡ lines_of text.now left.now }
+        ensures { result ≡ living gone (lines_of text.now left.now) }
     {
-        FieldsIter { text, left }
+        FieldsIter { text, left, gone }
     }
 }
 
@@ -44,9 +48,15 @@ impl<'a> Iterator for FieldsIter<'a> {
     ghost remaining = { item_count (λ left. left) };
 
     fn next(&mut self) -> Option<(&'a [u8], &'a [u8])> {
-        let (first, left) = self.left.split_first()?;
-        self.left = left;
-        Some((first.name(self.text), first.value(self.text)))
+        while let Some((first, left)) = self.left.split_first() {
+            self.left = left;
+            let is_there = self.gone % 2 == 0;
+            self.gone /= 2;
+            if is_there {
+                return Some((first.name(self.text), first.value(self.text)));
+            }
+        }
+        None
     }
 }
 
@@ -56,27 +66,35 @@ pub struct ValuesIter<'a> {
     name: &'a [u8],
     text: &'a [u8],
     left: &'a [Span],
+    gone: u64,
 }
 
 impl<'a> Model for ValuesIter<'a> {
     ghost use Rattle.std.specs.Prelude.{ℕ, List};
     ghost use Rattle.h1_fields.specs.Lines.{values_of};
+    ghost use Rattle.h1_fields.specs.Living.{living};
     ghost use Rattle.h1_fields.specs.Spans.{AllFit, lines_of};
 
     ghost Value = { List (List ℕ) };
 
-    ghost view = { λ i. values_of i.name.now (lines_of i.text.now i.left.now) };
+    ghost view = { λ i. values_of i.name.now
+        (living i.gone (lines_of i.text.now i.left.now)) };
 
     ghost invariant = { λ i. AllFit i.text.now i.left.now };
 }
 
 impl<'a> ValuesIter<'a> {
     #[inline(always)]
-    pub(crate) fn new(name: &'a [u8], text: &'a [u8], left: &'a [Span]) -> Self
+    pub(crate) fn new(name: &'a [u8], text: &'a [u8], left: &'a [Span], gone: u64) -> Self
         requires { AllFit text.now left.now }
-        ensures { result ≡ values_of name.now (lines_of text.now left.now) }
+        ensures { result ≡ values_of name.now (living gone (lines_of text.now left.now)) }
     {
-        ValuesIter { name, text, left }
+        ValuesIter {
+            name,
+            text,
+            left,
+            gone,
+        }
     }
 }
 
@@ -90,7 +108,9 @@ impl<'a> Iterator for ValuesIter<'a> {
     fn next(&mut self) -> Option<&'a [u8]> {
         while let Some((first, left)) = self.left.split_first() {
             self.left = left;
-            if first.is_named(self.text, self.name) {
+            let is_shown = is_shown(*first, self.gone, self.text, self.name);
+            self.gone /= 2;
+            if is_shown {
                 return Some(first.value(self.text));
             }
         }

@@ -5,8 +5,11 @@
 //! Connection are read over all lines of the name.
 #![tactic(auto)]
 
+mod block;
 mod content_length;
 mod fields;
+mod gone;
+mod held;
 mod iter;
 mod laws;
 mod lists;

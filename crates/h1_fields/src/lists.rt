@@ -45,6 +45,7 @@ impl<'a> Iterator for PartsIter<'a> {
 
     ghost remaining = { item_count (λ left. left) };
 
+    #[inline(always)]
     fn next(&mut self) -> Option<&'a [u8]> {
         let value = match self.value {
             Some(value) => value,

@@ -130,3 +130,73 @@ fn connection_options_stand_in_any_line_and_case(rt: HostRuntime) -> Result<(), 
     }
     Ok(())
 }
+
+// So many lines, each of a name of its own.
+fn numbered(alloc: Global, count: u8) -> Result<Fields, Error> {
+    let mut fields = Fields::new(alloc);
+    for n in 0..count {
+        fields.append(&[b'X', b'a' + n / 26, b'a' + n % 26], &[n])?;
+    }
+    Ok(fields)
+}
+
+// The numbers of these lines but for some that are gone.
+fn numbers(alloc: Global, count: u8, gone: &[u8]) -> Result<Vec<u8>, Error> {
+    let mut left = Vec::new(alloc);
+    for n in 0..count {
+        if !gone.contains(&n) {
+            left.push(n)?;
+        }
+    }
+    Ok(left)
+}
+
+fn has_numbers(fields: &Fields, numbers: &[u8]) -> bool {
+    fields.len() == numbers.len()
+        && fields
+            .iter()
+            .zip(numbers)
+            .all(|((_, value), number)| value == [*number].as_slice())
+}
+
+#[test]
+fn a_change_is_not_seen_by_other_owners(rt: HostRuntime) -> Result<(), Error> {
+    for count in [3u8, 63, 64, 65, 66] {
+        let all = numbers(rt.alloc(), count, &[])?;
+        let first = numbered(rt.alloc(), count)?;
+        let mut added = first.copy()?;
+        added.append(b"Age", b"0")?;
+        let mut replaced = first.copy()?;
+        replaced.insert(b"xAB", b"7")?;
+        let mut removed = first.copy()?;
+        assert!(rt; removed.remove(b"XAB") && !removed.contains(b"XAB"));
+        assert!(rt; has_numbers(&first, &all));
+        assert_eq!(rt; added.len(), all.len() + 1);
+        assert_eq!(rt; added.get(b"age"), Some(b"0".as_slice()));
+        assert_eq!(rt; replaced.len(), all.len());
+        assert_eq!(rt; replaced.get(b"XAB"), Some(b"7".as_slice()));
+        assert!(rt; has_numbers(&removed, &numbers(rt.alloc(), count, &[1])?));
+    }
+    Ok(())
+}
+
+#[test]
+fn a_removal_from_shared_lines_stays_with_its_copies(rt: HostRuntime) -> Result<(), Error> {
+    for count in [3u8, 64, 65] {
+        let mut first = numbered(rt.alloc(), count)?;
+        let whole = first.copy()?;
+        assert!(rt; first.remove(b"Xaa"));
+        let mut copy = first.copy()?;
+        assert!(rt; !copy.contains(b"Xaa") && copy.remove(b"Xac"));
+        assert!(rt; has_numbers(&first, &numbers(rt.alloc(), count, &[0])?));
+        assert!(rt; has_numbers(&copy, &numbers(rt.alloc(), count, &[0, 2])?));
+        copy.append(b"Xaa", b"last")?;
+        first.insert(b"Xac", b"2")?;
+        let last = (b"Xaa".as_slice(), b"last".as_slice());
+        assert_eq!(rt; copy.iter().last(), Some(last));
+        assert_eq!(rt; copy.iter().next(), first.iter().next());
+        assert_eq!(rt; first.get(b"XAC"), Some(b"2".as_slice()));
+        assert!(rt; has_numbers(&whole, &numbers(rt.alloc(), count, &[])?));
+    }
+    Ok(())
+}

@@ -1,5 +1,14 @@
+use Rattle.std.proofs.Common.{◌∙◌}
 use Rattle.h1_fields.proofs.SpanLemmas.{fit_rest}
+use Rattle.h1_fields.proofs.LivingLemmas.{living_behind}
 use Rattle.h1_fields.proofs.iter.FieldsIterIterator.next.Goals as goal
 
 pub invariant_of-self : goal.invariant_of-self
-invariant_of-self c = fit_rest _ _ _ _ c.in_ok-first.ensures.cases.0 c.self.invariant
+invariant_of-self c = fit_rest _ _ _ _ c.in-Some.ensures.cases.0 c.loop-first.invariant.0
+
+pub loop-first-preserved : goal.loop-first-preserved
+loop-first-preserved c =
+    let first = c.in-Some.ensures.cases.0 in (
+      fit_rest _ _ _ _ first c.loop-first.invariant.0,
+      living_behind _ _ _ _ _ first c.if-is_there.false ∙ c.loop-first.invariant.1,
+    )

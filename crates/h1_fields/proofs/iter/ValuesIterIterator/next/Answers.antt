@@ -1,6 +1,6 @@
 use Rattle.std.proofs.Common.{sym, ◌∙◌}
 use Rattle.h1_fields.proofs.SpanLemmas.{fit_rest}
-use Rattle.h1_fields.proofs.SearchLemmas.{values_behind}
+use Rattle.h1_fields.proofs.LivingLemmas.{values_behind}
 use Rattle.h1_fields.proofs.iter.ValuesIterIterator.next.Goals as goal
 
 pub invariant_of-self : goal.invariant_of-self
@@ -10,6 +10,6 @@ pub loop-first-preserved : goal.loop-first-preserved
 loop-first-preserved c =
     let first = c.in-Some.ensures.cases.0 in (
       fit_rest _ _ _ _ first c.loop-first.invariant.0,
-      values_behind _ _ _ _ _ first (sym c.is_named.ensures ∙ c.if-is_named.false)
+      values_behind _ _ _ _ _ _ first (sym c.is_shown-is_shown.ensures ∙ c.if-is_shown.false)
           ∙ c.loop-first.invariant.1,
     )

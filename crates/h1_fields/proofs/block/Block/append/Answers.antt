@@ -2,7 +2,7 @@ use Rattle.std.proofs.Common.{ap, ◌++◌, ◌∷◌, [], ◌∙◌}
 use Rattle.std.proofs.lemmas.Result.{MatchResult-from_err}
 use Rattle.h1_fields.specs.Spans.{lines_of}
 use Rattle.h1_fields.proofs.SpanLemmas.{lines_kept, fit_added, lines_added}
-use Rattle.h1_fields.proofs.fields.Fields.append.Goals as goal
+use Rattle.h1_fields.proofs.block.Block.append.Goals as goal
 
 pub returns-in_err-span-clause-same : goal.returns-in_err-span-clause-same
 returns-in_err-span-clause-same c =

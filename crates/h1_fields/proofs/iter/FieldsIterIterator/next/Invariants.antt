@@ -1,0 +1,13 @@
+use Rattle.std.proofs.Common.{◌≡◌, length}
+use Rattle.h1_fields.specs.Living.{living}
+use Rattle.h1_fields.specs.Spans.{AllFit, lines_of}
+use Rattle.h1_fields.proofs.iter.FieldsIterIterator.next.Given as goal
+
+abbrev pub invariant-loop-first : goal.invariant-loop-first
+invariant-loop-first l =
+    AllFit l.self-inside.text.now l.self-inside.left.now
+    × (living l.self-inside.gone (lines_of l.self-inside.text.now l.self-inside.left.now)
+    ≡ l.fn.self)
+
+abbrev pub decreases-loop-first : goal.decreases-loop-first
+decreases-loop-first l = length l.self-inside.left.now
