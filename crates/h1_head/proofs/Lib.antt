@@ -1,4 +1,5 @@
 pub mod SyntaxLemmas
+pub mod CheckLemmas
 pub mod DateLemmas
 pub mod OwnLineLemmas
 pub mod ReplyLemmas

@@ -24,7 +24,7 @@ pub use date::get_cached_date;
 pub use h1_authority::{
     RawTargetAuthority, has_ambiguous_port_suffix, is_http_family_scheme, raw_target_authority,
 };
-pub use h1_cut::HeadSearch;
+pub use h1_cut::{HeadSearch, LookedAt, Steps};
 pub use h1_fields::{ContentLength, Fields, FieldsIter, ValuesIter};
 pub use laws::{dates_are_unique, replies_keep_their_framing};
 pub use limits::{MAX_HEADER_SIZE, MAX_HEADERS};

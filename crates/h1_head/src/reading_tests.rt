@@ -46,7 +46,8 @@ const ACCEPTED: [(&[u8], &[u8], usize, bool); 21] = [
     (b"\r\n\nGET /a HTTP/1.0\n\n", b"/a", 0, false),
     // RFC 9112, sections 3 and 3.2.1 to 3.2.4.
     (
-        b"GET /hello.txt HTTP/1.1\r\nUser-Agent: curl/7.64.1\r\nHost: www.example.com\r\nAccept-Language: en, mi\r\n\r\n",
+        b"GET /hello.txt HTTP/1.1\r\nUser-Agent: curl/7.64.1\r\nHost: www.example.com\r\n\
+          Accept-Language: en, mi\r\n\r\n",
         b"/hello.txt",
         3,
         false,
@@ -58,7 +59,8 @@ const ACCEPTED: [(&[u8], &[u8], usize, bool); 21] = [
         false,
     ),
     (
-        b"GET http://www.example.org/pub/WWW/TheProject.html HTTP/1.1\r\nHost: www.example.org\r\n\r\n",
+        b"GET http://www.example.org/pub/WWW/TheProject.html HTTP/1.1\r\n\
+          Host: www.example.org\r\n\r\n",
         b"http://www.example.org/pub/WWW/TheProject.html",
         1,
         false,
@@ -129,7 +131,8 @@ const ACCEPTED: [(&[u8], &[u8], usize, bool); 21] = [
         false,
     ),
     (
-        b"POST / HTTP/1.1\r\nContent-Length: 1, 2\r\nTransfer-Encoding: chunked\r\nContent-Length: x\r\n\r\n",
+        b"POST / HTTP/1.1\r\nContent-Length: 1, 2\r\nTransfer-Encoding: chunked\r\n\
+          Content-Length: x\r\n\r\n",
         b"/",
         1,
         true,

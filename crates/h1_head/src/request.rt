@@ -10,6 +10,7 @@ ghost use Rattle.h1_head.specs.Parts.{request_of_parts};
 use crate::parts::{authority_of, lines_of, target_of};
 use crate::syntax::{check_line, refuse};
 use crate::version::{is_http_2, with_minor};
+use bytes::Bytes;
 use h1_error::{Error, ErrorType, HeadFault};
 use h1_fields::{Fields, ValuesIter};
 use http::request::Parts;
@@ -24,7 +25,7 @@ use std::marker::Model;
 pub struct RequestHeader {
     alloc: Global,
     method: Method,
-    target: Vec<u8>,
+    target: Bytes,
     version: Version,
     authority: Option<Vec<u8>>,
     fields: Fields,
@@ -39,7 +40,7 @@ impl Model for RequestHeader {
 
     ghost view = { λ r. record {
       method = r.method;
-      target = r.target.items;
+      target = r.target;
       version = r.version;
       authority = option_map (λ bytes. bytes.items) r.authority;
       fields = r.fields;
@@ -62,7 +63,7 @@ impl RequestHeader {
         Ok(RequestHeader {
             alloc,
             method,
-            target: Vec::from_slice(alloc, raw_path)?,
+            target: Bytes::copy_from_slice(alloc, raw_path)?,
             version: Version::HTTP_11,
             authority: None,
             fields: Fields::with_capacity(alloc, size_hint.unwrap_or(0))?,
@@ -76,7 +77,7 @@ impl RequestHeader {
         ensures ok { IfOk result (λ head. head ≡ request_of_parts parts) }
         ensures err { IsOkUnless result no_memory }
     {
-        let target = Vec::from_slice(alloc, target_of(&parts.uri))?;
+        let target = Bytes::copy_from_slice(alloc, target_of(&parts.uri))?;
         let authority = authority_of(alloc, &parts.uri)?;
         let fields = lines_of(alloc, &parts.headers)?;
         Ok(RequestHeader {
@@ -95,19 +96,19 @@ impl RequestHeader {
     pub(crate) fn from_read(
         alloc: Global,
         method: &[u8],
-        target: &[u8],
+        target: Bytes,
         minor: u8,
         fields: Fields,
     ) -> Result<Self, Error>
         requires { IsTrue (is_token method.now) }
-        ensures ok { IfOk result (λ head. head ≡ request_read method.now target.now minor fields) }
+        ensures ok { IfOk result (λ head. head ≡ request_read method.now target minor fields) }
         ensures err { IsOkUnless result no_memory }
     {
         let method = method_of(alloc, method)?;
         Ok(RequestHeader {
             alloc,
             method,
-            target: Vec::from_slice(alloc, target)?,
+            target,
             version: with_minor(minor),
             authority: None,
             fields,
@@ -243,7 +244,7 @@ impl RequestHeader {
         Ok(RequestHeader {
             alloc,
             method: self.method.clone()?,
-            target: Vec::from_slice(alloc, self.target.as_slice())?,
+            target: self.target.clone()?,
             version: self.version,
             authority: copy_bytes(alloc, &self.authority)?,
             fields: self.fields.copy()?,

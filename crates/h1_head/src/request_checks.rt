@@ -1,10 +1,11 @@
 //! What a request is refused for whose head has the form of one (RFC 9112, sections 3.2, 6.1 and
 //! 6.3; RFC 9110, section 8.6), and whether it wishes the connection kept (RFC 9112, section 9.3).
 ghost use Rattle.std.specs.Prelude.{◌≡◌, codes, MatchOption};
+ghost use Rattle.h1_fields.specs.Codings.{has_coding_line};
 ghost use Rattle.h1_fields.specs.Lines.{values_of};
 ghost use Rattle.h1_authority.specs.AuthorityFault.{hosts_seen, hosts_behind, no_host};
 ghost use Rattle.h1_head.specs.Faults.{refusal};
-ghost use Rattle.h1_head.specs.RequestFault.{coding_fault, first_fault, has_both, host_fault, is_both, length_fault, settled};
+ghost use Rattle.h1_head.specs.RequestFault.{coding_fault, first_fault, host_fault, is_both, length_fault, settled};
 ghost use Rattle.h1_head.specs.Wish.{wish};
 
 use crate::RequestHeader;
@@ -32,6 +33,10 @@ impl RequestHeader {
     pub fn wishes_keep_alive(&self, both: bool) -> bool
         ensures { result ≡ wish self.now both }
     {
+        // Most heads have no such line, and no lists have to be searched.
+        if !both && !self.fields().contains(b"Connection") {
+            return is_http_11(self.version());
+        }
         if both || self.fields().lists_close() {
             false
         } else {
@@ -40,20 +45,25 @@ impl RequestHeader {
     }
 
     /// Removes the Content-Length lines where Transfer-Encoding stands beside them, and says
-    /// whether.
-    pub(crate) fn settle_length(&mut self) -> bool
+    /// whether. `coded` says whether Transfer-Encoding is there.
+    #[inline(always)]
+    pub(crate) fn settle_length(&mut self, coded: bool) -> bool
+        requires { coded ≡ has_coding_line self.old.fields }
         ensures settled { self.new ≡ settled self.old }
         ensures both { result ≡ is_both self.old }
+        ensures coded { coded ≡ has_coding_line self.new.fields }
     {
-        let both = has_both(self.fields());
+        let both = coded && self.fields().contains(b"Content-Length");
         if both {
             self.remove_header(b"Content-Length");
         }
         both
     }
 
-    /// The first fault of the request.
-    pub(crate) fn first_fault(&self) -> Option<HeadFault>
+    /// The first fault of the request. `coded` says whether Transfer-Encoding is there.
+    #[inline(always)]
+    pub(crate) fn first_fault(&self, coded: bool) -> Option<HeadFault>
+        requires { coded ≡ has_coding_line self.now.fields }
         ensures { result ≡ first_fault self.now }
     {
         if let Some(fault) = self.host_fault() {
@@ -62,7 +72,7 @@ impl RequestHeader {
         if let Some(fault) = length_fault(self.fields().content_length()) {
             return Some(fault);
         }
-        self.coding_fault()
+        self.coding_fault(coded)
     }
 
     fn host_fault(&self) -> Option<HeadFault>
@@ -78,10 +88,11 @@ impl RequestHeader {
         .err()
     }
 
-    fn coding_fault(&self) -> Option<HeadFault>
+    fn coding_fault(&self, coded: bool) -> Option<HeadFault>
+        requires { coded ≡ has_coding_line self.now.fields }
         ensures { result ≡ coding_fault self.now }
     {
-        if !self.fields().has_transfer_encoding() {
+        if !coded {
             None
         } else if is_http_10(self.version()) {
             Some(HeadFault::CodingOn10)
@@ -91,13 +102,6 @@ impl RequestHeader {
             Some(HeadFault::FinalCodingNotChunked)
         }
     }
-}
-
-/// Whether Transfer-Encoding and Content-Length are both there.
-fn has_both(fields: &Fields) -> bool
-    ensures { result ≡ has_both fields.now }
-{
-    fields.has_transfer_encoding() && fields.contains(b"Content-Length")
 }
 
 /// The Host lines.

@@ -1,12 +1,13 @@
 //! The head of a request by the grammar (RFC 9112, sections 2.2, 3 and 5).
-ghost use Rattle.std.specs.Prelude.{◌≡◌, length, map, All, IfOk, IsOkUnless, MatchOption};
+ghost use Rattle.std.specs.Prelude.{◌≡◌, ◌≤◌, length, map, All, IfOk, IsOkUnless, MatchOption};
 ghost use Rattle.httparse.specs.Spans.{IsHeaderWithin, header_bytes, IsRequestOf, IsRequestWithin};
 ghost use Rattle.h1_error.specs.Memory.{no_memory};
 ghost use Rattle.h1_head.specs.RequestGrammar.{HasNoHead, IsHead};
-ghost use Rattle.h1_head.specs.RequestSpans.{request_at};
+ghost use Rattle.h1_head.specs.RequestSpans.{IsFoundIn, request_at};
 
 use crate::RequestHeader;
 use crate::limits::MAX_HEADERS;
+use bytes::Bytes;
 use h1_error::Error;
 use h1_fields::Fields;
 use httparse::Status;
@@ -16,34 +17,60 @@ use std::alloc::Global;
 /// So many field lines most heads have at most.
 const FEW_HEADERS: usize = 16;
 
+/// Where the parts of a head lie, or why they are not found.
+enum Found {
+    Head(RequestSpans),
+    NoHead,
+    /// The head has more lines than there is room for.
+    NoRoom,
+}
+
 /// What the bytes say, if they are one head from their first byte to their last.
-pub(crate) fn parse_head(alloc: Global, bytes: &[u8]) -> Result<Option<RequestHeader>, Error>
+pub(crate) fn parse_head(alloc: Global, bytes: &Bytes) -> Result<Option<RequestHeader>, Error>
     ensures ok { IfOk result (λ found. MatchOption found (HasNoHead bytes.now) (IsHead bytes.now)) }
     ensures err { IsOkUnless result no_memory }
 {
     // To clear as many spans as a head may need costs more than a short head does, so a few are
     // tried first.
     let mut spans = [EMPTY_HEADER_SPAN; FEW_HEADERS];
-    match parse_request(bytes, &mut spans) {
-        Ok(Status::Complete(head)) if head.len == bytes.len() => {
-            Ok(Some(request_at(alloc, bytes, &spans, head)?))
-        }
-        _ => parse_long_head(alloc, bytes),
+    match find_head(bytes.as_slice(), &mut spans) {
+        Found::Head(head) => Ok(Some(request_at(alloc, bytes, &spans, head)?)),
+        Found::NoHead => Ok(None),
+        Found::NoRoom => parse_long_head(alloc, bytes),
     }
 }
 
-/// The same, with spans for as many field lines as a head may have.
+/// The same, with room for as many lines as a head may have.
 #[inline(never)]
-fn parse_long_head(alloc: Global, bytes: &[u8]) -> Result<Option<RequestHeader>, Error>
+fn parse_long_head(alloc: Global, bytes: &Bytes) -> Result<Option<RequestHeader>, Error>
     ensures ok { IfOk result (λ found. MatchOption found (HasNoHead bytes.now) (IsHead bytes.now)) }
     ensures err { IsOkUnless result no_memory }
 {
     let mut spans = [EMPTY_HEADER_SPAN; MAX_HEADERS];
-    match parse_request(bytes, &mut spans) {
-        Ok(Status::Complete(head)) if head.len == bytes.len() => {
-            Ok(Some(request_at(alloc, bytes, &spans, head)?))
+    match find_head(bytes.as_slice(), &mut spans) {
+        Found::Head(head) => Ok(Some(request_at(alloc, bytes, &spans, head)?)),
+        Found::NoHead => Ok(None),
+        Found::NoRoom => Ok(None),
+    }
+}
+
+/// Where the parts lie, if the bytes are one head, and the spans are room enough for its lines.
+#[inline(always)]
+fn find_head(bytes: &[u8], spans: &mut [HeaderSpan]) -> Found
+    requires { length spans.old ≤ MAX_HEADERS }
+    ensures { IsFoundIn bytes.now spans.new result }
+{
+    match parse_request(bytes, spans) {
+        Ok(Status::Complete(head)) => {
+            if head.len < bytes.len() {
+                Found::NoHead
+            } else {
+                Found::Head(head)
+            }
         }
-        _ => Ok(None),
+        Ok(Status::Partial) => Found::NoHead,
+        Err(httparse::Error::TooManyHeaders) => Found::NoRoom,
+        Err(_) => Found::NoHead,
     }
 }
 
@@ -51,7 +78,7 @@ fn parse_long_head(alloc: Global, bytes: &[u8]) -> Result<Option<RequestHeader>,
 #[inline(always)]
 fn request_at(
     alloc: Global,
-    bytes: &[u8],
+    bytes: &Bytes,
     spans: &[HeaderSpan],
     head: RequestSpans,
 ) -> Result<RequestHeader, Error>
@@ -60,9 +87,10 @@ fn request_at(
     ensures ok { IfOk result (λ header. header ≡ request_at bytes.now spans.now head) }
     ensures err { IsOkUnless result no_memory }
 {
-    let fields = fields_at(alloc, bytes, &spans[..head.headers])?;
-    let method = head.method.of(bytes);
-    let target = head.path.of(bytes);
+    let text = bytes.as_slice();
+    let fields = fields_at(alloc, text, &spans[..head.headers])?;
+    let method = head.method.of(text);
+    let target = bytes.slice(head.path.start..head.path.end)?;
     RequestHeader::from_read(alloc, method, target, head.version, fields)
 }
 
@@ -73,7 +101,7 @@ fn fields_at(alloc: Global, bytes: &[u8], spans: &[HeaderSpan]) -> Result<Fields
     ensures ok { IfOk result (λ fields. fields ≡ map (header_bytes bytes.now) spans.now) }
     ensures err { IsOkUnless result no_memory }
 {
-    let mut fields = Fields::new(alloc);
+    let mut fields = Fields::with_capacity(alloc, spans.len())?;
     for span in spans {
         fields.append(span.name.of(bytes), span.value.of(bytes))?;
     }

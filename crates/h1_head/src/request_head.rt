@@ -2,12 +2,12 @@
 //!
 //! What came so far goes in, and what is known of the head comes out. The answer depends on nothing
 //! but these bytes, and an accepted or refused head stays so whatever comes after it.
-ghost use Rattle.std.specs.Prelude.{IfOk, IsOkUnless, MatchOption};
+ghost use Rattle.std.specs.Prelude.{IfOk, IsOkUnless};
 ghost use Rattle.h1_cut.specs.Search.{HasLooked};
 ghost use Rattle.h1_error.specs.Memory.{no_memory};
 ghost use Rattle.h1_head.specs.RequestHead.{IsStepOf};
-ghost use Rattle.h1_head.specs.RequestGrammar.{IsNoHead};
-ghost use Rattle.h1_head.specs.RequestVerdict.{IsSaidBy, IsSettlingOf, IsVerdictOn};
+ghost use Rattle.h1_head.specs.RequestGrammar.{HasNoHead, IsHead, IsReadAs};
+ghost use Rattle.h1_head.specs.RequestVerdict.{IsVerdictOn};
 
 use crate::RequestHeader;
 use crate::limits::MAX_HEADER_SIZE;
@@ -66,66 +66,50 @@ pub fn search_request_head(
         }
         return Ok(HeadStep::Refused(HeadFault::TooLong));
     };
-    match judge(alloc, &bytes[..len])? {
-        Verdict::Accepted(head) => Ok(HeadStep::Whole(head, len)),
-        Verdict::Refused(fault) => Ok(HeadStep::Refused(fault)),
-    }
+    judge(alloc, &bytes[..len])
 }
 
-/// What becomes of a whole head.
-#[derive(Drop)]
-enum Verdict {
-    Accepted(RequestHead),
-    Refused(HeadFault),
-}
-
+/// Accepts or refuses a whole head, or else its escape.
 #[inline(always)]
-fn judge(alloc: Global, head: &[u8]) -> Result<Verdict, Error>
+fn judge(alloc: Global, head: &[u8]) -> Result<HeadStep, Error>
     ensures ok { IfOk result (IsVerdictOn head.now) }
     ensures err { IsOkUnless result no_memory }
 {
-    match spell(alloc, head)? {
-        Some(spelled) => Ok(settle(spelled)),
-        None => Ok(Verdict::Refused(HeadFault::NotAHead)),
+    let raw = Bytes::copy_from_slice(alloc, head)?;
+    match parse_head(alloc, &raw)? {
+        Some(header) => Ok(settle(header, raw, head)),
+        None => judge_escape(alloc, head),
     }
 }
 
-/// What a head says, and the bytes in which it says so.
-#[derive(Drop)]
-struct Spelled {
-    header: RequestHeader,
-    raw: Bytes,
-}
-
-/// Parses the head, or else its escape.
-#[inline(always)]
-fn spell(alloc: Global, head: &[u8]) -> Result<Option<Spelled>, Error>
-    ensures ok { IfOk result (λ found. MatchOption found (IsNoHead head.now) (IsSaidBy head.now)) }
+/// The same of the escape of a head that isn't one itself.
+#[inline(never)]
+fn judge_escape(alloc: Global, head: &[u8]) -> Result<HeadStep, Error>
+    requires { HasNoHead head.now }
+    ensures ok { IfOk result (IsVerdictOn head.now) }
     ensures err { IsOkUnless result no_memory }
 {
-    if let Some(header) = parse_head(alloc, head)? {
-        let raw = Bytes::copy_from_slice(alloc, head)?;
-        return Ok(Some(Spelled { header, raw }));
-    }
     let Some(escaped) = escape_head(alloc, head)? else {
-        return Ok(None);
-    };
-    let Some(header) = parse_head(alloc, escaped.as_slice())? else {
-        return Ok(None);
+        return Ok(HeadStep::Refused(HeadFault::NotAHead));
     };
     let raw = Bytes::from_vec(escaped)?;
-    Ok(Some(Spelled { header, raw }))
+    match parse_head(alloc, &raw)? {
+        Some(header) => Ok(settle(header, raw, head)),
+        None => Ok(HeadStep::Refused(HeadFault::NotAHead)),
+    }
 }
 
-/// Drops Content-Length lines beside Transfer-Encoding, and judges what is left.
+/// Drops Content-Length lines beside Transfer-Encoding, and judges what is left. The header is what
+/// `raw` says, which is read in the place of the head.
 #[inline(always)]
-fn settle(spelled: Spelled) -> Verdict
-    ensures { IsSettlingOf spelled result }
+fn settle(mut header: RequestHeader, raw: Bytes, head: &[u8]) -> HeadStep
+    requires { IsReadAs head.now raw × IsHead raw header }
+    ensures { IsVerdictOn head.now result }
 {
-    let Spelled { mut header, raw } = spelled;
-    let both = header.settle_length();
-    match header.first_fault() {
-        Some(fault) => Verdict::Refused(fault),
-        None => Verdict::Accepted(RequestHead { header, both, raw }),
+    let coded = header.fields().has_transfer_encoding();
+    let both = header.settle_length(coded);
+    match header.first_fault(coded) {
+        Some(fault) => HeadStep::Refused(fault),
+        None => HeadStep::Whole(RequestHead { header, both, raw }, head.len()),
     }
 }
