@@ -13,3 +13,4 @@ pub mod TrailerFronts
 pub mod TrailerRuns
 pub mod WireLemmas
 pub mod WrittenLemmas
+pub mod TakeLemmas

@@ -1,11 +1,13 @@
 pub mod Body
+pub mod BodyBytes
 pub mod ChunkedBody
 pub mod Chunks
 pub mod Feeds
 pub mod Fixed
+pub mod Framing
 pub mod Laws
 pub mod Read
 pub mod Reader
+pub mod Takes
 pub mod Writer
 pub mod Written
-pub mod Framing

@@ -4,22 +4,33 @@ ghost use Rattle.h1_error.specs.Memory.{no_memory};
 ghost use Rattle.std.specs.Cmp.Lexicographic.{pointwise, nat_list_eq_equiv};
 ghost use Rattle.std.specs.Cmp.{partial_equiv_from_equiv};
 
-use h1_error::Error;
+use bytes::Bytes;
+use h1_error::{Error, ErrorType};
 use std::alloc::Global;
 use std::marker::Model;
+use std::mem;
 
 /// Bytes that grow at their end. Contracts see the list of them.
 #[derive(Debug, Drop)]
 pub struct BodyBytes {
-    bytes: Vec<u8>,
+    held: Held,
+}
+
+/// The block in which the bytes stand.
+#[derive(Debug, Drop)]
+enum Held {
+    Own(Vec<u8>),
+    /// Others may hold it too, so no byte of it changes.
+    Shared(Global, Bytes),
 }
 
 impl Model for BodyBytes {
     ghost use Rattle.std.specs.Prelude.{ℕ, List};
+    ghost use Rattle.h1_body.specs.BodyBytes.{held_bytes};
 
     ghost Value = { List ℕ };
 
-    ghost view = { λ kept. kept.bytes.items };
+    ghost view = { λ kept. held_bytes kept.held };
 }
 
 impl BodyBytes {
@@ -28,7 +39,7 @@ impl BodyBytes {
         ensures { result ≡ [] }
     {
         BodyBytes {
-            bytes: Vec::new(alloc),
+            held: Held::Own(Vec::new(alloc)),
         }
     }
 
@@ -37,8 +48,10 @@ impl BodyBytes {
         ensures ok { IfOk result (λ kept. kept ≡ []) }
         ensures err { IfErr result (λ error. error ≡ no_memory) }
     {
-        let bytes = Vec::with_capacity(alloc, capacity)?;
-        Ok(BodyBytes { bytes })
+        let own = Vec::with_capacity(alloc, capacity)?;
+        Ok(BodyBytes {
+            held: Held::Own(own),
+        })
     }
 
     /// A copy of these bytes.
@@ -46,43 +59,110 @@ impl BodyBytes {
         ensures ok { IfOk result (λ kept. kept ≡ bytes.now) }
         ensures err { IfErr result (λ error. error ≡ no_memory) }
     {
-        let bytes = Vec::from_slice(alloc, bytes)?;
-        Ok(BodyBytes { bytes })
+        let own = Vec::from_slice(alloc, bytes)?;
+        Ok(BodyBytes {
+            held: Held::Own(own),
+        })
     }
 
-    /// Adds these bytes at the end.
+    /// These bytes, of which none is copied.
+    pub fn from_shared(alloc: Global, bytes: Bytes) -> Self
+        ensures { result ≡ bytes }
+    {
+        BodyBytes {
+            held: Held::Shared(alloc, bytes),
+        }
+    }
+
+    /// The bytes to be held by others too, of which none is copied.
+    #[inline(always)]
+    pub fn share(&mut self) -> Result<Bytes, Error>
+        ensures ok { IfOk result (λ shared. shared ≡ self.old) }
+        ensures err { IfErr result (λ error. error ≡ no_memory) }
+        ensures kept { self.new ≡ self.old }
+    {
+        match &mut self.held {
+            Held::Shared(_, bytes) => Ok(bytes.clone()?),
+            Held::Own(own) => {
+                let alloc = *own.allocator();
+                match Bytes::from_vec(mem::replace(own, Vec::new(alloc))) {
+                    Ok(bytes) => {
+                        let shared: Result<_, _> = bytes.clone();
+                        self.held = Held::Shared(alloc, bytes);
+                        Ok(shared?)
+                    }
+                    Err(failed) => {
+                        *own = failed.value;
+                        Err(Error::from(ErrorType::NoMemory))
+                    }
+                }
+            }
+        }
+    }
+
+    /// Adds these bytes at the end. Bytes that others hold too are copied first.
+    #[inline(always)]
     pub fn append(&mut self, bytes: &[u8]) -> Result<(), Error>
         ensures ok { OnOk result (self.new ≡ self.old ++ bytes.now) }
         ensures err { IfErr result (λ error. (error ≡ no_memory) × (self.new ≡ self.old)) }
     {
-        self.bytes.extend_from_slice(bytes)?;
-        Ok(())
+        match &mut self.held {
+            Held::Own(own) => {
+                own.extend_from_slice(bytes)?;
+                Ok(())
+            }
+            Held::Shared(alloc, shared) => {
+                let own = joined(*alloc, shared.as_slice(), bytes)?;
+                self.held = Held::Own(own);
+                Ok(())
+            }
+        }
     }
 
-    /// Drops all bytes, and keeps the memory.
+    /// Drops all bytes. Memory that no one else holds is kept.
     pub fn clear(&mut self)
         ensures { self.new ≡ [] }
     {
-        self.bytes.clear();
+        match &mut self.held {
+            Held::Own(own) => own.clear(),
+            Held::Shared(alloc, _) => self.held = Held::Own(Vec::new(*alloc)),
+        }
     }
 
+    #[inline(always)]
     pub fn as_slice(&self) -> &[u8]
         ensures { result.now ≡ self.now }
     {
-        self.bytes.as_slice()
+        match &self.held {
+            Held::Own(own) => own.as_slice(),
+            Held::Shared(_, shared) => shared.as_slice(),
+        }
     }
 
     pub fn len(&self) -> usize
         ensures { result ≡ length self.now }
     {
-        self.bytes.len()
+        self.as_slice().len()
     }
 
     pub fn is_empty(&self) -> bool
         ensures { result ≡ (length self.now == 0) }
     {
-        self.bytes.is_empty()
+        self.as_slice().is_empty()
     }
+}
+
+/// A block of its own with the bytes of both.
+#[cold]
+#[inline(never)]
+fn joined(alloc: Global, front: &[u8], back: &[u8]) -> Result<Vec<u8>, Error>
+    ensures ok { IfOk result (λ own. own.items ≡ front.now ++ back.now) }
+    ensures err { IfErr result (λ error. error ≡ no_memory) }
+{
+    let mut own = Vec::with_capacity(alloc, front.len().saturating_add(back.len()))?;
+    own.extend_from_slice(front)?;
+    own.extend_from_slice(back)?;
+    Ok(own)
 }
 
 impl PartialEq for BodyBytes {

@@ -2,6 +2,7 @@
 ghost use Rattle.std.specs.Prelude.{◌≡◌};
 ghost use Rattle.h1_body.specs.Feeds.{fed_of};
 
+use bytes::Bytes;
 use std::ops::Range;
 
 /// What one call of a reader made of a piece of bytes.
@@ -26,6 +27,15 @@ impl Fed {
             state,
         }
     }
+}
+
+/// What was taken of a body out of received bytes.
+#[derive(Debug, Drop)]
+pub struct Taken {
+    /// The payload, or None where no byte of it came.
+    pub payload: Option<Bytes>,
+    /// The state of all bytes used so far.
+    pub state: FeedState,
 }
 
 /// How far a body has come.

@@ -1,15 +1,18 @@
 //! Reading a body from pieces of any size (RFC 9112, sections 6 and 7.1).
-ghost use Rattle.std.specs.Prelude.{◌≡◌, ◌++◌, ℕ, List, [], true, false, slice_range, IfOk, IfErr};
+ghost use Rattle.std.specs.Prelude.{◌≡◌, ◌≤◌, ◌++◌, ℕ, List, [], length, drop, true, false, slice_range, IfOk, IfErr};
 ghost use Rattle.h1_error.specs.Memory.{no_memory};
 ghost use Rattle.h1_body.specs.Body.{stop_of, whole, unfinished};
 ghost use Rattle.h1_body.specs.Chunks.{chunked};
 ghost use Rattle.h1_body.specs.Reader.{body, counted, reads, closes_with_link, is_until_close};
 ghost use Rattle.h1_body.specs.Feeds.{Feeds};
+ghost use Rattle.h1_body.specs.Takes.{Takes, some_bytes, payload_bytes};
 ghost use Rattle.h1_body.specs.declared.fed.FeedState.TheVariants as state;
 
 use crate::chunking::{Chunking, state_of, step};
-use crate::{BodyBytes, Fed, FeedState, Framing};
+use crate::{BodyBytes, Fed, FeedState, Framing, Taken};
+use bytes::{Bytes, BytesMut};
 use h1_error::Error;
+use std::alloc::Global;
 
 /// Reads the payload out of the bytes of one body.
 #[derive(Clone, Copy, Debug, PartialEq, Eq)]
@@ -92,6 +95,51 @@ impl BodyReader {
         Ok(fed)
     }
 
+    /// Takes the first run of payload out of the front of received bytes, with the bytes of the
+    /// body before it. No byte is copied: the payload keeps the block alive that it was received
+    /// in.
+    pub fn take(&mut self, buf: &mut BytesMut) -> Result<Taken, Error>
+        ensures ok { IfOk result
+            (λ taken. Takes self.old self.new buf.old.items buf.new.items taken) }
+        ensures err { IfErr result (λ error. (error ≡ no_memory)
+            × (self.new ≡ self.old) × (buf.new ≡ buf.old)) }
+        ensures closes { closes_with_link self.new ≡ closes_with_link self.old }
+    {
+        let mut behind = *self;
+        let fed = behind.feed(buf.as_slice());
+        let payload = cut(buf, fed.payload.start, fed.payload.end)?;
+        *self = behind;
+        Ok(Taken {
+            payload,
+            state: fed.state,
+        })
+    }
+
+    /// Takes as `take` does, and adds the payload to what is kept. Payload behind what is kept
+    /// already is copied.
+    pub fn take_into(
+        &mut self,
+        alloc: Global,
+        buf: &mut BytesMut,
+        kept: &mut BodyBytes,
+    ) -> Result<Taken, Error>
+        ensures ok { IfOk result
+            (λ taken. Takes self.old self.new buf.old.items buf.new.items taken
+            × (kept.new ≡ kept.old ++ payload_bytes taken.payload)) }
+        ensures err { IfErr result (λ error. (error ≡ no_memory)
+            × (self.new ≡ self.old) × (buf.new ≡ buf.old) × (kept.new ≡ kept.old)) }
+        ensures closes { closes_with_link self.new ≡ closes_with_link self.old }
+    {
+        let mut after = *self;
+        let fed = after.feed(buf.as_slice());
+        let payload = keep(alloc, buf, fed.payload.start, fed.payload.end, kept)?;
+        *self = after;
+        Ok(Taken {
+            payload,
+            state: fed.state,
+        })
+    }
+
     /// Says what the end of the link makes of the body: `More` means that the body is cut.
     pub fn ended(&mut self) -> FeedState
         ensures closed { closes_with_link self.old ≡ true
@@ -105,6 +153,57 @@ impl BodyReader {
         }
         self.state()
     }
+}
+
+/// Takes the bytes through this end out of the buffer, and hands out those from the start on.
+fn cut(buf: &mut BytesMut, start: usize, end: usize) -> Result<Option<Bytes>, Error>
+    requires ordered { start ≤ end }
+    requires within { end ≤ length buf.old.items }
+    ensures ok { IfOk result (λ piece. (piece ≡ some_bytes (slice_range buf.old.items start end))
+        × (buf.new.items ≡ drop end buf.old.items)) }
+    ensures err { IfErr result (λ error. (error ≡ no_memory) × (buf.new ≡ buf.old)) }
+{
+    if start == end {
+        buf.advance(end);
+        return Ok(None);
+    }
+    let mut piece = buf.freeze_to(end)?;
+    piece.advance(start);
+    Ok(Some(piece))
+}
+
+/// Cuts, and adds what is handed out to what is kept. All that may fail stands before the first
+/// change, and an empty store takes a block of its own, which is put in place last.
+fn keep(
+    alloc: Global,
+    buf: &mut BytesMut,
+    start: usize,
+    end: usize,
+    kept: &mut BodyBytes,
+) -> Result<Option<Bytes>, Error>
+    requires ordered { start ≤ end }
+    requires within { end ≤ length buf.old.items }
+    ensures ok { IfOk result (λ piece. (piece ≡ some_bytes (slice_range buf.old.items start end))
+        × (buf.new.items ≡ drop end buf.old.items)
+        × (kept.new ≡ kept.old ++ slice_range buf.old.items start end)) }
+    ensures err { IfErr result (λ error. (error ≡ no_memory) × (buf.new ≡ buf.old)
+        × (kept.new ≡ kept.old)) }
+{
+    if start == end {
+        buf.advance(end);
+        return Ok(None);
+    }
+    let payload = &buf.as_slice()[start..end];
+    if kept.is_empty() {
+        let first = BodyBytes::from_slice(alloc, payload)?;
+        let piece = cut(buf, start, end)?;
+        *kept = first;
+        return Ok(piece);
+    }
+    let piece = Bytes::copy_from_slice(alloc, payload)?;
+    kept.append(payload)?;
+    buf.advance(end);
+    Ok(Some(piece))
 }
 
 fn feed_counted(left: u64, piece: &[u8]) -> (u64, Fed)

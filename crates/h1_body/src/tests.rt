@@ -1,6 +1,6 @@
 //! Outside examples of bodies (RFC 9112, sections 6 and 7.1).
 use crate::{BodyBytes, BodyReader, BodyWriter, FeedState, FixedBuffer, Framing, Wire};
-use bytes::Bytes;
+use bytes::{Bytes, BytesMut};
 use h1_error::{Error, ErrorType};
 use std::alloc::Global;
 use std::test::Fail;
@@ -163,6 +163,48 @@ fn the_end_of_the_link_ends_only_a_body_that_runs_until_it(rt: HostRuntime) {
         let mut reader = BodyReader::new(framing);
         assert_eq!(rt; reader.ended(), state, "{framing:?}");
     }
+}
+
+#[test]
+fn received_bytes_lose_what_is_taken_of_a_body(rt: HostRuntime) -> Result<(), Fail> {
+    let mut buf = BytesMut::copy_from_slice(rt.alloc(), b"3\r\nabc\r\n0\r\n\r\nGET")?;
+    let mut reader = BodyReader::new(CHUNKED);
+    let taken = reader.take(&mut buf)?;
+    assert_eq!(rt; taken.payload, Some(Bytes::from_static(b"abc")));
+    assert_eq!(rt; taken.state, FeedState::More);
+    let taken = reader.take(&mut buf)?;
+    assert_eq!(rt; taken.payload, None);
+    assert_eq!(rt; taken.state, FeedState::Done);
+    assert_eq!(rt; buf.as_slice(), b"GET".as_slice());
+    Ok(())
+}
+
+fn bytes_of(payload: &Option<Bytes>) -> Option<&[u8]> {
+    match payload {
+        Some(bytes) => Some(bytes.as_slice()),
+        None => None,
+    }
+}
+
+#[test]
+fn all_payload_that_is_taken_is_kept(rt: HostRuntime) -> Result<(), Fail> {
+    let chunks = b"3\r\nabc\r\n2\r\nde\r\n0\r\n\r\nGET";
+    let mut buf = BytesMut::copy_from_slice(rt.alloc(), chunks)?;
+    let mut reader = BodyReader::new(CHUNKED);
+    let mut kept = BodyBytes::new(rt.alloc());
+    let expected: [(Option<&[u8]>, &[u8], FeedState); 3] = [
+        (Some(b"abc"), b"abc", FeedState::More),
+        (Some(b"de"), b"abcde", FeedState::More),
+        (None, b"abcde", FeedState::Done),
+    ];
+    for (piece, all, state) in expected {
+        let taken = reader.take_into(rt.alloc(), &mut buf, &mut kept)?;
+        assert_eq!(rt; bytes_of(&taken.payload), piece);
+        assert_eq!(rt; kept.as_slice(), all);
+        assert_eq!(rt; taken.state, state);
+    }
+    assert_eq!(rt; buf.as_slice(), b"GET".as_slice());
+    Ok(())
 }
 
 #[test]

@@ -1,0 +1,25 @@
+-- Taking payload out of received bytes (RFC 9112, section 6).
+use Rattle.std.specs.Prelude.{◌≡◌, List, ℕ, [], ◌∷◌, drop, Option, None, Some, slice_range}
+use Rattle.h1_body.specs.Feeds.{Feeds}
+use Rattle.h1_body.specs.Reader.{reads}
+use Rattle.h1_body.specs.declared.fed.Fed.{Fed}
+use Rattle.h1_body.specs.declared.fed.Taken.{Taken}
+use Rattle.h1_body.specs.declared.reader.BodyReader.{BodyReader}
+
+-- bytes, or None where there are none
+abbrev pub some_bytes : List ℕ → Option (List ℕ)
+some_bytes [] = None
+some_bytes (b ∷ bytes) = Some (b ∷ bytes)
+
+-- the bytes of a payload, which is None where there are none
+abbrev pub payload_bytes : Option (List ℕ) → List ℕ
+payload_bytes None = []
+payload_bytes (Some bytes) = bytes
+
+-- what the reader makes of the bytes is taken, and the bytes that it used leave the front
+pub record Takes (before behind : BodyReader) (old new : List ℕ) (taken : Taken) : Type 0 where
+  pub fed : Fed
+  pub feeds : Feeds (reads before) (reads behind) old fed
+  pub payload : taken.payload ≡ some_bytes (slice_range old fed.payload.start fed.payload.end)
+  pub state : taken.state ≡ fed.state
+  pub bytes : new ≡ drop fed.used old
