@@ -1,6 +1,6 @@
 -- Lemmas on reads of a part of a body, one after the other.
 use Rattle.std.proofs.Common.{◌≡◌, ℕ, ◌+◌, ◌-◌, ◌*◌, ◌<◌, ◌≤◌, inl, inr, List, [], ◌∷◌, ◌++◌, length, Option, Some, None, option_map, refl, sym, ap, ◌∙◌, append-nil, append_assoc, length-append, arith, Ok}
-use Rattle.h1_transfer.specs.Words.{LinkState, Body, whole, unfinished, broken, ahead, stop_of, FeedState, reads, BodyReader, Filled, Taken}
+use Rattle.h1_transfer.specs.Words.{LinkState, Body, whole, unfinished, broken, ahead, stop_of, FeedState, reads, BodyReader, Filled, TakeStep}
 use Rattle.std.proofs.lemmas.Bool.{cases_lt}
 use Rattle.std.proofs.Math.Seq.{take-nil}
 use Rattle.h1_body.specs.Body.{payload_of}
@@ -11,7 +11,7 @@ use Rattle.h1_body.specs.declared.reader.Reading.TheVariants as reading
 use Rattle.h1_body.proofs.CountedLemmas.{counted_has, counted_lacks}
 use Rattle.h1_body.specs.Reader.{read_as}
 use Rattle.h1_body.proofs.RunLemmas.{ahead-ahead, ahead_none}
-use Rattle.h1_transfer.proofs.Words.{ReadsBody, IsUnfinished, FillsBy, cost}
+use Rattle.h1_transfer.proofs.Words.{ReadsBody, IsUnfinished, FillsBy, Uses, cost}
 use Rattle.h1_transfer.specs.Decoding.{Decoded, Lacks}
 use Rattle.h1_transfer.specs.Taking.{TakesBody, taken_payload}
 use Rattle.h1_transfer.proofs.MovedLemmas.{moved_itself, moved_on}
@@ -19,7 +19,8 @@ use Rattle.h1_transfer.proofs.MovedLemmas.{moved_itself, moved_on}
 decoded_none : (reader : BodyReader) → Decoded reader reader [] []
 decoded_none reader = record { reads = λ more. sym (ahead_none (reads reader more)) }
 
-decoded_on : (r s t : BodyReader) (first second front later : List ℕ) → Decoded r s first front → Decoded s t second later
+decoded_on : (r s t : BodyReader) (first second front later : List ℕ) → Decoded r s first front
+    → Decoded s t second later
     → Decoded r t (first ++ second) (front ++ later)
 decoded_on r s t first second front later before behind = record {
   reads = λ more. ap (λ bytes. reads r bytes) (append_assoc first second more)
@@ -33,12 +34,23 @@ kept_none : (kept : Option (List ℕ)) → kept ≡ option_map (λ front. front 
 kept_none None = refl
 kept_none (Some front) = ap Some (sym (append-nil front))
 
+-- where nothing is used, nothing changes
+pub uses_nothing : (old : List ℕ) (reader : BodyReader) (kept : Option (List ℕ))
+    → Uses old old reader reader kept kept []
+uses_nothing old reader kept = record {
+  used = [];
+  bytes = refl;
+  decoded = decoded_none reader;
+  keeps_payload = kept_none kept;
+}
+
 kept_on : (a b c : Option (List ℕ)) (front later : List ℕ) → b ≡ option_map (λ bytes. bytes ++ front) a
     → c ≡ option_map (λ bytes. bytes ++ later) b → c ≡ option_map (λ bytes. bytes ++ (front ++ later)) a
 kept_on a b c front later first second =
     second ∙ ap (λ kept. option_map (λ bytes. bytes ++ later) kept) first ∙ kept_both a front later where
       kept_both : (a : Option (List ℕ)) (front later : List ℕ)
-          → option_map (λ bytes. bytes ++ later) (option_map (λ bytes. bytes ++ front) a) ≡ option_map (λ bytes. bytes ++ (front ++ later)) a
+          → option_map (λ bytes. bytes ++ later) (option_map (λ bytes. bytes ++ front) a)
+          ≡ option_map (λ bytes. bytes ++ (front ++ later)) a
       kept_both None front later = refl
       kept_both (Some bytes) front later = ap Some (append_assoc bytes front later)
 
@@ -62,7 +74,7 @@ reads_body_itself s received reader kept budget = record {
 
 -- nothing but received bytes is used next
 pub reads_body_took : {a b : LinkState} {x y z : List ℕ} {r s t : BodyReader}
-    {k l m : Option (List ℕ)} {budget left : ℕ} {taken which : Taken}
+    {k l m : Option (List ℕ)} {budget left : ℕ} {taken which : TakeStep}
     → ReadsBody a b x y r s k l budget left [] → taken ≡ which → TakesBody y z s t l m (Ok taken)
     → ReadsBody a b x z r t k m budget left (taken_payload which)
 reads_body_took {a} {b} {x} {y} {z} {r} {s} {t} {k} {l} {m} {budget} {left} {taken}
@@ -84,7 +96,8 @@ reads_body_took {a} {b} {x} {y} {z} {r} {s} {t} {k} {l} {m} {budget} {left} {tak
     }
 
 -- one read more, of which nothing is used yet
-pub reads_body_fills : (a b c : LinkState) (x y z : List ℕ) (r s : BodyReader) (k l : Option (List ℕ)) (budget left : ℕ) (filled : Filled)
+pub reads_body_fills : (a b c : LinkState) (x y z : List ℕ) (r s : BodyReader)
+    (k l : Option (List ℕ)) (budget left : ℕ) (filled : Filled)
     → ReadsBody a b x y r s k l budget left [] → FillsBy b c y z filled → cost filled ≤ left
     → ReadsBody a c x z r s k l budget (left - cost filled) []
 reads_body_fills a b c x y z r s k l budget left filled before fills spend = record {
@@ -101,7 +114,8 @@ reads_body_fills a b c x y z r s k l budget left filled before fills spend = rec
 }
 
 -- a read that costs nothing
-pub reads_body_free : (a b c : LinkState) (x y z : List ℕ) (r s : BodyReader) (k l : Option (List ℕ)) (budget left : ℕ) (filled : Filled)
+pub reads_body_free : (a b c : LinkState) (x y z : List ℕ) (r s : BodyReader)
+    (k l : Option (List ℕ)) (budget left : ℕ) (filled : Filled)
     → cost filled ≡ 0 → ReadsBody a b x y r s k l budget left [] → FillsBy b c y z filled
     → ReadsBody a c x z r s k l budget left []
 reads_body_free a b c x y z r s k l budget left filled free before fills =
@@ -114,12 +128,15 @@ pub parsed_first : (a b : LinkState) (x y : List ℕ) (r t : BodyReader) (k l : 
     → ReadsBody a b x y r t k l budget left [] → budget ≤ left → Lacks t y → reads r x ≡ unfinished []
 parsed_first a b x y r t k l budget left read none lacks =
     let nothing : read.piece ≡ [] = (read.moved.free (omega (arith, none))).0 in
-    let all : x ≡ read.used ++ [] = sym (append-nil x) ∙ ap (λ p. x ++ p) (sym nothing) ∙ read.bytes ∙ ap (λ p. read.used ++ p) lacks.0 in
+    let all : x ≡ read.used ++ [] = sym (append-nil x) ∙ ap (λ p. x ++ p) (sym nothing)
+    ∙ read.bytes ∙ ap (λ p. read.used ++ p) lacks.0 in
     ap (reads r) all ∙ read.decoded.reads [] ∙ ap (ahead [] (length read.used)) lacks.1
 
 -- payload that was read and more after it is a part of a body, where the rest is
-pub parsed_later : (a b : LinkState) (x y : List ℕ) (r t : BodyReader) (k l : Option (List ℕ)) (budget left : ℕ) (payload : List ℕ)
-    → ReadsBody a b x y r t k l budget left payload → budget ≤ left → IsUnfinished (reads t y) → IsUnfinished (reads r x)
+pub parsed_later : (a b : LinkState) (x y : List ℕ) (r t : BodyReader) (k l : Option (List ℕ))
+    (budget left : ℕ) (payload : List ℕ)
+    → ReadsBody a b x y r t k l budget left payload → budget ≤ left → IsUnfinished (reads t y)
+    → IsUnfinished (reads r x)
 parsed_later a b x y r t k l budget left payload read none rest =
     let nothing : read.piece ≡ [] = (read.moved.free (omega (arith, none))).0 in
     let all : x ≡ read.used ++ y = sym (append-nil x) ∙ ap (λ p. x ++ p) (sym nothing) ∙ read.bytes in
@@ -135,7 +152,8 @@ pub unfinished_is : (b : Body) → b ≡ unfinished [] → IsUnfinished b
 unfinished_is b is = rw is tt
 
 -- what was received was a part of a body where a reading, or one after it, read more
-pub parsed_behind : (a b : LinkState) (x y : List ℕ) (r s : BodyReader) (k l : Option (List ℕ)) (budget between left : ℕ) (payload : List ℕ)
+pub parsed_behind : (a b : LinkState) (x y : List ℕ) (r s : BodyReader) (k l : Option (List ℕ))
+    (budget between left : ℕ) (payload : List ℕ)
     → ReadsBody a b x y r s k l budget between payload → (between < budget → IsUnfinished (reads r x))
     → (left < between → reads s y ≡ unfinished []) → left < budget → IsUnfinished (reads r x)
 parsed_behind a b x y r s k l budget between left payload read before after less = elim (cases_lt between budget) [
@@ -145,13 +163,15 @@ parsed_behind a b x y r s k l budget between left payload read before after less
 ]
 
 -- one reading after another
-pub reads_body_on : (a b c : LinkState) (x y z : List ℕ) (r s t : BodyReader) (k l m : Option (List ℕ)) (budget between left : ℕ) (payload later : List ℕ)
+pub reads_body_on : (a b c : LinkState) (x y z : List ℕ) (r s t : BodyReader)
+    (k l m : Option (List ℕ)) (budget between left : ℕ) (payload later : List ℕ)
     → ReadsBody a b x y r s k l budget between payload → ReadsBody b c y z s t l m between left later
     → ReadsBody a c x z r t k m budget left (payload ++ later)
 reads_body_on a b c x y z r s t k l m budget between left payload later first second = record {
   piece = first.piece ++ second.piece;
   used = first.used ++ second.used;
-  moved = let spent : budget - left ≡ (budget - between) + (between - left) = omega (arith, first.within, second.within) in
+  moved = let spent : budget - left ≡ (budget - between) + (between - left) =
+      omega (arith, first.within, second.within) in
       rw spent (moved_on a b c first.piece second.piece [] [] _ _ first.moved second.moved);
   within = omega (arith, first.within, second.within);
   flushed = second.flushed ∙ first.flushed;
@@ -184,12 +204,14 @@ uses_some : (r s : BodyReader) (used payload : List ℕ) → Decoded r s used pa
 uses_some r s [] payload d some =
     let same : [] ≡ payload ++ payload_of (reads s []) =
     sym (nothing_read r.reading) ∙ ap payload_of (d.reads []) ∙ payload_ahead payload 0 (reads s []) in
-    let long : 0 ≡ length payload + length (payload_of (reads s [])) = ap length same ∙ length-append payload (payload_of (reads s [])) in
+    let long : 0 ≡ length payload + length (payload_of (reads s [])) =
+    ap length same ∙ length-append payload (payload_of (reads s [])) in
     absurd (omega (arith, long, some))
 uses_some r s (b ∷ used) payload d some = omega arith
 
 -- a read that gave payload spent budget, or used what was received
-pub drains_less : (a b : LinkState) (x y : List ℕ) (r s : BodyReader) (k l : Option (List ℕ)) (budget left : ℕ) (payload : List ℕ)
+pub drains_less : (a b : LinkState) (x y : List ℕ) (r s : BodyReader) (k l : Option (List ℕ))
+    (budget left : ℕ) (payload : List ℕ)
     → ReadsBody a b x y r s k l budget left payload → 0 < length payload → length y < 9223372036854775808
     → left * 9223372036854775808 + length y < budget * 9223372036854775808 + length x
 drains_less a b x y r s k l budget left payload read some bound = elim (cases_lt left budget) [

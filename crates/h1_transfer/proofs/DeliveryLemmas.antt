@@ -16,11 +16,18 @@ pub record Delivered (old new : Outgoing) : Type 0 where
 
 -- a message of which no more than these parts changed
 delivered_parts : (old new : Outgoing) (owed : List ℕ) (step : Step) (refused : Option Error)
-    → new ≡ record old { owed = owed; sent = sent_after old.sent old.owed owed; step = step; refused = refused } → Delivered old new
+    → new ≡ record old {
+      owed = owed;
+      sent = sent_after old.sent old.owed owed;
+      step = step;
+      refused = refused;
+    }
+    → Delivered old new
 delivered_parts old new owed step refused is = record {
   headed = ap (λ (r : Outgoing). r.headed) is;
   writer = ap (λ (r : Outgoing). r.writer) is;
-  counted = ap (λ (r : Outgoing). r.sent) is ∙ ap (λ owed. sent_after old.sent old.owed owed) (sym (ap (λ (r : Outgoing). r.owed) is));
+  counted = ap (λ (r : Outgoing). r.sent) is
+      ∙ ap (λ owed. sent_after old.sent old.owed owed) (sym (ap (λ (r : Outgoing). r.owed) is));
 }
 
 delivered_refused : (before now : LinkState) (old new : Outgoing) (error : Error) (what : ErrorType)
@@ -29,7 +36,8 @@ delivered_refused before now old new error kind.WriteError h = delivered_parts o
 delivered_refused before now old new error kind.NoMemory h = delivered_parts old new _ _ _ h.0
 delivered_refused before now old new error _ h = absurd h
 
-pub delivered : (how : Delivery) (before now : LinkState) (old new : Outgoing) (left : ℕ) (outcome : Poll (Result (Unit {0}) Error))
+pub delivered : (how : Delivery) (before now : LinkState) (old new : Outgoing) (left : ℕ)
+    (outcome : Poll (Result (Unit {0}) Error))
     → DeliveryAnswer how before now old new left outcome → Delivered old new
 delivered how before now old new left (Ready (Ok done)) h = delivered_parts old new _ _ _ h.0
 delivered how before now old new left Pending h = delivered_parts old new _ _ _ h.0
@@ -60,7 +68,8 @@ succeeds old new sent none is = record {
   refused = ap (λ (r : Outgoing). r.refused) is ∙ none;
 }
 
-pub piece_answer : (before now : LinkState) (old new : Outgoing) (count : Option ℕ) (left : ℕ) (outcome : Poll (Result (Unit {0}) Error))
+pub piece_answer : (before now : LinkState) (old new : Outgoing) (count : Option ℕ) (left : ℕ)
+    (outcome : Poll (Result (Unit {0}) Error))
     → old.step ≡ Piece count → old.refused ≡ None → DeliveryAnswer delivery.Sent before now old new left outcome
     → PieceAnswer before now new count left (with_count outcome count)
 piece_answer before now old new count left (Ready (Ok done)) at none h = (succeeds old new _ none h.0, refl)
@@ -75,7 +84,8 @@ piece_answer before now old new count left Pending at none h = (
 piece_answer before now old new count left (Ready (Err error)) at none h =
     (refused_at before now old new (Piece count) error error.kind at none h.0, h.1)
 
-pub end_answer : (before now : LinkState) (first old new : Outgoing) (written left : ℕ) (outcome : Poll (Result (Unit {0}) Error))
+pub end_answer : (before now : LinkState) (first old new : Outgoing) (written left : ℕ)
+    (outcome : Poll (Result (Unit {0}) Error))
     → written ≡ first.writer.written → old.step ≡ Finish → old.refused ≡ None
     → DeliveryAnswer delivery.Flushed before now old new left outcome
     → EndAnswer before now first new left (with_count outcome (Some written))

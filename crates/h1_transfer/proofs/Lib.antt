@@ -1,5 +1,6 @@
 pub mod CalledLemmas
 pub mod MovedLemmas
+pub mod FillLemmas
 pub mod TakeLemmas
 pub mod BodyLemmas
 pub mod OptionLemmas

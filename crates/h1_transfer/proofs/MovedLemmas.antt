@@ -105,7 +105,8 @@ sent_one s owed front n budget is some within spend = record {
 pub front_len : (owed front : List ℕ) (n : ℕ) → front ≡ take (length front) owed → n ≤ length front
     → n ≤ length owed
 front_len owed front n is within =
-    let len : length front ≡ min (length front) (length owed) = ap (λ bytes. length bytes) is ∙ length-take (length front) owed in
+    let len : length front ≡ min (length front) (length owed) =
+    ap (λ bytes. length bytes) is ∙ length-take (length front) owed in
     omega arith
 
 -- what one write more counts

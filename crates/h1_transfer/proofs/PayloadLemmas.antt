@@ -21,17 +21,33 @@ part_answer state old new mid (b.Stopped s.Done) left result none waits is h = r
     (refl, h.0, ap (λ x. x.refused) is.0 ∙ none, record { waits = ap (λ x. x.waits) is.0 ∙ waits; link_waits = h.1 })
 part_answer state old new mid (b.Stopped s.Broken) left result none waits is h = rw is.1
     (refl, ap (λ x. x.refused) is.0, h.0, record { waits = ap (λ x. x.waits) is.0 ∙ waits; link_waits = h.1 }, refl)
-part_answer state old new mid (b.Stopped s.Cut) left result none waits is h = rw is.1
-    (refl, ap (λ x. x.refused) is.0, (h.0, h.1), record { waits = ap (λ x. x.waits) is.0 ∙ waits; link_waits = h.2 }, refl)
+part_answer state old new mid (b.Stopped s.Cut) left result none waits is h = rw is.1 (
+  refl,
+  ap (λ x. x.refused) is.0,
+  (h.0, h.1),
+  record { waits = ap (λ x. x.waits) is.0 ∙ waits; link_waits = h.2 },
+  refl,
+)
 part_answer state old new mid (b.Stopped s.NotReady) left result none waits is h = rw is.1
     (refl, h.1, ap (λ x. x.refused) is.0 ∙ none, ap (λ x. x.waits) is.0, inl h.0)
 part_answer state old new mid (b.Stopped s.Spent) left result none waits is h = rw is.1
     (refl, h.1, ap (λ x. x.refused) is.0 ∙ none, ap (λ x. x.waits) is.0, inr h.0)
-part_answer state old new mid (b.Stopped s.Failed) left result none waits is h = rw is.1
-    (refl, ap (λ x. x.refused) is.0, (h.0, h.1), record { waits = ap (λ x. x.waits) is.0 ∙ waits; link_waits = h.2 }, refl)
+part_answer state old new mid (b.Stopped s.Failed) left result none waits is h = rw is.1 (
+  refl,
+  ap (λ x. x.refused) is.0,
+  (h.0, h.1),
+  record { waits = ap (λ x. x.waits) is.0 ∙ waits; link_waits = h.2 },
+  refl,
+)
 part_answer state old new mid (b.Stopped s.NoMemory) left result none waits is h =
     let kept = ap (λ kept. option_map (λ _. error_of NoMemory) kept) (sym (ap (λ x. x.kept) is.0)) in
-    rw is.1 (refl, ap (λ x. x.refused) is.0 ∙ kept, tt, record { waits = ap (λ x. x.waits) is.0 ∙ waits; link_waits = h }, refl)
+    rw is.1 (
+      refl,
+      ap (λ x. x.refused) is.0 ∙ kept,
+      tt,
+      record { waits = ap (λ x. x.waits) is.0 ∙ waits; link_waits = h },
+      refl,
+    )
 
 -- a call that read a part of the body
 pub payload_read : {L : Type 0} (state : L → LinkState) (old new : TransferView L) (mid : BodyState)
@@ -118,7 +134,13 @@ rest_read state old new mid payload stop left result none from keeps is parsed r
       parsed = parsed;
       reads = rw (reader, ap (λ x. x.kept) keeps) read_so;
       budget = budget;
-      rest = rest ∙ ap (λ w. record old { link = new.link; received = new.received; budget = new.budget; body = record new.body { waits = w } }) waits;
+      rest = rest
+          ∙ ap (λ w. record old {
+            link = new.link;
+            received = new.received;
+            budget = new.budget;
+            body = record new.body { waits = w };
+          }) waits;
       few = few;
       answer = rest_answer state old new mid stop left result (ap (λ x. x.refused) from ∙ none) is
           (rw reader cause);

@@ -14,13 +14,15 @@ use Rattle.h1_transfer.specs.declared.delivering.Delivery.TheVariants as deliver
 use Rattle.h1_transfer.proofs.DeliveryLemmas.{Delivered, delivered, counted_sent, piece_answer, end_answer}
 
 -- a session of which one call wrote
-pub record WroteTaken {L : Type 0} (state : L → LinkState) (old new : TransferView L) (taken : Outgoing) (left : ℕ) : Type 0 where
+pub record WroteTaken {L : Type 0} (state : L → LinkState) (old new : TransferView L)
+    (taken : Outgoing) (left : ℕ) : Type 0 where
   pub sent : Sent (state old.link) (state new.link) taken.owed new.outgoing.owed (allowance old.budget) left
   pub budget : new.budget ≡ option_map (λ _. left) old.budget
   -- all else stays
   pub rest : new ≡ record old { link = new.link; outgoing = new.outgoing; budget = new.budget }
 
-pub writes : {L : Type 0} (state : L → LinkState) (old new : TransferView L) (taken : Outgoing) (left : ℕ) (taking : List ℕ)
+pub writes : {L : Type 0} (state : L → LinkState) (old new : TransferView L) (taken : Outgoing)
+    (left : ℕ) (taking : List ℕ)
     → WroteTaken state old new taken left → taken.owed ≡ old.outgoing.owed ++ taking → taken.sent ≡ old.outgoing.sent
     → Delivered taken new.outgoing
     → Writes state itself old new taking left
@@ -35,12 +37,14 @@ writes {L} state old new taken left taking written owes counts done =
       };
       budget = written.budget;
       rest = written.rest;
-      counted = done.counted ∙ counted_sent taken.sent taken.owed new.outgoing.owed written.sent.piece written.sent.bytes
+      counted = done.counted
+          ∙ counted_sent taken.sent taken.owed new.outgoing.owed written.sent.piece written.sent.bytes
           ∙ ap (λ n. min (n + length written.sent.piece) (2 ^ 64 - 1)) counts;
     }
 
 -- what was taken up first, and then delivered
-pub written_by : {L : Type 0} (state : L → LinkState) (how : Delivery) (old mid new : TransferView L) (outcome : Poll (Result (Unit {0}) Error))
+pub written_by : {L : Type 0} (state : L → LinkState) (how : Delivery)
+    (old mid new : TransferView L) (outcome : Poll (Result (Unit {0}) Error))
     → mid ≡ record old { outgoing = mid.outgoing } → (d : Delivers state how mid new outcome)
     → WroteTaken state old new mid.outgoing d.left
     × DeliveryAnswer how (state old.link) (state new.link) mid.outgoing new.outgoing d.left outcome
@@ -50,7 +54,12 @@ written_by {L} state how old mid new outcome frame d =
       record {
         sent = rw (link, budget) at d.sent;
         budget = rw budget at d.budget;
-        rest = d.rest ∙ ap (λ (m : TransferView L). record m { link = new.link; outgoing = new.outgoing; budget = new.budget }) frame;
+        rest = d.rest
+            ∙ ap (λ (m : TransferView L). record m {
+              link = new.link;
+              outgoing = new.outgoing;
+              budget = new.budget;
+            }) frame;
       },
       rw link at d.answer,
     )
@@ -67,28 +76,35 @@ count_on : (outgoing : Outgoing) (count : Option ℕ) → outgoing.step ≡ Piec
 count_on outgoing count at = ap (λ (step : Step). piece_count (record outgoing { step = step }) None) at
 
 -- a body call that wrote
-pub piece_written : {L : Type 0} (state : L → LinkState) (old new : TransferView L) (count : Option ℕ) (left : ℕ) (outcome : Poll (Result (Unit {0}) Error)) (taken : Outgoing) (piece kept : Option (List ℕ))
+pub piece_written : {L : Type 0} (state : L → LinkState) (old new : TransferView L)
+    (count : Option ℕ) (left : ℕ) (outcome : Poll (Result (Unit {0}) Error)) (taken : Outgoing)
+    (piece kept : Option (List ℕ))
     → kept ≡ None → count ≡ piece_count old.outgoing piece → TakesUpPiece old.outgoing taken piece
     → IsPieceStep piece old.outgoing.step → Settled old.outgoing → old.outgoing.refused ≡ None
     → WroteTaken state old new taken left
     → DeliveryAnswer delivery.Sent (state old.link) (state new.link) taken new.outgoing left outcome
     → WritesPiece state itself old new piece kept (with_count outcome count)
-piece_written {L} state old new count left outcome taken None kept out counts same free settled unrefused written answer =
+piece_written {L} state old new count left outcome taken None kept out counts same free settled
+    unrefused written answer =
     let done = delivered delivery.Sent (state old.link) (state new.link) taken new.outgoing left outcome answer in
     let counted : count ≡ free.0 = counts ∙ count_on old.outgoing free.0 free.1 in
     record {
       taking = [];
       left = left;
-      writes = writes state old new taken left [] written (ap (λ (r : Outgoing). r.owed) same ∙ sym (append-nil old.outgoing.owed))
+      writes = writes state old new taken left [] written
+          (ap (λ (r : Outgoing). r.owed) same ∙ sym (append-nil old.outgoing.owed))
           (ap (λ (r : Outgoing). r.sent) same) done;
       takes = (refl, same_reply old.outgoing taken new.outgoing same done);
       out = out;
-      answer = subst (λ (n : Option ℕ). PieceAnswer (state old.link) (state new.link) new.outgoing n left (with_count outcome count)) counts
+      answer = subst
+          (λ (n : Option ℕ). PieceAnswer (state old.link) (state new.link) new.outgoing n left
+          (with_count outcome count)) counts
           (piece_answer (state old.link) (state new.link) taken new.outgoing count left outcome
           (ap (λ (r : Outgoing). r.step) same ∙ free.1 ∙ ap (λ (n : Option ℕ). Piece n) (sym counted))
           (ap (λ (r : Outgoing). r.refused) same ∙ unrefused) answer);
     }
-piece_written {L} state old new count left outcome taken (Some piece) kept out counts is free settled unrefused written answer =
+piece_written {L} state old new count left outcome taken (Some piece) kept out counts is free settled
+    unrefused written answer =
     let done = delivered delivery.Sent (state old.link) (state new.link) taken new.outgoing left outcome answer in
     let owed = settled.free free unrefused in
     record {
@@ -103,30 +119,36 @@ piece_written {L} state old new count left outcome taken (Some piece) kept out c
         done.writer ∙ ap (λ (r : Outgoing). r.writer) is,
       );
       out = out;
-      answer = subst (λ (n : Option ℕ). PieceAnswer (state old.link) (state new.link) new.outgoing n left (with_count outcome count)) counts
+      answer = subst
+          (λ (n : Option ℕ). PieceAnswer (state old.link) (state new.link) new.outgoing n left
+          (with_count outcome count)) counts
           (piece_answer (state old.link) (state new.link) taken new.outgoing count left outcome
           (ap (λ (r : Outgoing). r.step) is ∙ ap (λ (n : Option ℕ). Piece n) (sym counts))
           (ap (λ (r : Outgoing). r.refused) is ∙ unrefused) answer);
     }
 
 -- the stage at which a call finds the end of the body
-starts_at : (step : Step) (begun short : Bool) → step ≡ Free → begun ≡ true → short ≡ false → end_stage step begun short ≡ Some starts
+starts_at : (step : Step) (begun short : Bool) → step ≡ Free → begun ≡ true → short ≡ false
+    → end_stage step begun short ≡ Some starts
 starts_at step begun short free is_begun long = rw (free, is_begun, long) refl
 
 goes_on_at : (step : Step) (begun short : Bool) → step ≡ Finish → end_stage step begun short ≡ Some goes_on
 goes_on_at step begun short at = rw at refl
 
-pub falls_short_at : (step : Step) (begun short : Bool) → step ≡ Free → begun ≡ true → short ≡ true → end_stage step begun short ≡ Some falls_short
+pub falls_short_at : (step : Step) (begun short : Bool) → step ≡ Free → begun ≡ true → short ≡ true
+    → end_stage step begun short ≡ Some falls_short
 falls_short_at step begun short free is_begun is_short = rw (free, is_begun, is_short) refl
 
 -- a call that wrote the end of a body
-pub end_written : {L : Type 0} (state : L → LinkState) (old new : TransferView L) (count left : ℕ) (outcome : Poll (Result (Unit {0}) Error)) (taken : Outgoing) (end : EndTaken)
+pub end_written : {L : Type 0} (state : L → LinkState) (old new : TransferView L) (count left : ℕ)
+    (outcome : Poll (Result (Unit {0}) Error)) (taken : Outgoing) (end : EndTaken)
     → (end ≡ e.Nothing → ⊥) → TakesUpEnd old.outgoing taken (Ok end) → count ≡ taken.writer.written
     → Settled old.outgoing → old.outgoing.refused ≡ None
     → WroteTaken state old new taken left
     → DeliveryAnswer delivery.Flushed (state old.link) (state new.link) taken new.outgoing left outcome
     → EndCall state itself old new (with_count outcome (Some count)) (stage_of old.outgoing)
-end_written {L} state old new count left outcome taken e.Nothing some takes counts settled unrefused written answer = absurd (some refl)
+end_written {L} state old new count left outcome taken e.Nothing some takes counts settled
+    unrefused written answer = absurd (some refl)
 end_written {L} state old new count left outcome taken e.GoesOn some takes counts settled unrefused written answer =
     let done = delivered delivery.Flushed (state old.link) (state new.link) taken new.outgoing left outcome answer in
     let same = takes.0 in
@@ -135,7 +157,8 @@ end_written {L} state old new count left outcome taken e.GoesOn some takes count
     (record {
       taking = [];
       left = left;
-      writes = writes state old new taken left [] written (ap (λ (r : Outgoing). r.owed) same ∙ sym (append-nil old.outgoing.owed))
+      writes = writes state old new taken left [] written
+          (ap (λ (r : Outgoing). r.owed) same ∙ sym (append-nil old.outgoing.owed))
           (ap (λ (r : Outgoing). r.sent) same) done;
       takes = (refl, same_reply old.outgoing taken new.outgoing same done);
       answer = end_answer (state old.link) (state new.link) old.outgoing taken new.outgoing count left outcome
@@ -147,7 +170,8 @@ end_written {L} state old new count left outcome taken e.Starts some takes count
     let is = takes.3 in
     let owed = settled.free takes.0 unrefused in
     subst (λ (stage : Option EndStage). EndCall state itself old new (with_count outcome (Some count)) stage)
-    (sym (starts_at old.outgoing.step (is_begun old.outgoing.writer) (is_short old.outgoing.writer) takes.0 takes.1 takes.2))
+    (sym (starts_at old.outgoing.step (is_begun old.outgoing.writer) (is_short old.outgoing.writer)
+    takes.0 takes.1 takes.2))
     (record {
       taking = end_bytes old.outgoing.writer;
       left = left;
@@ -170,8 +194,11 @@ pub short_end : {L : Type 0} (state : L → LinkState) (old new : TransferView L
     → EndCall state itself old new (Ready (Err error)) (stage_of old.outgoing)
 short_end {L} state old new taken error takes is =
     subst (λ (stage : Option EndStage). EndCall state itself old new (Ready (Err error)) stage)
-    (sym (falls_short_at old.outgoing.step (is_begun old.outgoing.writer) (is_short old.outgoing.writer) takes.0 takes.1 takes.2))
+    (sym (falls_short_at old.outgoing.step (is_begun old.outgoing.writer) (is_short old.outgoing.writer)
+    takes.0 takes.1 takes.2))
     (record {
-      ends = is ∙ ap (λ (outgoing : Outgoing). let session : TransferView L = record old { outgoing = outgoing } in session) takes.3;
+      ends = is
+          ∙ ap (λ (outgoing : Outgoing). let session : TransferView L = record old { outgoing = outgoing } in
+          session) takes.3;
       answer = ap (λ (e : Error). Ready (Err e)) takes.4;
     })

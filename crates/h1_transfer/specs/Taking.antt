@@ -1,9 +1,12 @@
 -- What the bytes that are received give of a body (RFC 9112, sections 6 and 7.1).
-use Rattle.std.specs.Prelude.{◌≡◌, ℕ, ◌<◌, List, [], ◌++◌, length, Option, option_map, Result, Ok, Err}
-use Rattle.h1_transfer.specs.Words.{Error, whole, broken, reads, BodyReader, FeedState, Taken}
+use Rattle.std.specs.Prelude.{◌≡◌, ℕ, ◌<◌, List, [], ◌++◌, length, Option, Some, None, option_map, Result, Ok, Err}
+use Rattle.h1_error.specs.Memory.{no_memory}
+use Rattle.h1_transfer.specs.Words.{Error, whole, broken, reads, BodyReader, FeedState, TakeStep}
+use Rattle.h1_body.specs.Takes.{Takes, payload_bytes}
+use Rattle.h1_body.specs.declared.fed.Taken.{Taken}
 use Rattle.h1_body.specs.declared.fed.FeedState.TheVariants as s
 use Rattle.h1_transfer.specs.Decoding.{Decoded, Lacks}
-use Rattle.h1_transfer.specs.declared.taking.Taken.TheVariants as t
+use Rattle.h1_transfer.specs.declared.taking.TakeStep.TheVariants as t
 
 -- received bytes are used from the front, and their payload is kept where payload is kept
 pub record Uses (old new : List ℕ) (reader behind : BodyReader) (kept keeps : Option (List ℕ))
@@ -14,21 +17,29 @@ pub record Uses (old new : List ℕ) (reader behind : BodyReader) (kept keeps : 
   pub keeps_payload : keeps ≡ option_map (λ front. front ++ payload) kept
 
 -- the payload that was taken
-abbrev pub taken_payload : Taken → List ℕ
+abbrev pub taken_payload : TakeStep → List ℕ
 taken_payload (t.Piece bytes) = bytes
 taken_payload t.Done = []
 taken_payload t.Broken = []
 taken_payload t.Lacks = []
 
 -- payload is handed out before the state after it is told
-abbrev pub IsJudged : FeedState → List ℕ → Taken → Type 0
-IsJudged state payload (t.Piece bytes) = (bytes ≡ payload) × (0 < length payload)
-IsJudged state payload t.Done = (payload ≡ []) × (state ≡ s.Done)
-IsJudged state payload t.Broken = (payload ≡ []) × (state ≡ s.Broken)
-IsJudged state payload t.Lacks = (payload ≡ []) × (state ≡ s.More)
+abbrev pub IsJudged : FeedState → Option (List ℕ) → TakeStep → Type 0
+IsJudged state payload (t.Piece bytes) = payload ≡ Some bytes
+IsJudged state payload t.Done = (payload ≡ None) × (state ≡ s.Done)
+IsJudged state payload t.Broken = (payload ≡ None) × (state ≡ s.Broken)
+IsJudged state payload t.Lacks = (payload ≡ None) × (state ≡ s.More)
+
+-- payload is taken and kept where payload is kept, or nothing changes where memory ran out
+abbrev pub TakesPayload : List ℕ → List ℕ → BodyReader → BodyReader → Option (List ℕ)
+    → Option (List ℕ) → Result Taken Error → Type 0
+TakesPayload old new reader behind kept keeps (Ok taken) = Takes reader behind old new taken
+    × (keeps ≡ option_map (λ front. front ++ payload_bytes taken.payload) kept)
+TakesPayload old new reader behind kept keeps (Err error) =
+    (error ≡ no_memory) × (new ≡ old) × (behind ≡ reader) × (keeps ≡ kept)
 
 -- when each answer comes
-abbrev pub TakeCause : BodyReader → List ℕ → Taken → Type 0
+abbrev pub TakeCause : BodyReader → List ℕ → TakeStep → Type 0
 TakeCause reader received (t.Piece bytes) = 0 < length bytes
 TakeCause reader received t.Done = reads reader [] ≡ whole [] 0
 TakeCause reader received t.Broken = reads reader [] ≡ broken []
@@ -36,8 +47,8 @@ TakeCause reader received t.Lacks = Lacks reader received
 
 -- payload is taken up to the end of a run of it, or nothing changes where memory ran out
 abbrev pub TakesBody : List ℕ → List ℕ → BodyReader → BodyReader → Option (List ℕ) → Option (List ℕ)
-    → Result Taken Error → Type 0
+    → Result TakeStep Error → Type 0
 TakesBody old new reader behind kept keeps (Ok taken) =
     Uses old new reader behind kept keeps (taken_payload taken) × TakeCause behind new taken
 TakesBody old new reader behind kept keeps (Err error) =
-    (new ≡ old) × (behind ≡ reader) × (keeps ≡ kept)
+    (error ≡ no_memory) × (new ≡ old) × (behind ≡ reader) × (keeps ≡ kept)

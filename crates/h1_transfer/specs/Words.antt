@@ -24,6 +24,6 @@ pub use Rattle.h1_transfer.specs.declared.reading_body.BodyStop.{BodyStop}
 pub use Rattle.h1_transfer.specs.declared.receiving.Filled.{Filled}
 pub use Rattle.h1_transfer.specs.declared.receiving.Filled.TheVariants.{End, Got}
 pub use Rattle.h1_transfer.specs.declared.sending.Sending.{Sending}
-pub use Rattle.h1_transfer.specs.declared.taking.Taken.{Taken}
+pub use Rattle.h1_transfer.specs.declared.taking.TakeStep.{TakeStep}
 pub use Rattle.h1_transfer.specs.declared.writing_body.EndTaken.{EndTaken}
 pub use Rattle.std.specs.Io.KnownBytes.{append_known}

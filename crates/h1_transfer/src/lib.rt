@@ -26,6 +26,6 @@ pub use reading_body::{BodyRead, BodyStop, drain_body, read_body};
 pub use reading_head::{HeadRead, HeadStop, read_head};
 pub use receiving::{Filled, READ_SIZE, fill};
 pub use sending::{Sending, send};
-pub use taking::{Taken, take};
+pub use taking::{TakeStep, take};
 pub use transfer::Transfer;
 pub use writing_body::{EndTaken, take_end, take_piece};

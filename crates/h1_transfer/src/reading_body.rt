@@ -6,7 +6,7 @@ ghost use Rattle.h1_transfer.specs.Decoding.{ReadsBody, BodyCause, StopCause, Is
 ghost use Rattle.h1_transfer.specs.Calls.{Called, is_part, is_done, fault_of_read, fault_of_stop};
 
 use crate::receiving::{Filled, fill};
-use crate::taking::{Taken, take};
+use crate::taking::{TakeStep, take};
 use bytes::{Bytes, BytesMut};
 use h1_body::{BodyBytes, BodyReader};
 use h1_link::Link;
@@ -60,10 +60,10 @@ pub fn read_body<L: Link>(
 {
     'reads: loop {
         match take(alloc, received, reader, kept) {
-            Ok(Taken::Piece(bytes)) => return BodyRead::Piece(bytes),
-            Ok(Taken::Done) => return BodyRead::Stopped(BodyStop::Done),
-            Ok(Taken::Broken) => return BodyRead::Stopped(BodyStop::Broken),
-            Ok(Taken::Lacks) => {}
+            Ok(TakeStep::Piece(bytes)) => return BodyRead::Piece(bytes),
+            Ok(TakeStep::Done) => return BodyRead::Stopped(BodyStop::Done),
+            Ok(TakeStep::Broken) => return BodyRead::Stopped(BodyStop::Broken),
+            Ok(TakeStep::Lacks) => {}
             Err(_) => return BodyRead::Stopped(BodyStop::NoMemory),
         }
         if *budget == 0 {

@@ -1,16 +1,17 @@
 //! Taking payload out of the bytes that are received (RFC 9112, sections 6 and 7.1).
-ghost use Rattle.std.specs.Prelude.{◌≡◌, ◌≤◌, ◌++◌, length, slice_range, option_map, IfOk, OnOk, OnErr};
-ghost use Rattle.h1_transfer.specs.Taking.{TakesBody, IsJudged};
+ghost use Rattle.std.specs.Prelude.{None};
+ghost use Rattle.h1_transfer.specs.Taking.{TakesBody, TakesPayload, IsJudged};
 
 use bytes::{Bytes, BytesMut};
-use h1_body::{BodyBytes, BodyReader, FeedState};
+use h1_body::{BodyBytes, BodyReader, FeedState, Taken};
 use h1_error::Error;
 use std::alloc::Global;
 
 /// What the bytes that are received give of a body.
 #[derive(Drop)]
-pub enum Taken {
-    /// Payload, which is not empty.
+pub enum TakeStep {
+    /// Payload, which is not empty. It keeps the block alive that it was received in, unless other
+    /// payload is kept already: then it is a copy.
     Piece(Bytes),
     /// The body is at its end.
     Done,
@@ -22,62 +23,59 @@ pub enum Taken {
 
 /// Uses received bytes up to the end of a run of payload, the end of the body or the end of the
 /// bytes.
+#[tactic(auto, using(crate::proofs::BodyLemmas::uses_nothing))]
 pub fn take(
     alloc: Global,
     received: &mut BytesMut,
     reader: &mut BodyReader,
     kept: &mut Option<BodyBytes>,
-) -> Result<Taken, Error>
+) -> Result<TakeStep, Error>
     ensures { TakesBody received.old.items received.new.items reader.old reader.new kept.old
         kept.new result }
 {
-    let mut behind = *reader;
-    let fed = behind.feed(received.as_slice());
-    let piece = payload(
-        alloc,
-        received.as_slice(),
-        fed.payload.start,
-        fed.payload.end,
-    )?;
-    keep(kept, piece.as_slice())?;
-    received.advance(fed.used);
-    *reader = behind;
-    Ok(judge(fed.state, piece))
+    // A body at its end takes no byte, so none is looked at.
+    match reader.state() {
+        FeedState::More => {}
+        FeedState::Done => return Ok(TakeStep::Done),
+        FeedState::Broken => return Ok(TakeStep::Broken),
+    }
+    let taken = take_payload(alloc, received, reader, kept)?;
+    Ok(judge(taken))
 }
 
-/// What came of a state and of payload.
-fn judge(state: FeedState, payload: Bytes) -> Taken
-    ensures { IsJudged state payload result }
-{
-    if !payload.is_empty() {
-        return Taken::Piece(payload);
-    }
-    match state {
-        FeedState::More => Taken::Lacks,
-        FeedState::Done => Taken::Done,
-        FeedState::Broken => Taken::Broken,
-    }
-}
-
-/// The bytes of a range. An empty range takes no memory.
-fn payload(alloc: Global, bytes: &[u8], start: usize, end: usize) -> Result<Bytes, Error>
-    requires ordered { start ≤ end }
-    requires within { end ≤ length bytes.now }
-    ensures { IfOk result (λ payload. payload ≡ slice_range bytes.now start end) }
-{
-    if start == end {
-        return Ok(Bytes::new());
-    }
-    Ok(Bytes::copy_from_slice(alloc, &bytes[start..end])?)
-}
-
-/// Keeps payload after what is kept, where payload is kept.
-fn keep(kept: &mut Option<BodyBytes>, payload: &[u8]) -> Result<(), Error>
-    ensures ok { OnOk result (kept.new ≡ option_map (λ front. front ++ payload.now) kept.old) }
-    ensures err { OnErr result (kept.new ≡ kept.old) }
+/// Takes payload, and keeps it after what is kept, where payload is kept.
+fn take_payload(
+    alloc: Global,
+    received: &mut BytesMut,
+    reader: &mut BodyReader,
+    kept: &mut Option<BodyBytes>,
+) -> Result<Taken, Error>
+    ensures { TakesPayload received.old.items received.new.items reader.old reader.new kept.old
+        kept.new result }
 {
     match kept {
-        Some(bytes) => bytes.append(payload),
-        None => Ok(()),
+        Some(bytes) => reader.take_into(alloc, received, bytes),
+        None => reader.take(received),
+    }
+}
+
+/// What came of what was taken.
+fn judge(taken: Taken) -> TakeStep
+    ensures { IsJudged taken.state taken.payload result }
+{
+    match taken.payload {
+        Some(piece) => TakeStep::Piece(piece),
+        None => stopped(taken.state),
+    }
+}
+
+/// What came of a state where no payload came.
+fn stopped(state: FeedState) -> TakeStep
+    ensures { IsJudged state None result }
+{
+    match state {
+        FeedState::More => TakeStep::Lacks,
+        FeedState::Done => TakeStep::Done,
+        FeedState::Broken => TakeStep::Broken,
     }
 }

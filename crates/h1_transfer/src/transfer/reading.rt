@@ -62,7 +62,8 @@ impl<L: Link + Drop> Transfer<L> {
     }
 
     /// Reads payload of the body; None is its end (RFC 9112, section 6). A refusal is answered
-    /// again; out of memory only while payload is kept.
+    /// again; out of memory only while payload is kept. A piece may keep the block alive that it
+    /// was received in.
     pub fn poll_read_body_bytes(&mut self) -> Poll<Result<Option<Bytes>, Error>>
         ensures again { IfSome self.old.body.refused (λ error. (result ≡ Ready (Err error))
             × (self.new ≡ self.old)) }

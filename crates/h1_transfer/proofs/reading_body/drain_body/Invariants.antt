@@ -6,7 +6,9 @@ use Rattle.h1_transfer.proofs.reading_body.drain_body.Given as goal
 
 abbrev pub invariant-drains : goal.invariant-drains
 invariant-drains g l = record {
-  moved : (payload : List ℕ) × ReadsBody (g.L.Link.state l.fn.link) (g.L.Link.state l.link) l.fn.received.items l.received.items l.fn.reader l.reader l.fn.kept l.kept l.fn.budget l.budget payload;
+  moved : (payload : List ℕ) × ReadsBody (g.L.Link.state l.fn.link) (g.L.Link.state l.link)
+      l.fn.received.items l.received.items l.fn.reader l.reader l.fn.kept l.kept l.fn.budget l.budget
+      payload;
   waits : (g.L.Link.state l.link).read_waits ≡ (g.L.Link.state l.fn.link).read_waits;
   parsed : l.budget < l.fn.budget → IsUnfinished (reads l.fn.reader l.fn.received.items);
   calls : Called (g.L.Link.state l.fn.link) (g.L.Link.state l.link) true no_fault;

@@ -6,7 +6,8 @@ use Rattle.h1_transfer.proofs.reading_body.read_body.Given as goal
 
 abbrev pub invariant-reads : goal.invariant-reads
 invariant-reads g l = record {
-  moved : ReadsBody (g.L.Link.state l.fn.link) (g.L.Link.state l.link) l.fn.received.items l.received.items l.fn.reader l.reader l.fn.kept l.kept l.fn.budget l.budget [];
+  moved : ReadsBody (g.L.Link.state l.fn.link) (g.L.Link.state l.link) l.fn.received.items
+      l.received.items l.fn.reader l.reader l.fn.kept l.kept l.fn.budget l.budget [];
   waits : (g.L.Link.state l.link).read_waits ≡ (g.L.Link.state l.fn.link).read_waits;
   parsed : l.budget < l.fn.budget → reads l.fn.reader l.fn.received.items ≡ unfinished [];
   calls : Called (g.L.Link.state l.fn.link) (g.L.Link.state l.link) true no_fault;

@@ -26,7 +26,8 @@ reads-preserved g c =
       waits = c.in-Got.ensures.fills.cause.1 ∙ c.reads.invariant.waits;
       parsed = λ _. elim (cases_lt c.reads.budget c.args.budget.now) [
         | inl less ↦ c.reads.invariant.parsed less
-        | inr first ↦ read_nothing _ _ _ _ _ _ g.H.Head.lacks c.reads.invariant.moved first (rw (c.as_slice.ensures, c.in-Ok-NotYet.field-0-is) at c.in-Ok-NotYet.ensures.ok)
+        | inr first ↦ read_nothing _ _ _ _ _ _ g.H.Head.lacks c.reads.invariant.moved first
+            (rw (c.as_slice.ensures, c.in-Ok-NotYet.field-0-is) at c.in-Ok-NotYet.ensures.ok)
       ];
       calls = called_on _ _ _ _ _ c.reads.invariant.calls c.in-Got.ensures.calls;
       looked = rw c.in-Got.ensures.fills.bytes (HasLooked-append _ _ _ _ looked);

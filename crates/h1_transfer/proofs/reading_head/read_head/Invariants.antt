@@ -7,7 +7,8 @@ use Rattle.h1_transfer.proofs.reading_head.read_head.Given as goal
 
 abbrev pub invariant-reads : goal.invariant-reads
 invariant-reads g l = record {
-  moved : Received (g.L.Link.state l.fn.link) (g.L.Link.state l.link) l.fn.received.items l.received.items l.fn.budget l.budget;
+  moved : Received (g.L.Link.state l.fn.link) (g.L.Link.state l.link)
+      l.fn.received.items l.received.items l.fn.budget l.budget;
   waits : (g.L.Link.state l.link).read_waits ≡ (g.L.Link.state l.fn.link).read_waits;
   parsed : l.budget < l.fn.budget → g.H.Head.lacks l.fn.received.items;
   calls : Called (g.L.Link.state l.fn.link) (g.L.Link.state l.link) true no_fault;

@@ -22,7 +22,8 @@ returns-clause-writes g c =
     let some = λ (is : c.in-Ok.end ≡ e.Nothing).
     never (ap (λ end. sameb the_type end e.Nothing) (sym is) ∙ sym c.eq.ensures ∙ c.if-eq.false) in
     rw (← c.self.view_is) (rw c.with_count.ensures (if_none c.self.inside.outgoing.refused _
-    (end_written g.L.Link.state _ _ c.written-written.result c.deliver-answer.new.budget c.deliver-answer.result c.take_end.new.outgoing c.in-Ok.end
+    (end_written g.L.Link.state _ _ c.written-written.result c.deliver-answer.new.budget c.deliver-answer.result
+    c.take_end.new.outgoing c.in-Ok.end
     some c.in-Ok.ensures c.written-written.ensures c.self.invariant unrefused
     (record {
       sent = sent;

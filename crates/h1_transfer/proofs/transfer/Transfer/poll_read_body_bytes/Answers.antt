@@ -12,4 +12,5 @@ returns-clause-reads g c =
     (payload_read g.L.Link.state _ _ _ read.result read.new.budget c.part.result unrefused refl
     c.part.ensures.notes c.part.ensures.answer
     (rw c.allowance_of-left.ensures at read.ensures.parsed)
-    (rw c.allowance_of-left.ensures at read.ensures.reads) read.ensures.cause c.budget_left-self-inside.ensures read.ensures.few refl))
+    (rw c.allowance_of-left.ensures at read.ensures.reads) read.ensures.cause
+    c.budget_left-self-inside.ensures read.ensures.few refl))

@@ -10,7 +10,8 @@ returns-clause-writes g c =
     let unrefused = is_nothing c.self.inside.outgoing.refused c.in_default.not-Some in
     let sent = rw c.allowance_of-left.ensures at c.deliver-answer.ensures.sent in
     rw (← c.self.view_is) (rw c.with_count.ensures (if_none c.self.inside.outgoing.refused _
-    (piece_written g.L.Link.state _ _ c.take_piece-count.result c.deliver-answer.new.budget c.deliver-answer.result c.take_piece-count.new.outgoing c.args.buf.now _
+    (piece_written g.L.Link.state _ _ c.take_piece-count.result c.deliver-answer.new.budget c.deliver-answer.result
+    c.take_piece-count.new.outgoing c.args.buf.now _
     c.take_piece-count.ensures.out c.take_piece-count.ensures.count c.take_piece-count.ensures.takes
     free c.self.invariant unrefused
     (record {
