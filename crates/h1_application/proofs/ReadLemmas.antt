@@ -118,7 +118,8 @@ waits_on : {L C : Type 0} (state : L → LinkState) (a b c : SessionView L C) (w
     → (state b.link).read_waits ≡ (state a.link).read_waits
     → WaitsBy state b c waits → WaitsBy state a c waits
 waits_on state a b c false same h = h ∙ same
-waits_on state a b c true same h = (h.0, h.1, subst (λ n. Rose n (state c.link).read_waits ⊎ (c.budget ≡ Some 0)) same h.2)
+waits_on state a b c true same h =
+    (h.0, h.1, subst (λ n. Rose n (state c.link).read_waits ⊎ (c.budget ≡ Some 0)) same h.2)
 
 refused_itself : {L C : Type 0} (state : L → LinkState) (s : SessionView L C)
     (refused : Option Error) → s.body.refused ≡ refused → RefusedBy state s s refused
@@ -142,7 +143,8 @@ reads_itself state s = record {
   within = within_itself s.budget;
   flushed = refl;
   few = omega arith;
-  calls = called_undone (state s.link) (state s.link) true _ (rw (met_itself s.body.refused) (called_itself (state s.link)));
+  calls = called_undone (state s.link) (state s.link) true _
+      (rw (met_itself s.body.refused) (called_itself (state s.link)));
   bytes = append-nil s.received;
   decoded = record { reads = λ more. sym (ahead_none (reads s.body.reader more)) };
   kept = kept_itself s.body.kept;
@@ -172,11 +174,13 @@ reads_on state a b c first free second = record {
   flushed = second.flushed ∙ first.flushed;
   few = omega (arith, free.link_waits, second.few);
   calls = subst (λ r. Called (state a.link) (state c.link) false (fault_met r c.body.refused)) free.refused
-      (called_on (state a.link) (state b.link) (state c.link) false (fault_met b.body.refused c.body.refused) free.calls second.calls);
+      (called_on (state a.link) (state b.link) (state c.link) false (fault_met b.body.refused c.body.refused)
+      free.calls second.calls);
   bytes = sym (append_assoc a.received first.piece second.piece) ∙ ap (λ xs. xs ++ second.piece) first.bytes
       ∙ append_assoc first.used b.received second.piece ∙ ap (λ xs. first.used ++ xs) second.bytes
       ∙ sym (append_assoc first.used second.used c.received);
-  decoded = decoded_on a.body.reader b.body.reader c.body.reader first.used second.used first.payload second.payload first.decoded second.decoded;
+  decoded = decoded_on a.body.reader b.body.reader c.body.reader first.used second.used
+      first.payload second.payload first.decoded second.decoded;
   kept = kept_on a.body.kept b.body.kept c.body.kept first.payload second.payload first.kept second.kept;
   request = second.request ∙ first.request;
   head_refused = second.head_refused ∙ first.head_refused;
@@ -185,7 +189,8 @@ reads_on state a b c first free second = record {
   keep = second.keep ∙ first.keep;
   reusable = second.reusable ∙ first.reusable;
   context = second.context ∙ first.context;
-  refused = refused_on state a b c a.body.refused first.moved.later free.refused first.refused (subst (RefusedBy state b c) free.refused second.refused);
+  refused = refused_on state a b c a.body.refused first.moved.later free.refused first.refused
+      (subst (RefusedBy state b c) free.refused second.refused);
   waits = λ none. waits_on state a b c c.body.waits free.link_waits (second.waits (free.waits ∙ none));
 }
 
@@ -213,7 +218,8 @@ payload_waits : {L C : Type 0} (state : L → LinkState) (old new : SessionView 
     → IsSome old.budget → new.budget ≡ option_map (λ _. left) old.budget
     → PayloadAnswer state old new payload left outcome → old.body.waits ≡ false
     → WaitsBy state old new new.body.waits
-payload_waits state old new payload left (Ready (Ok (Some piece))) there step h none = rw (h.3.waits, none) h.3.link_waits
+payload_waits state old new payload left (Ready (Ok (Some piece))) there step h none =
+    rw (h.3.waits, none) h.3.link_waits
 payload_waits state old new payload left (Ready (Ok None)) there step h none = rw (h.3.waits, none) h.3.link_waits
 payload_waits state old new payload left (Ready (Err error)) there step h none = rw (h.3.waits, none) h.3.link_waits
 payload_waits state old new payload left Pending there step h none =
@@ -237,7 +243,8 @@ payload_fault : {L C : Type 0} (state : L → LinkState) (old new : SessionView 
     → read_fault_of outcome ≡ fault_met None new.body.refused
 payload_fault state old new payload left (Ready (Ok (Some piece))) h = rw h.2 refl
 payload_fault state old new payload left (Ready (Ok None)) h = rw h.2 refl
-payload_fault state old new payload left (Ready (Err error)) h = rw h.1 (refusal_fault new.body.kept error error.kind refl)
+payload_fault state old new payload left (Ready (Err error)) h =
+    rw h.1 (refusal_fault new.body.kept error error.kind refl)
 payload_fault state old new payload left Pending h = rw h.2 refl
 
 -- one call that reads
@@ -260,7 +267,8 @@ reads_payload state old new outcome there none call calls = record {
   kept = call.reads.keeps_payload;
   request = ap (λ s. s.request) call.rest;
   few = call.few;
-  calls = rw none (subst (λ f. Called (state old.link) (state new.link) false f) (payload_fault state old new call.payload call.left outcome call.answer)
+  calls = rw none (subst (λ f. Called (state old.link) (state new.link) false f)
+      (payload_fault state old new call.payload call.left outcome call.answer)
       (called_undone (state old.link) (state new.link) (succeeds outcome) (read_fault_of outcome) calls));
   head_refused = ap (λ s. s.refused) call.rest;
   reuses = ap (λ s. s.settings.reuses) call.rest;

@@ -47,7 +47,8 @@ head_stopped {L} {C} state old new refused stop result unread none is reads =
       parsed = reads.receives.parsed;
       received = reads.receives.received;
       budget = reads.budget;
-      rest = ap (λ (t : TransferView L). let s : SessionView L C = record (session.put old new) { refused = refused; reply = t.outgoing } in s) reads.rest;
+      rest = ap (λ (t : TransferView L). let s : SessionView L C =
+          record (session.put old new) { refused = refused; reply = t.outgoing } in s) reads.rest;
       few = reads.receives.few;
       answer = stop_answer state old behind stop reads.left result none
           (record { request = unread; received = refl; body = ap (λ (t : TransferView L). t.body) reads.rest; settings = refl }) is reads.cause;
@@ -59,16 +60,20 @@ pub unread_searched : (request : Option Request) (search : HeadSearch) (received
 unread_searched request search received none looked = rw none looked
 
 -- a call that read a head: it is passed over, and its body begins
-pub head_read : {L C : Type 0} (state : L → LinkState) (old : SessionView L C) (mid after new : TransferView L) (request : Request) (used n : ℕ)
+pub head_read : {L C : Type 0} (state : L → LinkState) (old : SessionView L C)
+    (mid after new : TransferView L) (request : Request) (used n : ℕ)
     (settings : Settings)
-    → old.refused ≡ None → ReadsHead state IsRequestOf RefusedAt NotYetAt (session.transfer old) mid (h.Whole request used)
+    → old.refused ≡ None
+    → ReadsHead state IsRequestOf RefusedAt NotYetAt (session.transfer old) mid (h.Whole request used)
     → after ≡ record mid { received = drop used mid.received }
     → ((rest : List ℕ) → reads new.body.reader rest ≡ body request.framing rest)
     → new ≡ record after { body = record after.body { reader = new.body.reader; refused = None } }
     → n ≡ length request.raw → settings ≡ keepalive_set old.settings (wished request.wish)
-    → ReadsRequest state old (record (session.put old new) { request = Some request; settings = settings }) (Ready (Ok (read.Head n)))
+    → ReadsRequest state old (record (session.put old new) { request = Some request; settings = settings })
+    (Ready (Ok (read.Head n)))
 head_read {L} {C} state old mid after new request used n settings none told skips begins rest n_is settings_is =
-    let is = rest ∙ ap (λ (t : TransferView L). record t { body = record t.body { reader = new.body.reader; refused = None } })
+    let is = rest
+    ∙ ap (λ (t : TransferView L). record t { body = record t.body { reader = new.body.reader; refused = None } })
     (skips ∙ ap (λ (t : TransferView L). record t { received = drop used mid.received }) told.rest) in
     let link = ap (λ (t : TransferView L). t.link) is in
     record {

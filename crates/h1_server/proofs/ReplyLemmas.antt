@@ -43,16 +43,20 @@ header_answer before now old new left (Ready (Err error)) at none h =
     (refused_at before now old new Head error error.kind at none h.0, h.1)
 
 -- a header that can't be written stays
-pub header_kept : {L C : Type 0} (state : L → LinkState) (old : SessionView L C) (mid : TransferView L) (request : Request) (flag : Bool) (now : ℕ) (error : Error) (header kept : Option ResponseView)
+pub header_kept : {L C : Type 0} (state : L → LinkState) (old : SessionView L C)
+    (mid : TransferView L) (request : Request) (flag : Bool) (now : ℕ) (error : Error)
+    (header kept : Option ResponseView)
     → is_passed_over header old.reply.headed ≡ false
     → IfNone header ((Err error ≡ Ok (tt {0})) × (mid ≡ session.transfer old) × (kept ≡ None))
     → IfSome header (λ view. TakesUpHeader (session.transfer old) mid request flag view kept now (Err error))
-    → HeaderCall state old (session.put old mid) request header kept now (Ready (Err error)) (is_passed_over header old.reply.headed)
+    → HeaderCall state old (session.put old mid) request header kept now (Ready (Err error))
+    (is_passed_over header old.reply.headed)
 header_kept state old mid request flag now error None kept unpassed goes takes = absurd (never goes.0) where
   never : Err error ≡ Ok (tt {0}) → ⊥
   never same = cc
 header_kept {L} {C} state old mid request flag now error (Some view) kept unpassed goes takes =
-    subst (λ (b : Bool). HeaderCall state old (session.put old mid) request (Some view) kept now (Ready (Err error)) b) (sym unpassed)
+    subst (λ (b : Bool). HeaderCall state old (session.put old mid) request (Some view) kept now (Ready (Err error)) b)
+    (sym unpassed)
     (rw takes.0 (record {
       same = ap (λ (t : TransferView L). session.put old t) takes.1;
       back = refl;
@@ -62,7 +66,8 @@ header_kept {L} {C} state old mid request flag now error (Some view) kept unpass
       retry = takes.3;
     }))
 
-takes_header : (old taken new : Outgoing) (request : Request) (flag given : Bool) (header : ResponseView) (now : ℕ) (taking : List ℕ)
+takes_header : (old taken new : Outgoing) (request : Request) (flag given : Bool)
+    (header : ResponseView) (now : ℕ) (taking : List ℕ)
     → given ≡ flag → TakesHeader old taken request given header now taking → Delivered taken new
     → TakesHeader old new request flag header now taking
 takes_header old taken new request flag given header now taking same takes done = record {
@@ -89,7 +94,8 @@ pub header_written : {L C : Type 0} (state : L → LinkState) (old : SessionView
     outcome
     → HeaderCall state old (record (session.put old new) { keep = flag }) request header kept now
     outcome (is_passed_over header old.reply.headed)
-header_written {L} {C} state old mid new request flag now result outcome None kept unpassed flag_is free unrefused goes takes ok d =
+header_written {L} {C} state old mid new request flag now result outcome None
+    kept unpassed flag_is free unrefused goes takes ok d =
     let before = session.transfer old in
     let same = goes.1 in
     let taken_is = ap (λ (m : TransferView L). m.outgoing) same in
@@ -100,14 +106,19 @@ header_written {L} {C} state old mid new request flag now result outcome None ke
       taking = [];
       left = d.left;
       writes = writes_in state old new [] d.left (writes state before new mid.outgoing d.left [] told.0
-          (ap (λ (r : Outgoing). r.owed) taken_is ∙ sym (append-nil old.reply.owed)) (ap (λ (r : Outgoing). r.sent) taken_is) done);
+          (ap (λ (r : Outgoing). r.owed) taken_is ∙ sym (append-nil old.reply.owed))
+          (ap (λ (r : Outgoing). r.sent) taken_is) done);
       takes = (refl, same_reply old.reply mid.outgoing new.outgoing taken_is done);
       answer = header_answer (state old.link) (state new.link) mid.outgoing new.outgoing d.left outcome
-          (ap (λ (r : Outgoing). r.step) taken_is ∙ free) (ap (λ (r : Outgoing). r.refused) taken_is ∙ unrefused) told.1;
+          (ap (λ (r : Outgoing). r.step) taken_is ∙ free)
+          (ap (λ (r : Outgoing). r.refused) taken_is ∙ unrefused) told.1;
     })
-header_written {L} {C} state old mid new request flag now result outcome (Some view) kept unpassed flag_is free unrefused goes takes_any ok d =
+header_written {L} {C} state old mid new request flag now result outcome (Some view)
+    kept unpassed flag_is free unrefused goes takes_any ok d =
     let before = session.transfer old in
-    let takes = subst (λ (r : Result (Unit {0}) Error). TakesUpHeader (session.transfer old) mid request flag view kept now r) ok takes_any in
+    let takes =
+    subst (λ (r : Result (Unit {0}) Error). TakesUpHeader (session.transfer old) mid request flag view kept now r)
+    ok takes_any in
     let told = written_by state _ before mid new outcome takes.3 d in
     let done = delivered _ (state old.link) (state new.link) mid.outgoing new.outgoing d.left outcome told.1 in
     subst (λ (b : Bool). HeaderCall state old (record (session.put old new) { keep = flag }) request
@@ -119,7 +130,8 @@ header_written {L} {C} state old mid new request flag now result outcome (Some v
           new mid.outgoing.owed d.left (writes state before new mid.outgoing d.left
           mid.outgoing.owed told.0
           (ap (λ bytes. bytes ++ mid.outgoing.owed) (sym takes.4)) takes.2.sent done);
-      takes = takes_header old.reply mid.outgoing new.outgoing request _ flag view now mid.outgoing.owed flag_is takes.1 done;
+      takes = takes_header old.reply mid.outgoing new.outgoing request _ flag view
+          now mid.outgoing.owed flag_is takes.1 done;
       answer = header_answer (state old.link) (state new.link) mid.outgoing new.outgoing d.left outcome takes.2.step
           (takes.2.refused ∙ unrefused) told.1;
     }))

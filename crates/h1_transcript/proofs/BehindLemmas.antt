@@ -54,7 +54,8 @@ read_more (e ∷ later) since rest more h =
       ap (body (framing e.head)) front ∙ whole_stays (framing e.head) (drop h.0 since) more e.body h.2 h.3,
       h.4,
       h.5,
-      subst (λ xs. ReadBehind xs later (rest ++ more)) (sym behind) (read_more later (drop h.2 (drop h.0 since)) rest more h.6),
+      subst (λ xs. ReadBehind xs later (rest ++ more)) (sym behind)
+          (read_more later (drop h.2 (drop h.0 since)) rest more h.6),
     )
 
 -- bytes that are written join the rest

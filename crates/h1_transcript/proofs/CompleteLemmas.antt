@@ -63,7 +63,8 @@ first_of : (bytes rest : List ℕ) (n : ℕ) (head : RequestView) (both : Bool)
 first_of bytes rest n head both [] h p =
     absurd (no_head (bytes ++ rest) n head both p (HeadAt-append bytes rest n head both h))
 first_of bytes rest n head both (m ∷ more) h p =
-    let same = HeadAt-unique (bytes ++ rest) n p.0 head m.head both m.both (HeadAt-append bytes rest n head both h) p.1 in
+    let same = HeadAt-unique (bytes ++ rest) n p.0 head m.head both m.both
+    (HeadAt-append bytes rest n head both h) p.1 in
     let front : drop p.0 (bytes ++ rest) ≡ drop n bytes ++ rest =
     ap (λ i. drop i (bytes ++ rest)) (sym same.0) ∙ drop-append-le n bytes rest h.cuts.within in
     let found = whole_of m.body more (λ k. Parses (drop k (drop p.0 (bytes ++ rest))) more empty) p.3 in
@@ -76,12 +77,15 @@ first_of bytes rest n head both (m ∷ more) h p =
       head_is = same.1;
       both_is = same.2;
       body_is = found.2;
-      body_at = ap (body (framing head)) (sym front) ∙ ap (λ r. body (framing r) (drop p.0 (bytes ++ rest))) same.1 ∙ p.2 ∙ found.2;
+      body_at = ap (body (framing head)) (sym front)
+          ∙ ap (λ r. body (framing r) (drop p.0 (bytes ++ rest))) same.1
+          ∙ p.2 ∙ found.2;
       parses = subst (λ xs. Parses (drop found.1 xs) more empty) front found.3;
     }
 
 -- the first request is this one, which was read whole, and what is left after it
-record Next (bytes rest : List ℕ) (n : ℕ) (head : RequestView) (both : Bool) (payload : List ℕ) (k : ℕ) (requests : List Message) : Type 0 where
+record Next (bytes rest : List ℕ) (n : ℕ) (head : RequestView) (both : Bool)
+    (payload : List ℕ) (k : ℕ) (requests : List Message) : Type 0 where
   m : Message
   more : List Message
   requests_is : requests ≡ m ∷ more
@@ -161,7 +165,8 @@ not_begun behind (m ∷ more) p x = HeadAt-not_begun behind p.0 m.head m.both p.
 pub not_cut : (behind : List ℕ) (left : List Message) (e : Entry) → Parses behind left empty
     → LastStands behind e (unfinished e.body) → ⊥
 not_cut behind left e p x =
-    let f = first_of behind [] x.n e.head e.both left x.head (subst (λ xs. Parses xs left empty) (sym (append-nil behind)) p) in
+    let f =
+    first_of behind [] x.n e.head e.both left x.head (subst (λ xs. Parses xs left empty) (sym (append-nil behind)) p) in
     never (sym x.body ∙ ap (body (framing e.head)) (sym (append-nil (drop x.n behind))) ∙ f.body_at)
   where
     never : {payload : List ℕ} {k : ℕ} → unfinished e.body ≡ whole payload k → ⊥
@@ -219,6 +224,7 @@ last_wished now (d ∷ later) e since rest read requests b a p w =
     subst (λ x. BehindBody x (λ k. Begins (drop k (drop begins.0 since)) q.more) (q.more ≡ [])) q.body_is begins.3 in
     let f = next_of since rest begins.0 q.m.head q.m.both d.body q.used requests begins.1 (begins.2 ∙ q.body_is) p in
     let wishes : AllByRecursion IsWished (f.m ∷ f.more) = subst (AllByRecursion IsWished) f.requests_is w in
-    let next = last_wished now later e (drop q.used (drop begins.0 since)) rest q.more f.more behind q.others f.parses wishes.1 in
+    let next = last_wished now later e (drop q.used (drop begins.0 since)) rest q.more f.more
+    behind q.others f.parses wishes.1 in
     let len : length requests ≡ length (f.m ∷ f.more) = ap length f.requests_is in
     (next.0, omega (arith, next.1, len))

@@ -106,7 +106,8 @@ grows_on now first second third before behind a b c x y = record {
   body = (x.body.0 ++ y.body.0, y.body.1 ∙ ap (λ xs. xs ++ y.body.0) x.body.1 ∙ append_assoc a.body x.body.0 y.body.0);
   handed = omega arith;
   body_error = stays_on _ _ _ x.body_error y.body_error;
-  refused = refused_on first second third before behind a.body_error b.body_error c.body_error x.body_error y.body_error x.refused y.refused;
+  refused = refused_on first second third before behind
+      a.body_error b.body_error c.body_error x.body_error y.body_error x.refused y.refused;
   reply = stays_on _ _ _ x.reply y.reply;
   replied = replied_on a.reply a b c x.reply x.replied y.replied;
   sent_head = stays_on _ _ _ x.sent_head y.sent_head;
@@ -124,7 +125,8 @@ begun_on : (now : ℕ) (shutdown : Bool) (first second third : LinkState) → La
 begun_on now shutdown first second third before behind b c x y = record {
   keep_off = rw y.began x.keep_off;
   dated = date_on now b.sent_head b c refl x.dated y.sent_head y.dated;
-  refused = refused_on first second third before behind None b.body_error c.body_error tt y.body_error x.refused y.refused;
+  refused = refused_on first second third before behind
+      None b.body_error c.body_error tt y.body_error x.refused y.refused;
 }
 
 begun_back : (now : ℕ) (shutdown : Bool) (first second third : LinkState) → Later first second
@@ -168,7 +170,8 @@ pub extends_on : (now : ℕ) (shutdown : Bool) (first second third : LinkState) 
     → Later second third → (a b c : List Entry)
     → Extends now shutdown first second a b → Extends now shutdown second third b c
     → Extends now shutdown first third a c
-extends_on now shutdown first second third before behind [] b c x y = all_on now shutdown first second third before behind b c x y
+extends_on now shutdown first second third before behind [] b c x y =
+    all_on now shutdown first second third before behind b c x y
 extends_on now shutdown first second third before behind (e ∷ []) [] c x y = absurd x
 extends_on now shutdown first second third before behind (e ∷ []) (n ∷ []) [] x y = absurd y
 extends_on now shutdown first second third before behind (e ∷ []) (n ∷ []) (m ∷ rest) x y =
@@ -189,7 +192,8 @@ pub extends_itself : (now : ℕ) (shutdown : Bool) (before behind : LinkState) (
     → Extends now shutdown before behind a a
 extends_itself now shutdown before behind [] = tt
 extends_itself now shutdown before behind (e ∷ []) = (grows_same now before behind e, tt)
-extends_itself now shutdown before behind (e ∷ f ∷ later) = (refl, extends_itself now shutdown before behind (f ∷ later))
+extends_itself now shutdown before behind (e ∷ f ∷ later) =
+    (refl, extends_itself now shutdown before behind (f ∷ later))
 
 -- the last exchange extends the transcript, after those that ended
 pub extends_last : (now : ℕ) (shutdown : Bool) (first second : LinkState) (done : List Entry)
@@ -226,7 +230,8 @@ pub replies_grow : (now : ℕ) (shutdown : Bool) (before behind : LinkState) (a 
     → Extends now shutdown before behind a b → replies a ≤ replies b
 replies_grow now shutdown before behind [] b h = omega arith
 replies_grow now shutdown before behind (e ∷ []) [] h = absurd h
-replies_grow now shutdown before behind (e ∷ []) (n ∷ more) h = let one = reply_stays e n h.0.reply in omega (arith, one)
+replies_grow now shutdown before behind (e ∷ []) (n ∷ more) h =
+    let one = reply_stays e n h.0.reply in omega (arith, one)
 replies_grow now shutdown before behind (e ∷ f ∷ later) [] h = absurd h
 replies_grow now shutdown before behind (e ∷ f ∷ later) (n ∷ more) h =
     let rest = replies_grow now shutdown before behind (f ∷ later) more h.1 in

@@ -18,7 +18,9 @@ use Rattle.h1_transcript.specs.Stream.{refused}
 use Rattle.h1_transcript.proofs.CompleteLemmas.{told_of, left_of, none_left, not_refused, not_begun, not_cut, not_broken, last_wished}
 
 -- the premises: valid input, of which the link gave a front, and exchanges that keep the connection
-record Serving (gives : Given → Reply → Type 0) (limit : Option ℕ) (before old now : LinkState) (input : List ℕ) (requests : List Message) (transcript : List Entry) : Type 0 where
+record Serving (gives : Given → Reply → Type 0) (limit : Option ℕ)
+    (before old now : LinkState) (input : List ℕ) (requests : List Message)
+    (transcript : List Entry) : Type 0 where
   valid : IsValid input requests
   gave : GaveOf input before now
   within : AreWithin limit (length requests)
@@ -65,7 +67,8 @@ all_true wished off left follows a b c d = rw a (rw b (rw c d))
 
 flag_true : (e : Entry) → wish e.head e.both ≡ true → e.left.keep_off ≡ false
     → has_reuses e.left.reuses ≡ true → e.how ≡ Whole → may_keep e ≡ true
-flag_true e wished off left whole = rw whole (all_true (wish e.head e.both) e.left.keep_off (has_reuses e.left.reuses) true wished off left refl)
+flag_true e wished off left whole =
+    rw whole (all_true (wish e.head e.both) e.left.keep_off (has_reuses e.left.reuses) true wished off left refl)
 
 parses_since : {gives : Given → Reply → Type 0} {limit : Option ℕ} {before old now : LinkState}
     {input : List ℕ} {requests : List Message} {transcript : List Entry}
@@ -80,12 +83,15 @@ kept : (gives : Given → Reply → Type 0) (limit : Option ℕ) (before old now
     → e.keep ≡ true
 kept gives limit before old now input requests done e s sent =
     let read = told_of before.given now.given s.gave.front s.gave.since
-    (λ since. (read : List Message) × Begins since read × AreOf now (done ++ e ∷ []) read) s.gave.before_is s.gave.now_is s.agrees.read in
-    let wished = last_wished now done e s.gave.since s.gave.rest read.0 requests read.1 read.2 (parses_since s) s.valid.wished in
+    (λ since. (read : List Message) × Begins since read × AreOf now (done ++ e ∷ []) read)
+    s.gave.before_is s.gave.now_is s.agrees.read in
+    let wished = last_wished now done e s.gave.since s.gave.rest read.0 requests read.1 read.2
+    (parses_since s) s.valid.wished in
     let allowed = all_last (IsAllowed gives) done e s.agrees.allowed in
     let keeps = all_last KeepsOn done e s.keeps in
     let replied = reply_of e e.sent_head sent allowed.sent_head in
-    let on = if_some ((e.how ≡ Whole) × (e.left.keep_off ≡ false) × (e.left.pipelining ≡ true)) e.reply replied.0 replied.1 keeps.replied in
+    let on = if_some ((e.how ≡ Whole) × (e.left.keep_off ≡ false) × (e.left.pipelining ≡ true))
+    e.reply replied.0 replied.1 keeps.replied in
     let left : has_reuses e.left.reuses ≡ true =
     ap has_reuses (allowed.reuses ∙ begun_last limit 0 false done e s.agrees.begun)
     ∙ some_left limit (0 + length done) (length requests) s.within (omega (arith, wished.1)) in
@@ -100,7 +106,8 @@ pipelined gives limit before old now input requests done e s sent =
     let allowed = all_last (IsAllowed gives) done e s.agrees.allowed in
     let keeps = all_last KeepsOn done e s.keeps in
     let replied = reply_of e e.sent_head sent allowed.sent_head in
-    let on = if_some ((e.how ≡ Whole) × (e.left.keep_off ≡ false) × (e.left.pipelining ≡ true)) e.reply replied.0 replied.1 keeps.replied in
+    let on = if_some ((e.how ≡ Whole) × (e.left.keep_off ≡ false) × (e.left.pipelining ≡ true))
+    e.reply replied.0 replied.1 keeps.replied in
     on.2
 
 -- what was read after the exchanges that ended, and the requests that are left
@@ -116,7 +123,8 @@ rest_of : (gives : Given → Reply → Type 0) (limit : Option ℕ) (before old 
     → (s : Serving gives limit before old now input requests transcript)
     → IfTold before.given now.given (AfterRead done P) → Rest done s.gave.rest requests P
 rest_of gives limit before old now input requests transcript done P s h =
-    let after = told_of before.given now.given s.gave.front s.gave.since (AfterRead done P) s.gave.before_is s.gave.now_is h in
+    let after = told_of before.given now.given s.gave.front s.gave.since (AfterRead done P)
+    s.gave.before_is s.gave.now_is h in
     let left = left_of done s.gave.since after.0 s.gave.rest requests after.1 (parses_since s) in
     record { behind = after.0; holds = after.2; left = left.0; parses = left.1; served = left.2 }
 
@@ -132,8 +140,10 @@ finished : (gives : Given → Reply → Type 0) (limit : Option ℕ) (before old
     → Serving gives limit before old now input requests (done ++ option_to_list last)
     → EndCause before old now done last end.Finished → AreServed done requests
 finished gives limit before old now input requests done last s cause =
-    let r = rest_of gives limit before old now input requests (done ++ option_to_list last) done (λ rest. EndsAs rest empty) s cause.2 in
-    r.served (none_left r.behind r.left r.holds (all_given done s.gave.rest requests (λ rest. EndsAs rest empty) r (s.gave.ended cause.1)))
+    let r = rest_of gives limit before old now input requests (done ++ option_to_list last)
+    done (λ rest. EndsAs rest empty) s cause.2 in
+    r.served (none_left r.behind r.left r.holds
+    (all_given done s.gave.rest requests (λ rest. EndsAs rest empty) r (s.gave.ended cause.1)))
 
 -- the connection is kept after each reply
 never_closed : (gives : Given → Reply → Type 0) (limit : Option ℕ) (before old now : LinkState)
@@ -167,14 +177,22 @@ never_inside gives limit before old now input requests done last error s cause =
       (s : Serving gives limit before old now input requests (done ++ option_to_list last))
       → (AreAllDone before now done last
       × IfTold before.given now.given (λ since. ReadAll since done begun))
-      ⊎ OfLast last (λ e. StopsLast before now done e error (Unit {0}) × IfTold before.given now.given (λ since. LastAfter since done e (unfinished e.body))) → ⊥
+      ⊎ OfLast last (λ e. StopsLast before now done e error (Unit {0})
+      × IfTold before.given now.given (λ since. LastAfter since done e (unfinished e.body)))
+      → ⊥
   by last s (inl h) =
-      let r = rest_of gives limit before old now input requests (done ++ option_to_list last) done (λ rest. EndsAs rest begun) s h.1 in
-      not_begun r.behind r.left (all_given done s.gave.rest requests (λ rest. EndsAs rest begun) r (s.gave.ended cause.0)) r.holds
+      let r = rest_of gives limit before old now input requests (done ++ option_to_list last)
+      done (λ rest. EndsAs rest begun) s h.1 in
+      not_begun r.behind r.left
+      (all_given done s.gave.rest requests (λ rest. EndsAs rest begun) r (s.gave.ended cause.0))
+      r.holds
   by None s (inr h) = absurd h
   by (Some e) s (inr h) =
-      let r = rest_of gives limit before old now input requests (done ++ e ∷ []) done (λ rest. LastStands rest e (unfinished e.body)) s h.1 in
-      not_cut r.behind r.left e (all_given done s.gave.rest requests (λ rest. LastStands rest e (unfinished e.body)) r (s.gave.ended cause.0)) r.holds
+      let r = rest_of gives limit before old now input requests (done ++ e ∷ [])
+      done (λ rest. LastStands rest e (unfinished e.body)) s h.1 in
+      not_cut r.behind r.left e
+      (all_given done s.gave.rest requests (λ rest. LastStands rest e (unfinished e.body)) r (s.gave.ended cause.0))
+      r.holds
 
 -- no read failed, that of a body's error or another
 never_faulty : (gives : Given → Reply → Type 0) (limit : Option ℕ) (before old now : LinkState)
@@ -197,17 +215,20 @@ failed : (gives : Given → Reply → Type 0) (limit : Option ℕ) (before old n
     → error.kind ≡ why → FailureCause before old now done last error why
     → error.kind ≡ kind.NoMemory
 failed gives limit before old now input requests done last error (kind.InvalidHTTPHeader fault) s is cause =
-    let r = rest_of gives limit before old now input requests (done ++ option_to_list last) done (λ rest. EndsAs rest (refused fault)) s cause.1 in
+    let r = rest_of gives limit before old now input requests (done ++ option_to_list last)
+    done (λ rest. EndsAs rest (refused fault)) s cause.1 in
     absurd (not_refused r.behind s.gave.rest r.left fault r.parses r.holds)
 failed gives limit before old now input requests done last error kind.ConnectionClosed s is cause =
     absurd (never_inside gives limit before old now input requests done last error s cause)
 failed gives limit before old now input requests done None error kind.InvalidBody s is cause = absurd cause
 failed gives limit before old now input requests done (Some e) error kind.InvalidBody s is cause =
-    let r = rest_of gives limit before old now input requests (done ++ e ∷ []) done (λ rest. LastStands rest e (broken e.body)) s cause.1 in
+    let r = rest_of gives limit before old now input requests (done ++ e ∷ [])
+    done (λ rest. LastStands rest e (broken e.body)) s cause.1 in
     absurd (not_broken r.behind s.gave.rest r.left e r.parses r.holds)
 failed gives limit before old now input requests done last error kind.ReadError s is cause =
     absurd (never_faulty gives limit before old now input requests done last error s is cause)
-failed gives limit before old now input requests done last error kind.WriteError s is cause = absurd (s.faultless.writes cause)
+failed gives limit before old now input requests done last error kind.WriteError s is cause =
+    absurd (s.faultless.writes cause)
 failed gives limit before old now input requests done None error kind.PrematureBodyEnd s is cause = absurd cause
 failed gives limit before old now input requests done (Some e) error kind.PrematureBodyEnd s is cause =
     absurd (false≢true (sym (all_last KeepsOn done e s.keeps).long ∙ cause.0.short))
@@ -238,4 +259,5 @@ pub served : (gives : Given → Reply → Type 0) (limit : Option ℕ) (before o
     → EndCause before old now done last reason → ServesAll before now requests done last reason
 served gives limit before old now input requests done last reason valid gave within faultless agrees keeps cause =
     served_so gives limit before old now input requests done last reason
-    (record { valid = valid; gave = gave; within = within; faultless = faultless; agrees = agrees; keeps = keeps }) cause
+    (record { valid = valid; gave = gave; within = within; faultless = faultless; agrees = agrees; keeps = keeps })
+    cause

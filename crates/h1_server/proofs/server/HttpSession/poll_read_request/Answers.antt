@@ -10,8 +10,10 @@ returns-in-Whole-clause-reads g c =
     let unrefused = is_nothing c.self.inside.asked.refused c.in_default.not-Some in
     let settings = c.with_keepalive-self-inside.ensures ∙ ap (keepalive_set c.self.inside.settings) c.wished.ensures in
     rw (← c.self.view_is) (if_none c.self.inside.asked.refused _
-    (head_read {C = g.row.C.Denot} g.L.Link.state _ c.read_head-read.new.self c.skip.new.self c.begin_body.new.self c.in-Whole.request c.in-Whole.used
-    c.len-len.result c.with_keepalive-self-inside.result unrefused c.in-Whole.ensures.reads c.skip.ensures c.begin_body.ensures.begins
+    (head_read {C = g.row.C.Denot} g.L.Link.state _ c.read_head-read.new.self c.skip.new.self c.begin_body.new.self
+    c.in-Whole.request c.in-Whole.used
+    c.len-len.result c.with_keepalive-self-inside.result unrefused c.in-Whole.ensures.reads
+    c.skip.ensures c.begin_body.ensures.begins
     c.begin_body.ensures.rest c.len-len.ensures.value settings))
 
 pub returns-in-Stopped-clause-reads : goal.returns-in-Stopped-clause-reads

@@ -20,7 +20,8 @@ pub returns-in-Ready-Ok-clause-reuse : goal.returns-in-Ready-Ok-clause-reuse
 returns-in-Ready-Ok-clause-reuse g c = rw (← c.self.view_is) (reuse_drained g.L.Link.state _
     c.poll_drain_request_body.new.self _ _ _
     (sym c.if-not-may_go_on.ensures) (rw c.in-Ready-Ok.field-0-is at c.in-Ready-Ok.ensures.drains)
-    (ap (λ (x : SessionView g.row.L.Denot g.row.C.Denot). record x { reusable = c.may_follow-self-inside.result }) c.self-2.view_is)
+    (ap (λ (x : SessionView g.row.L.Denot g.row.C.Denot). record x { reusable = c.may_follow-self-inside.result })
+    c.self-2.view_is)
     (λ off. (
       c.may_follow-self-inside.ensures ∙ ap (may_follow c.self-2.inside.settings.pipelining)
           c.received.ensures,

@@ -26,4 +26,5 @@ returns-clause-writes g c =
     (if_some c.self.inside.asked.request _ c.in-Some-request.request c.in-Some-request.is
     (header_written {C = g.row.C.Denot} g.L.Link.state _ c.take_header.new.transfer
     c.poll_deliver.new.self _ c.keep_after-keep.result _ _ c.poll_deliver.result
-    c.args.header.now _ unpassed flag free unrefused c.in_default-take_header.ensures.goes_on c.in_default-take_header.ensures.takes refl delivers)))
+    c.args.header.now _ unpassed flag free unrefused c.in_default-take_header.ensures.goes_on
+    c.in_default-take_header.ensures.takes refl delivers)))
