@@ -67,7 +67,8 @@ pub stop_cause : (P : Type 0) {L C : Type 0} (state : L → LinkState) (old new 
     × (new ≡ old))
     → IfNone old.body.refused (ReadsPayload state old new (Ready (Err error)))
     → IsStopOf error.kind stop → StopCause state old new (Some stop)
-stop_cause P {L} {C} state old new error stop again reads is = by_kind error.kind refl (by_refused old.body.refused refl again reads) is
+stop_cause P {L} {C} state old new error stop again reads is =
+    by_kind error.kind refl (by_refused old.body.refused refl again reads) is
   where
     for_good : (body : Option (List ℕ)) (error : Error) (k : ErrorType) → error.kind ≡ k
         → (k ≢ NoMemory) → refused_behind body error ≡ Some error
@@ -89,7 +90,8 @@ stop_cause P {L} {C} state old new error stop again reads is = by_kind error.kin
         → (error.kind ≢ NoMemory → new.body.refused ≡ Some error) → IsStopOf k stop
         → StopCause state old new (Some stop)
     by_kind NoMemory is refused h = subst (λ s. StopCause state old new (Some s)) (sym h) refl
-    by_kind _ is refused h = subst (λ s. StopCause state old new (Some s)) (sym h) (error, refused (λ never. let clash = sym is ∙ never in cc))
+    by_kind _ is refused h = subst (λ s. StopCause state old new (Some s)) (sym h)
+        (error, refused (λ never. let clash = sym is ∙ never in cc))
 
 -- nothing is read yet
 pub reading_itself : {L C : Type 0} (state : L → LinkState) (body : List ℕ) (s : SessionView L C)
@@ -157,7 +159,8 @@ pub appended : (result : Result (Unit {0}) Error) (old now : ResponseView)
     (name value wanted : List ℕ) → value ≡ wanted
     → OnOk result (now ≡ record old { fields = old.fields ++ (name, value) ∷ [] })
     → IfOk result (λ _. now ≡ record old { fields = old.fields ++ (name, wanted) ∷ [] })
-appended (Ok done) old now name value wanted is h = subst (λ v. now ≡ record old { fields = old.fields ++ (name, v) ∷ [] }) is h
+appended (Ok done) old now name value wanted is h =
+    subst (λ v. now ≡ record old { fields = old.fields ++ (name, v) ∷ [] }) is h
 appended (Err error) old now name value wanted is h = tt
 
 -- what the echo application sets leaves it alone how many requests may follow
@@ -199,7 +202,8 @@ settings_are (Some r) head began old begun there is set (inl same) = rw (set, is
 settings_are (Some r) head began old begun there is set (inr same) = rw (set, is, same) refl
 
 -- the reading of one call, with all that it says of the reply
-pub record Gave {L C : Type 0} (state : L → LinkState) (before now : List ℕ) (old begun new : SessionView L C) : Type 0 where
+pub record Gave {L C : Type 0} (state : L → LinkState) (before now : List ℕ)
+    (old begun new : SessionView L C) : Type 0 where
   pub request : IsSome old.request
   pub set : begun ≡ record old { settings = begun.settings }
   pub settings : IfSome old.request (λ r. begun.settings ≡ echo_settings r.header old.settings)
@@ -214,7 +218,8 @@ gave_left : {L C : Type 0} (state : L → LinkState) (before now : List ℕ)
     → Gave state before now old begun new
     → new.settings ≡ echo_settings head began
 gave_left state before now old begun new head began asked runs gave =
-    gave.kept ∙ settings_are old.request head began old.settings begun.settings gave.request asked gave.settings runs.settings
+    gave.kept
+    ∙ settings_are old.request head began old.settings begun.settings gave.request asked gave.settings runs.settings
 
 gave_body : {L C : Type 0} (state : L → LinkState) (before now : List ℕ)
     (old begun new : SessionView L C) (head : RequestView) (began : Settings)
@@ -226,7 +231,8 @@ gave_body {L} {C} state before now old begun new head began runs gave =
 gave_request : {L C : Type 0} (state : L → LinkState) (before now : List ℕ)
     (old begun new : SessionView L C) → Gave state before now old begun new
     → new.request ≡ old.request
-gave_request {L} {C} state before now old begun new gave = gave.reads.request ∙ ap (λ (s : SessionView L C). s.request) gave.set
+gave_request {L} {C} state before now old begun new gave =
+    gave.reads.request ∙ ap (λ (s : SessionView L C). s.request) gave.set
 
 -- an answer that is there, or wants memory
 answers : (given : Given) (reply : Reply) (result : Result Reply Error)
@@ -234,7 +240,8 @@ answers : (given : Given) (reply : Reply) (result : Result Reply Error)
     → IfOk result (λ r. length r.body < 2 ^ 63)
     → IfErr result (λ error. error ≡ no_memory)
     → GivesReply EchoGives given (λ error. error ≡ no_memory) (Ready result)
-answers given reply (Ok r) gives is small err = subst (EchoGives given) (sym is) (gives (subst (λ (r : Reply). length r.body < 2 ^ 63) is small))
+answers given reply (Ok r) gives is small err =
+    subst (EchoGives given) (sym is) (gives (subst (λ (r : Reply). length r.body < 2 ^ 63) is small))
 answers given reply (Err error) gives is small err = err
 
 pub gives_whole : {L C : Type 0} (state : L → LinkState) (before now handed : List ℕ)
@@ -252,7 +259,8 @@ gives_whole state before now handed old begun new head header began result asked
       read = λ stands. let never : Whole ≡ Open = sym whole.0 ∙ stands in cc;
       left = gave_left state before now old begun new head began asked runs gave;
       is = rw (
-        header_is old.request new.request head header (gave_request state before now old begun new gave) gave.request asked has,
+        header_is old.request new.request head header
+            (gave_request state before now old begun new gave) gave.request asked has,
         same,
         gave_body state before now old begun new head began runs gave,
         whole.1,

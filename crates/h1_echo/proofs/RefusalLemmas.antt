@@ -12,7 +12,8 @@ not_open = λ is. cc
 -- the reply of a refusal is lawful
 pub refused_lawful : (given : Given) (reply : Reply) → reply ≡ refused_reply → IsLawful reply.header
 refused_lawful given reply is =
-    let refused : Given = record given { how = Failed; body_error = Some no_memory; left = echo_settings given.head given.began } in
+    let refused : Given =
+    record given { how = Failed; body_error = Some no_memory; left = echo_settings given.head given.began } in
     echo_lawful refused reply (record { read = not_open; left = refl; is = is; small = rw is (omega arith) })
 
 -- the line that states no body is refused only where memory ran out

@@ -13,6 +13,7 @@ use h1_head::{RequestHeader, ResponseHeader};
 use h1_link::Link;
 use h1_server::HttpSession;
 use h1_transcript::Reply;
+use itoa::Buffer;
 use std::alloc::Global;
 
 /// The room that is made for the line with method and target.
@@ -173,7 +174,7 @@ fn reply_to(alloc: Global, header: &RequestHeader, handed: &[u8]) -> Result<Repl
 {
     let body = body_of(alloc, header, handed)?;
     let mut head = ResponseHeader::build(alloc, 200, Some(1))?;
-    state_length(alloc, &mut head, header.raw_path(), body.len() as u64)?;
+    state_length(&mut head, header.raw_path(), body.len() as u64)?;
     Ok(Reply { header: head, body })
 }
 
@@ -192,12 +193,7 @@ fn body_of(alloc: Global, header: &RequestHeader, handed: &[u8]) -> Result<BodyB
 }
 
 /// Adds the field that frames the body of the reply to this target.
-fn state_length(
-    alloc: Global,
-    head: &mut ResponseHeader,
-    target: &[u8],
-    count: u64,
-) -> Result<(), Error>
+fn state_length(head: &mut ResponseHeader, target: &[u8], count: u64) -> Result<(), Error>
     requires fresh { head.old.fields ≡ [] }
     requires count { count < 2 ^ 63 }
     ensures ok { IfOk result
@@ -209,22 +205,22 @@ fn state_length(
     } else if target == b"/chunk".as_slice() {
         head.append_header(b"transfer-encoding", b"chunked")
     } else if target == b"/short".as_slice() {
-        add_length(alloc, head, count + 1)
+        add_length(head, count + 1)
     } else {
-        add_length(alloc, head, count)
+        add_length(head, count)
     }
 }
 
 /// Adds the field that states this length.
-fn add_length(alloc: Global, head: &mut ResponseHeader, length: u64) -> Result<(), Error>
+fn add_length(head: &mut ResponseHeader, length: u64) -> Result<(), Error>
     ensures ok { IfOk result
         (λ _. head.new
         ≡ record head.old
         { fields = head.old.fields ++ (codes "content-length", decimal length) ∷ [] }) }
     ensures err { IfErr result (λ error. error ≡ no_memory) }
 {
-    let text = length.to_string(alloc)?;
-    head.append_header(b"content-length", text.as_bytes())
+    let mut digits = Buffer::new();
+    head.append_header(b"content-length", digits.format(length).as_bytes())
 }
 
 /// The reply to a request whose body can't be read on.
@@ -233,7 +229,7 @@ fn refusal(alloc: Global) -> Result<Reply, Error>
     ensures err { IfErr result (λ error. error ≡ no_memory) }
 {
     let mut header = ResponseHeader::build(alloc, 400, Some(1))?;
-    add_length(alloc, &mut header, 0)?;
+    add_length(&mut header, 0)?;
     Ok(Reply {
         header,
         body: BodyBytes::new(alloc),

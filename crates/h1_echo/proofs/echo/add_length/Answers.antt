@@ -5,9 +5,11 @@ use Rattle.h1_echo.proofs.echo.add_length.Goals as goal
 
 pub returns-clause-ok : goal.returns-clause-ok
 returns-clause-ok c =
-    appended c.append_header.result _ _ (codes "content-length") _ _ (c.as_bytes.ensures.value ∙ c.in_ok-text.ensures.ok) c.append_header.ensures.ok
+    appended c.append_header.result _ _ (codes "content-length") _ _
+    (c.as_bytes.ensures.value ∙ c.format.ensures.text) c.append_header.ensures.ok
 
 pub returns-clause-err : goal.returns-clause-err
 returns-clause-err c =
-    let fault = length_value _ c.args.length (c.as_bytes.ensures.value ∙ c.in_ok-text.ensures.ok) c.ranges.length.fits in
-    only_memory c.append_header.result (codes "content-length") c.as_bytes.result.now fault c.append_header.ensures.refused
+    let fault = length_value _ c.args.length (c.as_bytes.ensures.value ∙ c.format.ensures.text) c.ranges.length.fits in
+    only_memory c.append_header.result (codes "content-length") c.as_bytes.result.now fault
+    c.append_header.ensures.refused

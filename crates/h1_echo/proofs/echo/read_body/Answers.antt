@@ -12,7 +12,8 @@ reads-init g c = record {
 
 pub returns-in-Some-clause-reads : goal.returns-in-Some-clause-reads
 returns-in-Some-clause-reads g c =
-    reads_on g.L.Link.state _ _ _ c.reads.invariant.reading.only c.reads.invariant.reading.free c.read_piece.ensures.reads
+    reads_on g.L.Link.state _ _ _
+    c.reads.invariant.reading.only c.reads.invariant.reading.free c.read_piece.ensures.reads
 
 pub returns-in-Some-clause-plan : goal.returns-in-Some-clause-plan
 returns-in-Some-clause-plan g c = g.met.L.Link.plan_on _ _ _ c.reads.invariant.plan c.read_piece.ensures.plan
@@ -21,13 +22,17 @@ pub returns-in-Some-clause-settings : goal.returns-in-Some-clause-settings
 returns-in-Some-clause-settings g c = c.read_piece.ensures.settings ∙ c.reads.invariant.reading.settings
 
 pub returns-in-Some-clause-body : goal.returns-in-Some-clause-body
-returns-in-Some-clause-body g c = reading_gathers c.args.body.now c.reads.body _ c.args.http.now c.reads.http c.read_piece.new.http _ c.reads.invariant.reading.body c.in-Some.ensures.body
+returns-in-Some-clause-body g c =
+    reading_gathers c.args.body.now c.reads.body _ c.args.http.now c.reads.http c.read_piece.new.http _
+    c.reads.invariant.reading.body c.in-Some.ensures.body
 
 pub reads-smaller : goal.reads-smaller
 reads-smaller g c = let longer = c.in-None.ensures.longer in omega arith
 
 pub reads-preserved : goal.reads-preserved
 reads-preserved g c = record {
-  reading = reading_on g.L.Link.state _ _ _ _ _ _ c.reads.invariant.reading c.read_piece.ensures.reads c.in-None.ensures.cause c.read_piece.ensures.settings c.in-None.ensures.body;
+  reading = reading_on g.L.Link.state _ _ _ _ _ _
+      c.reads.invariant.reading c.read_piece.ensures.reads
+      c.in-None.ensures.cause c.read_piece.ensures.settings c.in-None.ensures.body;
   plan = g.met.L.Link.plan_on _ _ _ c.reads.invariant.plan c.read_piece.ensures.plan;
 }

@@ -5,7 +5,8 @@ use Rattle.h1_echo.proofs.echo.read_piece.Goals as goal
 
 pub returns-in-Ready-Err-clause-reads : goal.returns-in-Ready-Err-clause-reads
 returns-in-Ready-Err-clause-reads g c =
-    reads_call g.L.Link.state _ _ _ c.requires.budget c.poll_read_body_bytes.ensures.again c.poll_read_body_bytes.ensures.reads c.poll_read_body_bytes.ensures.calls
+    reads_call g.L.Link.state _ _ _ c.requires.budget
+    c.poll_read_body_bytes.ensures.again c.poll_read_body_bytes.ensures.reads c.poll_read_body_bytes.ensures.calls
 
 pub returns-in-Ready-Err-clause-cause : goal.returns-in-Ready-Err-clause-cause
 returns-in-Ready-Err-clause-cause g c =
