@@ -28,13 +28,15 @@ pub settled_later : (sent : Option ResponseView) (owed : Bool) (total : ℕ)
     → IfSome sent (λ head. owed ≡ false → FlushedBy before now total)
     → IfSome sent (λ head. owed ≡ false → FlushedBy before later total)
 settled_later None owed total before now later le h = tt
-settled_later (Some head) owed total before now later le h = λ free. rose_later total before.bytes_out now.flushed later.flushed le (h free)
+settled_later (Some head) owed total before now later le h =
+    λ free. rose_later total before.bytes_out now.flushed later.flushed le (h free)
 
 pub settled_on : (before now later : LinkState) (done : List Entry) (last : Option Entry)
     → now.flushed ≤ later.flushed
     → SettledSo before now done last → SettledSo before later done last
 settled_on before now later done None le h = tt
-settled_on before now later done (Some e) le h = settled_later e.sent_head e.owed (written_of done + e.written) before now later le h
+settled_on before now later done (Some e) le h =
+    settled_later e.sent_head e.owed (written_of done + e.written) before now later le h
 
 -- a body that can't be read on stays so
 pub stops_on : {L C : Type 0} (state : L → LinkState) (old new : SessionView L C) (k : ErrorType)
@@ -64,9 +66,11 @@ pub all_done : {L C : Type 0} (state : L → LinkState) (before : LinkState)
     → Accounted state before session done None → AreAllDone before (state session.link) done None
 all_done state before session done s = record {
   none = refl;
-  written = told_map before.written (state session.link).written (AfterWrote done (λ rest. rest ≡ [])) (λ since. WroteBehind since done [])
+  written = told_map before.written (state session.link).written (AfterWrote done (λ rest. rest ≡ []))
+      (λ since. WroteBehind since done [])
       (λ since p. subst (λ xs. WroteBehind since done xs) p.2 p.1)
-      (wrote_map done before.written (state session.link).written (λ rest. WroteSo rest session None × (session.reply.sent ≡ min (length rest) (2 ^ 64 - 1)))
+      (wrote_map done before.written (state session.link).written
+      (λ rest. WroteSo rest session None × (session.reply.sent ≡ min (length rest) (2 ^ 64 - 1)))
       (λ rest. rest ≡ []) (λ rest h. h.0.0) s.wrote);
   flushed = s.flushed;
 }
@@ -181,7 +185,9 @@ pub accounted_headed : {L C : Type 0} (state : L → LinkState) (old new : Sessi
 accounted_headed state old new bytes budget left used request before done r head wishes rest same none is s =
     accounted_more state old new None bytes budget left before done r same none
     (λ since e. subst (λ x. ReadAhead since new.received x) (sym is)
-    (subst (λ xs. ReadHead xs new.received request) (sym e) (record { n = used; head = head; bytes = sym rest; wish = wishes }))) (λ since h. rw same h) tt tt s
+    (subst (λ xs. ReadHead xs new.received request) (sym e)
+    (record { n = used; head = head; bytes = sym rest; wish = wishes })))
+    (λ since h. rw same h) tt tt s
 
 -- a head that was read begins the exchange
 pub accounted_begun : {L C : Type 0} (state : L → LinkState) (old new : SessionView L C)
@@ -192,11 +198,14 @@ pub accounted_begun : {L C : Type 0} (state : L → LinkState) (old new : Sessio
     → ((rest : List ℕ) → reads new.body.reader rest ≡ body (framing request.header) rest)
     → new.reply ≡ old.reply → old.request ≡ None → IsNewEntry request settings e
     → Accounted state before old done None → Accounted state before new done (Some e)
-accounted_begun {L} {C} state old new bytes budget left used request settings e before done r head rest reader same none is s =
+accounted_begun {L} {C} state old new bytes budget left used request settings e before done r
+    head rest reader same none is s =
     let headed : HeadAt bytes used e.head e.both = rw (is.head, is.both) head in
-    let read : HasRead (framing e.head) [] e.body new.body.reader = rw (is.head, is.body) (read_none (framing request.header) new.body.reader reader) in
+    let read : HasRead (framing e.head) [] e.body new.body.reader =
+    rw (is.head, is.body) (read_none (framing request.header) new.body.reader reader) in
     accounted_more state old new (Some e) bytes budget left before done r same none
-    (λ since eq. subst (λ xs. ReadEntry xs e new) (sym eq) (record { n = used; used = []; head = headed; bytes = sym rest; decoded = read; stood = rw is.reply tt }))
+    (λ since eq. subst (λ xs. ReadEntry xs e new) (sym eq)
+    (record { n = used; used = []; head = headed; bytes = sym rest; decoded = read; stood = rw is.reply tt }))
     (λ since h. rw (same, is.sent_body, is.sent_head, h.0, h.1) refl) (rw is.body_error tt) (rw is.sent_head tt) s
 
 -- received bytes that begin no head are nothing, or a head that is begun
@@ -212,7 +221,8 @@ pub told_lacks : (before now : LinkState) (done : List Entry) (bytes : List ℕ)
     → LacksSo before now done None
 told_lacks before now done bytes all told h = (
   all,
-  told_map before.given now.given (AfterRead done (λ rest. rest ≡ bytes)) (λ since. ReadAll since done empty ⊎ ReadAll since done begun)
+  told_map before.given now.given (AfterRead done (λ rest. rest ≡ bytes))
+      (λ since. ReadAll since done empty ⊎ ReadAll since done begun)
       (λ since p. lacks_head done since bytes (subst (λ xs. ReadBehind since done xs) p.2 p.1) h) told,
 )
 

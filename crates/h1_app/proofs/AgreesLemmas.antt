@@ -36,7 +36,8 @@ refused_as : {L C : Type 0} (state : L → LinkState) (session : SessionView L C
 refused_as state session e used kind.InvalidBody stops read =
     let f = framing e.head in
     let all : body f used ≡ broken e.body =
-    read_is f used e.body session.body.reader read ∙ ap (ahead e.body (length used)) stops ∙ ap broken (append-nil e.body) in
+    read_is f used e.body session.body.reader read ∙ ap (ahead e.body (length used)) stops
+    ∙ ap broken (append-nil e.body) in
     let grown : GrowsTo (broken e.body) (body f (used ++ session.received)) =
     subst (λ b. GrowsTo b (body f (used ++ session.received))) all (bodies_grow f used session.received) in
     sym (read.read session.received) ∙ grown
@@ -59,7 +60,8 @@ refusal_as : {L C : Type 0} (state : L → LinkState) (session : SessionView L C
     (ahead e.body (length used) (reads session.body.reader session.received)) error.kind
     × (error.retry ≡ false))
 refusal_as state session e used None stops read = tt
-refusal_as state session e used (Some error) stops read = (refused_as state session e used error.kind stops.0 read, stops.1)
+refusal_as state session e used (Some error) stops read =
+    (refused_as state session e used error.kind stops.0 read, stops.1)
 
 -- the bytes begin with the request of the exchange
 one_request : {L C : Type 0} (state : L → LinkState) (since : List ℕ) (session : SessionView L C)
@@ -122,12 +124,14 @@ read_agrees now (e ∷ more) behind since rest h last =
 wrote_agrees : (done behind : List Entry) (since rest : List ℕ) → WroteBehind since done rest
     → AreReplies rest behind → AreReplies since (done ++ behind)
 wrote_agrees [] behind since rest h last = rw h last
-wrote_agrees (e ∷ more) behind since rest h last = on (more ++ behind) (wrote_agrees more behind h.0 rest h.3 last) where
-  on : (entries : List Entry) → AreReplies h.0 entries → AreReplies since (e ∷ entries)
-  on [] none =
-      let all : since ≡ render e = h.1 ∙ ap (λ xs. render e ++ xs) none ∙ append-nil (render e) in
-      (([], sym all ∙ sym (append-nil since)), h.2 ∙ ap (λ xs. min (length xs) (2 ^ 64 - 1)) (sym all))
-  on (f ∷ entries) replies = (h.0, h.1, h.2, replies)
+wrote_agrees (e ∷ more) behind since rest h last =
+    on (more ++ behind) (wrote_agrees more behind h.0 rest h.3 last)
+  where
+    on : (entries : List Entry) → AreReplies h.0 entries → AreReplies since (e ∷ entries)
+    on [] none =
+        let all : since ≡ render e = h.1 ∙ ap (λ xs. render e ++ xs) none ∙ append-nil (render e) in
+        (([], sym all ∙ sym (append-nil since)), h.2 ∙ ap (λ xs. min (length xs) (2 ^ 64 - 1)) (sym all))
+    on (f ∷ entries) replies = (h.0, h.1, h.2, replies)
 
 -- the exchanges that ended are done
 done_agrees : (flushed : ℕ → Type 0) (total : ℕ) (done : List Entry) (last : Option Entry)
@@ -165,7 +169,8 @@ last_wrote rest session (Some e) kept h sent = one_reply rest session e kept h s
 pub agrees_sound : {L C J : Type 0} (gives : Given → Reply → Type 0)
     (runs : J → RequestView → Settings → Settings → List ℕ → Type 0) (limit : Option ℕ)
     (state : L → LinkState)
-    (session : SessionView L C) (done : List Entry) (last : Option Entry) (at : Stage J) (end : Option End) (before : LinkState)
+    (session : SessionView L C) (done : List Entry) (last : Option Entry) (at : Stage J)
+    (end : Option End) (before : LinkState)
     → Sound gives runs limit session done last at end → Accounted state before session done last
     → Agrees gives limit before (state session.link) (done ++ option_to_list last)
 agrees_sound gives runs limit state session done last at end before sound s = record {
@@ -176,6 +181,7 @@ agrees_sound gives runs limit state session done last at end before sound s = re
   begun = sound.begun;
   written = told_map before.written (state session.link).written
       (AfterWrote done (λ rest. WroteSo rest session last × (session.reply.sent ≡ min (length rest) (2 ^ 64 - 1)))) _
-      (λ since h. wrote_agrees done (option_to_list last) since h.0 h.1 (last_wrote h.0 session last sound.kept h.2.0 h.2.1)) s.wrote;
+      (λ since h. wrote_agrees done (option_to_list last) since h.0 h.1
+      (last_wrote h.0 session last sound.kept h.2.0 h.2.1)) s.wrote;
   done = done_agrees (FlushedBy before (state session.link)) 0 done last s.flushed;
 }

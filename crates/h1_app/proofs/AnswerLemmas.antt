@@ -84,7 +84,8 @@ pub still_answers : {L C : Type 0} (state : L → LinkState) (old new : SessionV
     → IsAnswering e old → AsksAs state old new e e2 answer → IsAnswering e2 new
 still_answers {L} {C} state old new e e2 answer a h =
     let r = h.reads in
-    subst (λ (x : Entry). IsAnswering x new) (sym h.entry) (subst (λ (x : SessionView L C). IsAnswering (noted e h.behind) x) (sym h.session) (record {
+    subst (λ (x : Entry). IsAnswering x new) (sym h.entry)
+    (subst (λ (x : SessionView L C). IsAnswering (noted e h.behind) x) (sym h.session) (record {
       request = a.request;
       asked = record {
         is = r.request ∙ a.asked.is;
@@ -114,7 +115,10 @@ lacks_body : {L C : Type 0} (session : SessionView L C) (done : List Entry) (e :
 lacks_body session done e since lacks h =
     let p = h.2 in
     let all : drop p.n h.0 ≡ p.used = p.bytes ∙ ap (λ xs. p.used ++ xs) lacks.0 ∙ append-nil p.used in
-    let so : body (framing e.head) (drop p.n h.0) ≡ unfinished e.body = ap (body (framing e.head)) all ∙ read_is (framing e.head) p.used e.body session.body.reader p.decoded ∙ ap (ahead e.body (length p.used)) lacks.1 ∙ ap unfinished (append-nil e.body) in
+    let so : body (framing e.head) (drop p.n h.0) ≡ unfinished e.body =
+    ap (body (framing e.head)) all
+    ∙ read_is (framing e.head) p.used e.body session.body.reader p.decoded
+    ∙ ap (ahead e.body (length p.used)) lacks.1 ∙ ap unfinished (append-nil e.body) in
     (h.0, h.1, record { n = p.n; head = p.head; body = so })
 
 -- why an application that reads waits
@@ -136,7 +140,8 @@ reads_why {L} {C} state old new e e2 answer a h is =
       waits.2,
       λ before done s. (
         inl none,
-        told_map before.given (state h.behind.link).given (AfterRead done (λ rest. ReadEntry rest e2 left)) (λ since. LastAfter since done e2 (unfinished e2.body))
+        told_map before.given (state h.behind.link).given (AfterRead done (λ rest. ReadEntry rest e2 left))
+            (λ since. LastAfter since done e2 (unfinished e2.body))
             (λ since p. lacks_body left done e2 since waits.0 p) s.read,
       ),
     )
@@ -182,7 +187,8 @@ pub asked_grows : {L C : Type 0} (state : L → LinkState) (now : ℕ) (old new 
     → Grows now (state old.link) (state new.link) e e3
 asked_grows {L} {C} state now old new e e2 e3 answer like a h =
     let r = h.reads in
-    let entry : e3 ≡ record (noted e h.behind) { reply = e3.reply } = like ∙ ap (λ (x : Entry). record x { reply = e3.reply }) h.entry in
+    let entry : e3 ≡ record (noted e h.behind) { reply = e3.reply } =
+    like ∙ ap (λ (x : Entry). record x { reply = e3.reply }) h.entry in
     let read : payload_of h.behind ≡ e.body ++ r.payload = payload_is state old h.behind e.body r in
     let stays = refusal_stays state (lent old e.body) h.behind old.body.refused r.refused in
     let within = refused_in state (lent old e.body) h.behind old.body.refused r.refused in
@@ -194,7 +200,8 @@ asked_grows {L} {C} state now old new e e2 e3 answer like a h =
       body = (r.payload, read);
       handed = omega (arith, a.asked.handed, ap length read, length-append e.body r.payload);
       body_error = subst (λ o. Stays o h.behind.body.refused) (sym a.asked.body_error) stays;
-      refused = subst (λ o. RefusedIn (state old.link) (state new.link) o h.behind.body.refused) (sym a.asked.body_error)
+      refused = subst (λ o. RefusedIn (state old.link) (state new.link) o h.behind.body.refused)
+          (sym a.asked.body_error)
           (subst (λ x. RefusedIn (state old.link) x old.body.refused h.behind.body.refused) (sym link) within);
       reply = rw a.reply tt;
       replied = rw a.reply tt;
@@ -208,15 +215,16 @@ asked_grows {L} {C} state now old new e e2 e3 answer like a h =
 -- what was moved as the application read
 asked_moves : {L C : Type 0} (state : L → LinkState) (old new : SessionView L C) (e e2 : Entry)
     (answer : Asked) → AsksAs state old new e e2 answer → MovesWithin state old new
-asked_moves {L} {C} state old new e e2 answer h = subst (λ (x : SessionView L C). MovesWithin state old x) (sym h.session) (record {
-  read = h.reads.piece;
-  wrote = [];
-  spent = h.reads.spent;
-  moved = h.reads.moved;
-  budget = h.reads.budget;
-  within = h.reads.within;
-  context = h.reads.context;
-})
+asked_moves {L} {C} state old new e e2 answer h =
+    subst (λ (x : SessionView L C). MovesWithin state old x) (sym h.session) (record {
+      read = h.reads.piece;
+      wrote = [];
+      spent = h.reads.spent;
+      moved = h.reads.moved;
+      budget = h.reads.budget;
+      within = h.reads.within;
+      context = h.reads.context;
+    })
 
 -- the application goes on: what it read joins the exchange, and its reply may
 pub asked_stepped : {L C J : Type 0} (state : L → LinkState) (pends : J → ℕ)
@@ -229,8 +237,10 @@ pub asked_stepped : {L C J : Type 0} (state : L → LinkState) (pends : J → �
     → FewReadsNotReady (state x.session.link) (state y.session.link) (e ∷ []) (e3 ∷ []) result
     → OutcomeCause state pends runs x.session y.session (Some e3) x.stage y.stage result
     → Stepped state pends gives runs now shutdown x y result
-asked_stepped {L} {C} state pends gives runs now shutdown x y e e2 e3 job answer result ready at was is like asks allowed kept few outcome =
+asked_stepped {L} {C} state pends gives runs now shutdown x y e e2 e3 job answer result ready at
+    was is like asks allowed kept few outcome =
     let s = at_answer runs x.session x.transcript.last x.stage e job ready.sound at was in
-    grown_stepped state pends gives runs now shutdown x y e e3 result was is (asked_moves state x.session y.session e e2 answer asks)
+    grown_stepped state pends gives runs now shutdown x y e e3 result was is
+    (asked_moves state x.session y.session e e2 answer asks)
     (asked_on state x.session y.session e e2 e3 answer like s.0 asks)
     allowed kept (asked_grows state now x.session y.session e e2 e3 answer like s.0 asks) few outcome

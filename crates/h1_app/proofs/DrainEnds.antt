@@ -60,26 +60,28 @@ drain_accounted state before done old new e f d r s =
 -- the exchange grows by what was read
 pub drain_grows : {L C : Type 0} (state : L → LinkState) (now : ℕ) (old new : SessionView L C)
     (e f : Entry) → Reused state old new e f → Grows now (state old.link) (state new.link) e f
-drain_grows state now old new e f r = subst (λ (x : Entry). Grows now (state old.link) (state new.link) e x) (sym r.entry) (record {
-  head = refl;
-  both = refl;
-  filtered = stays_itself e.filtered;
-  body = (r.payload, refl);
-  handed = omega arith;
-  body_error = stays_itself e.body_error;
-  refused = refused_same (state old.link) (state new.link) e.body_error;
-  reply = stays_itself e.reply;
-  replied = replied_same e.reply e (record e { body = e.body ++ r.payload }) refl refl refl;
-  sent_head = stays_itself e.sent_head;
-  dated = dated_same now e.sent_head e (record e { body = e.body ++ r.payload }) refl refl refl refl refl;
-  sent_body = stays_itself e.sent_body;
-  written = omega arith;
-  began = refl;
-})
+drain_grows state now old new e f r =
+    subst (λ (x : Entry). Grows now (state old.link) (state new.link) e x) (sym r.entry) (record {
+      head = refl;
+      both = refl;
+      filtered = stays_itself e.filtered;
+      body = (r.payload, refl);
+      handed = omega arith;
+      body_error = stays_itself e.body_error;
+      refused = refused_same (state old.link) (state new.link) e.body_error;
+      reply = stays_itself e.reply;
+      replied = replied_same e.reply e (record e { body = e.body ++ r.payload }) refl refl refl;
+      sent_head = stays_itself e.sent_head;
+      dated = dated_same now e.sent_head e (record e { body = e.body ++ r.payload }) refl refl refl refl refl;
+      sent_body = stays_itself e.sent_body;
+      written = omega arith;
+      began = refl;
+    })
 
 pub drain_kept : {L C : Type 0} (state : L → LinkState) (old new : SessionView L C) (e f : Entry)
     → IsDraining e old → Reused state old new e f → IsKept new f
-drain_kept state old new e f d r = ap (λ (x : Entry). x.written) r.entry ∙ d.written ∙ sym (ap (λ (x : Outgoing). x.sent) r.reply)
+drain_kept state old new e f d r =
+    ap (λ (x : Entry). x.written) r.entry ∙ d.written ∙ sym (ap (λ (x : Outgoing). x.sent) r.reply)
 
 -- the payload is no part of the flag
 keep_same : (e : Entry) (payload : List ℕ) → may_keep (record e { body = payload }) ≡ may_keep e
@@ -94,7 +96,8 @@ keep_same e payload = by_how e.how refl
 allowed_more : (gives : Given → Reply → Type 0) (e : Entry) (payload : List ℕ) → IsAllowed gives e
     → IsAllowed gives (record e { body = e.body ++ payload })
 allowed_more gives e payload a =
-    let front : take e.handed (e.body ++ payload) ≡ take e.handed e.body = take-append-le e.handed e.body payload a.handed in
+    let front : take e.handed (e.body ++ payload) ≡ take e.handed e.body =
+    take-append-le e.handed e.body payload a.handed in
     record {
       filtered = a.filtered;
       reply = IfSome_then e.reply a.reply
@@ -123,7 +126,8 @@ allowed_more gives e payload a =
 pub drain_allowed : {L C : Type 0} (gives : Given → Reply → Type 0) (state : L → LinkState)
     (old new : SessionView L C) (e f : Entry) → IsAllowed gives e
     → Reused state old new e f → IsAllowed gives f
-drain_allowed gives state old new e f a r = subst (λ (x : Entry). IsAllowed gives x) (sym r.entry) (allowed_more gives e r.payload a)
+drain_allowed gives state old new e f a r =
+    subst (λ (x : Entry). IsAllowed gives x) (sym r.entry) (allowed_more gives e r.payload a)
 
 -- the payload says nothing of the reply's length, nor of its end
 short_same : (e : Entry) (payload : List ℕ) (head : ResponseView) (sent : List ℕ)
@@ -205,8 +209,10 @@ not_open {L} {C} gives e session a d dead = by_keep e.keep refl
   where
     dated : IsDated e
     dated =
-        let all : IfSome (Some d.reply.header) (λ header. (reply : Reply) × (e.reply ≡ Some reply) × (header ≡ reply.header) × IsLawful header × IsDated e) =
-        subst (λ o. IfSome o (λ header. (reply : Reply) × (e.reply ≡ Some reply) × (header ≡ reply.header) × IsLawful header × IsDated e)) d.sent_head a.sent_head in
+        let all : IfSome (Some d.reply.header) (λ header. (reply : Reply) × (e.reply ≡ Some reply)
+        × (header ≡ reply.header) × IsLawful header × IsDated e) =
+        subst (λ o. IfSome o (λ header. (reply : Reply) × (e.reply ≡ Some reply)
+        × (header ≡ reply.header) × IsLawful header × IsDated e)) d.sent_head a.sent_head in
         all.4
 
     granted : wish e.head e.both ≡ true → grants session.request ≡ true
@@ -244,7 +250,8 @@ pub drain_complete : {L C : Type 0} (state : L → LinkState) (before : LinkStat
     → IsDraining e old → Reused state old new e f → Accounted state before new done (Some f)
     → IsComplete before (state new.link) done f
 drain_complete state before done old new e f d r s =
-    let nothing : end_bytes old.reply.writer ≡ [] = ap (λ sent. coming sent old.reply.writer) (sym d.sent_body) ∙ d.nothing in
+    let nothing : end_bytes old.reply.writer ≡ [] =
+    ap (λ sent. coming sent old.reply.writer) (sym d.sent_body) ∙ d.nothing in
     complete state before done new f d.reply.header d.reply.body (ap (λ (x : Entry). x.owed) r.entry ∙ d.owed) s
     (ap (λ (x : Outgoing). x.owed) r.reply ∙ d.reply_owed) (ap (λ (x : Outgoing). end_bytes x.writer) r.reply ∙ nothing)
     (ap (λ (x : Entry). x.sent_head) r.entry ∙ d.sent_head) (ap (λ (x : Entry). x.sent_body) r.entry ∙ d.sent_body)
@@ -252,11 +259,13 @@ drain_complete state before done old new e f d r s =
 pub drain_long : {L C : Type 0} (state : L → LinkState) (old new : SessionView L C) (e f : Entry)
     → IsDraining e old → Reused state old new e f → is_short f ≡ false
 drain_long state old new e f d r =
-    ap is_short r.entry ∙ short_same e (e.body ++ r.payload) d.reply.header d.reply.body d.sent_head d.sent_body ∙ d.long
+    ap is_short r.entry
+    ∙ short_same e (e.body ++ r.payload) d.reply.header d.reply.body d.sent_head d.sent_body ∙ d.long
 
 drain_closes : {L C : Type 0} (state : L → LinkState) (old new : SessionView L C) (e f : Entry)
     → IsDraining e old → Reused state old new e f → is_until_close f ≡ is_until_close e
-drain_closes state old new e f d r = ap is_until_close r.entry ∙ closes_same e (e.body ++ r.payload) d.reply.header d.sent_head
+drain_closes state old new e f d r =
+    ap is_until_close r.entry ∙ closes_same e (e.body ++ r.payload) d.reply.header d.sent_head
 
 -- and where the link is kept, the connection is kept after it
 pub drain_done : {L C : Type 0} (state : L → LinkState) (before : LinkState) (done : List Entry)
@@ -280,7 +289,8 @@ pub drain_waits : {L C : Type 0} (state : L → LinkState) (before : LinkState) 
     → Accounted state before new done (Some f) → LacksSo before (state new.link) done (Some f)
 drain_waits state before done old new e f d r alive lacks s = (
   inr (drain_done state before done old new e f d r alive s),
-  read_map done before.given (state new.link).given (λ rest. ReadEntry rest f new) (λ rest. LastStands rest f (unfinished f.body))
+  read_map done before.given (state new.link).given (λ rest. ReadEntry rest f new)
+      (λ rest. LastStands rest f (unfinished f.body))
       (λ rest p. stands_unfinished rest f new p lacks.0 lacks.1) s.read,
 )
 
@@ -292,20 +302,23 @@ pub drain_fails : {L C : Type 0} (state : L → LinkState) (before : LinkState) 
     → FailureCause before (state old.link) (state new.link) done (Some f) error k
 drain_fails state before done old new f error kind.InvalidBody h is none s = (
   inr (is, none, tt),
-  read_map done before.given (state new.link).given (λ rest. ReadEntry rest f new) (λ rest. LastStands rest f (broken f.body))
+  read_map done before.given (state new.link).given (λ rest. ReadEntry rest f new)
+      (λ rest. LastStands rest f (broken f.body))
       (λ rest p. stands_broken rest f new p h) s.read,
 )
 drain_fails state before done old new f error kind.ConnectionClosed h is none s = (
   h.0,
   inr (
     inr (is, none, tt),
-    read_map done before.given (state new.link).given (λ rest. ReadEntry rest f new) (λ rest. LastStands rest f (unfinished f.body))
+    read_map done before.given (state new.link).given (λ rest. ReadEntry rest f new)
+        (λ rest. LastStands rest f (unfinished f.body))
         (λ rest p. stands_unfinished rest f new p h.1.0 h.1.1) s.read,
   ),
 )
 drain_fails state before done old new f error kind.ReadError h is none s = inr (
   inr (is, none, h.0),
-  read_map done before.given (state new.link).given (λ rest. ReadEntry rest f new) (λ rest. LastStands rest f (unfinished f.body))
+  read_map done before.given (state new.link).given (λ rest. ReadEntry rest f new)
+      (λ rest. LastStands rest f (unfinished f.body))
       (λ rest p. stands_unfinished rest f new p h.1.0 h.1.1) s.read,
 )
 drain_fails state before done old new f error kind.NoMemory h is none s = tt

@@ -26,7 +26,8 @@ chunks_end s bytes h = absurd (false≢true h)
 pub reading_end : (r : Reading) (bytes : List ℕ) → is_whole (read_as r []) ≡ true
     → read_as r bytes ≡ whole [] 0
 reading_end (reading.Counted zero) bytes h = counted_has 0 bytes (omega arith)
-reading_end (reading.Counted (suc n)) bytes h = absurd (false≢true (sym (ap is_whole (counted_lacks (suc n) [] (omega arith))) ∙ h))
+reading_end (reading.Counted (suc n)) bytes h =
+    absurd (false≢true (sym (ap is_whole (counted_lacks (suc n) [] (omega arith))) ∙ h))
 reading_end (reading.Chunked s) bytes h = chunks_end s bytes h
 reading_end reading.UntilClose bytes h = absurd (false≢true h)
 reading_end reading.Ended bytes h = refl
@@ -193,7 +194,8 @@ pub record HasMore {L C : Type 0} (new : SessionView L C) : Type 0 where
   pub more : 0 < length new.received
 
 -- what the call for reuse answered, by how the session stands after it
-abbrev pub Answered : {L C : Type 0} → (L → LinkState) → SessionView L C → SessionView L C → Poll (Result Bool Error) → Type 0
+abbrev pub Answered : {L C : Type 0} → (L → LinkState) → SessionView L C → SessionView L C
+    → Poll (Result Bool Error) → Type 0
 Answered state old new (Ready (Ok true)) =
     (keeps_alive old ≡ true) × (reads new.body.reader [] ≡ whole [] 0) × (new.body.refused ≡ None)
     × (new.reusable ≡ true) × ((state new.link).read_waits ≡ (state old.link).read_waits)
@@ -242,7 +244,8 @@ answered_kept {L} {C} state old drained payload reusable outcome answer alive so
     by_reusable true read none still may = (alive, read, none, refl, still, sym may)
     by_reusable false read none still may =
         let follows = not_followed drained.settings.pipelining drained.received (sym may) in (
-          alive_same old drained (ap (λ (s : SessionView L C). s.settings) d.rest) (ap (λ (s : SessionView L C). s.request) d.rest)
+          alive_same old drained (ap (λ (s : SessionView L C). s.settings) d.rest)
+              (ap (λ (s : SessionView L C). s.request) d.rest)
               (ap (λ (s : SessionView L C). s.reply) d.rest)
               (ap (λ (s : SessionView L C). s.keep) d.rest) (none ∙ sym unrefused),
           inr (alive, record { read = read; pipelining = follows.0; more = follows.1 }),
@@ -293,7 +296,8 @@ pub reuses_as : {L C : Type 0} (state : L → LinkState) (old asked behind new :
     → payload ≡ payload_of behind → ReusesAs state old new e (record e { body = payload }) answer
 reuses_as {L} {C} state old asked behind new e payload answer replied lent_is reuses session is = record {
   behind = behind;
-  reuses = subst (λ t. ReusesBy state (lent old e.body) behind answer t) (alive_replied (keeps_alive old) (is_replied old.reply) replied)
+  reuses = subst (λ t. ReusesBy state (lent old e.body) behind answer t)
+      (alive_replied (keeps_alive old) (is_replied old.reply) replied)
       (subst (λ (x : SessionView L C). ReusesBy state x behind answer (may_go_on x)) lent_is reuses);
   session = session;
   entry = ap (λ xs. record e { body = xs }) is;

@@ -38,7 +38,8 @@ done_join flushed total [] e h is =
     let same : total + (0 + e.written) ≡ total + e.written = omega arith in
     (subst (λ n. IsDoneAt flushed n e) same is, tt)
 done_join flushed total (f ∷ more) e h is =
-    let same : total + (f.written + written_of more + e.written) ≡ total + f.written + (written_of more + e.written) = omega arith in
+    let same : total + (f.written + written_of more + e.written)
+    ≡ total + f.written + (written_of more + e.written) = omega arith in
     (h.0, done_join flushed (total + f.written) more e h.1 (subst (λ n. IsDoneAt flushed n e) same is))
 
 -- a body of which nothing is to come stays whole, whatever stands after it
@@ -64,7 +65,8 @@ stood_ended : (e : Entry) (used received : List ℕ) (now : BodyState) (reply : 
     → IfSome reply (λ reply. StoodAs e.how e (whole e.body (length used)))
 stood_ended e used received now None read is h = tt
 stood_ended e used received now (Some reply) read is h =
-    subst (λ b. StoodAs e.how e b) (sym (read.read received) ∙ body_ended (framing e.head) used received e.body now.reader read is)
+    subst (λ b. StoodAs e.how e b)
+    (sym (read.read received) ∙ body_ended (framing e.head) used received e.body now.reader read is)
     (stood_as e.how e used received now read h)
 
 -- what is read after a request that was read whole is what is received
@@ -101,7 +103,8 @@ wrote_ended old new done e since ended again h =
     let count : e.written ≡ min (length (render e)) (2 ^ 64 - 1) =
     ended.written ∙ h.2.1 ∙ ap (λ xs. min (length xs) (2 ^ 64 - 1)) all in (
       [],
-      wrote_join done since [] e (subst (λ xs. WroteBehind since done xs) (all ∙ sym (append-nil (render e))) h.1) count,
+      wrote_join done since [] e
+          (subst (λ xs. WroteBehind since done xs) (all ∙ sym (append-nil (render e))) h.1) count,
       ((refl, again.owed), rw again.sent refl),
     )
 
@@ -118,7 +121,8 @@ pub accounted_joined : {L C : Type 0} (state : L → LinkState) (before : LinkSt
     → Accounted state before old done (Some e) → Accounted state before new (done ++ e ∷ []) None
 accounted_joined state before old new done e ended again s = rw again.link (record {
   later = s.later;
-  read = told_map before.given (state old.link).given (AfterRead done (λ rest. ReadEntry rest e old)) (AfterRead (done ++ e ∷ []) (λ rest. ReadSo rest new None))
+  read = told_map before.given (state old.link).given (AfterRead done (λ rest. ReadEntry rest e old))
+      (AfterRead (done ++ e ∷ []) (λ rest. ReadSo rest new None))
       (λ since h. let past = read_past old done e since ended.read ended.unrefused h in
       (past.0, past.1, rw again.request (past.2 ∙ sym again.received))) s.read;
   wrote = told_map before.written (state old.link).written
@@ -129,7 +133,10 @@ accounted_joined state before old new done e ended again s = rw again.link (reco
   flushed = done_join (FlushedBy before (state old.link)) 0 done e s.flushed (record {
     sent_head = ended.sent_head;
     sent_body = ended.sent_body;
-    flushed_so = let flushed = flushed_ended e.sent_head e.owed (FlushedBy before (state old.link) (written_of done + e.written)) ended.sent_head ended.flushed s.settled in
+    flushed_so =
+        let flushed = flushed_ended e.sent_head e.owed
+        (FlushedBy before (state old.link) (written_of done + e.written))
+        ended.sent_head ended.flushed s.settled in
         omega (arith, flushed);
     long = ended.long;
     keep = ended.keep;

@@ -55,7 +55,8 @@ pub leaves_further : {L C A J : Type 0} (state : L → LinkState) (a b c : View 
     → LeavesOn state a b → b.end ≡ None → LeavesOn state b c → LeavesOn state a c
 leaves_further state a b c first alive second = record {
   leaves = leaves_on (state a.session.link) (state b.session.link) (state c.session.link) b.last c.last c.end
-      (subst (λ reason. Leaves (state a.session.link) (state b.session.link) b.last reason) alive first.leaves) second.noted second.leaves;
+      (subst (λ reason. Leaves (state a.session.link) (state b.session.link) b.last reason) alive first.leaves)
+      second.noted second.leaves;
   noted = λ met. second.noted (first.noted met);
 }
 
@@ -115,7 +116,8 @@ asked_met : {L C : Type 0} (state : L → LinkState) (old new : SessionView L C)
 asked_met {L} {C} state old new e e2 e3 answer asks like =
     let calls = asks.reads.calls in
     let noted : e3.body_error ≡ asks.behind.body.refused = like ∙ ap (λ (x : Entry). x.body_error) asks.entry in
-    let met = met_by (state old.link) (state asks.behind.link) e3 old.body.refused asks.behind.body.refused calls.faults noted in
+    let met = met_by (state old.link) (state asks.behind.link) e3 old.body.refused
+    asks.behind.body.refused calls.faults noted in
     rw (ap (λ (x : SessionView L C). x.link) asks.session) (met.0, met.1, calls.shut)
 
 pub asked_leaves : {L C : Type 0} (state : L → LinkState) (old new : SessionView L C)
@@ -149,7 +151,8 @@ pub called_reuse : {L C : Type 0} (state : L → LinkState) (old asked behind : 
 called_reuse {L} {C} state old asked behind payload answer lent_is replied reuses called =
     subst (λ t. CalledForReuse (state old.link) (state behind.link) t (is_reused answer) (read_fault_of answer))
     (alive_replied (keeps_alive old) (is_replied old.reply) replied)
-    (subst (λ (x : SessionView L C). CalledForReuse (state x.link) (state behind.link) (may_go_on x) (is_reused answer) (read_fault_of answer))
+    (subst (λ (x : SessionView L C). CalledForReuse (state x.link) (state behind.link) (may_go_on x)
+    (is_reused answer) (read_fault_of answer))
     lent_is (by_alive (may_go_on asked) refl reuses))
   where
     by_alive : (t : Bool) → may_go_on asked ≡ t → ReusesBy state asked behind answer t
@@ -253,11 +256,14 @@ pub finish_fails : (before now : LinkState) (last : Option Entry) (done : Bool)
 finish_fails before now last done None error calls = write_fails before now last done error calls
 finish_fails before now last done (Some failed) error calls = elim (told_is failed error error.kind refl) [
   | inl short ↦
-      let faults : FaultsBy before now no_fault = subst (λ k. FaultsBy before now (write_fault_of_kind k)) short calls.faults in
+      let faults : FaultsBy before now no_fault =
+      subst (λ k. FaultsBy before now (write_fault_of_kind k)) short calls.faults in
       subst (λ told. Leaves before now last (Some (end.Failed told))) (sym (short_told failed error short)) (record {
         writes = held_writes before.write_faults now.write_faults failed.kind faults.1;
         reads = held_reads before.read_faults now.read_faults last failed.kind (inl faults.0);
         shut = calls.shut;
       })
-  | inr same ↦ subst (λ told. Leaves before now last (Some (end.Failed told))) (sym same) (write_fails before now last done error calls)
+  | inr same ↦
+      subst (λ told. Leaves before now last (Some (end.Failed told))) (sym same)
+      (write_fails before now last done error calls)
 ]

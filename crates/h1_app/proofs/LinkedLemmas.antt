@@ -22,8 +22,10 @@ pub accounted_new : {L C : Type 0} (state : L → LinkState) (link : L) (session
     → Accounted state (state link) session done last
 accounted_new state link session done last is nothing none = rw (nothing, none, is.link) (record {
   later = later_itself (state link);
-  read = told_new (state link).given (AfterRead [] (λ rest. ReadSo rest session None)) ([], refl, new_read link session is);
-  wrote = told_new (state link).written (AfterWrote [] (λ rest. WroteSo rest session None × (session.reply.sent ≡ min (length rest) (2 ^ 64 - 1))))
+  read = told_new (state link).given (AfterRead [] (λ rest. ReadSo rest session None))
+      ([], refl, new_read link session is);
+  wrote = told_new (state link).written
+      (AfterWrote [] (λ rest. WroteSo rest session None × (session.reply.sent ≡ min (length rest) (2 ^ 64 - 1))))
       ([], refl, ((refl, ap (λ r. r.owed) is.reply), rw is.reply refl));
   stopped = tt;
   flushed = tt;
@@ -85,6 +87,8 @@ pub accounted_made : {L C : Type 0} (state : L → LinkState) (link : L)
     → IsNewSession link fresh → session ≡ record fresh { settings = settings } → done ≡ []
     → last ≡ None → Accounted state (state link) session done last
 accounted_made {L} {C} state link fresh session settings done last is set nothing none =
-    let start : Accounted state (state link) fresh done last = accounted_new state link fresh done last is nothing none in
+    let start : Accounted state (state link) fresh done last =
+    accounted_new state link fresh done last is nothing none in
     let made : SessionView L C = record fresh { settings = settings } in
-    rw set (accounted_linked state fresh made last (state link) done (keeps_itself (state fresh.link)) refl refl refl refl start)
+    rw set (accounted_linked state fresh made last (state link) done
+    (keeps_itself (state fresh.link)) refl refl refl refl start)

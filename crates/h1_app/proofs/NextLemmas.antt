@@ -59,13 +59,15 @@ next_set limit old new done e d a reuses begun =
       closing = ap (λ (s : Settings). s.closing) settings;
       pipelining_is = ap (λ (s : Settings). s.pipelining) settings ∙ ap (λ (s : Settings). s.pipelining) (sym d.left)
           ∙ sym (pipelining_last false done e);
-      reuses = ap (λ (s : Settings). s.reuses) settings ∙ ap one_less left ∙ one_fewer limit (0 + length done) ∙ ap (reuses_at limit) more;
+      reuses = ap (λ (s : Settings). s.reuses) settings ∙ ap one_less left
+          ∙ one_fewer limit (0 + length done) ∙ ap (reuses_at limit) more;
     }
 
 -- the next head is awaited, and the connection is sound
 sound_joined : {L C J : Type 0} (gives : Given → Reply → Type 0)
     (runs : J → RequestView → Settings → Settings → List ℕ → Type 0) (limit : Option ℕ)
-    (old new : SessionView L C) (done : List Entry) (e : Entry) → Sound gives runs limit old done (Some e) stage.Next None
+    (old new : SessionView L C) (done : List Entry) (e : Entry)
+    → Sound gives runs limit old done (Some e) stage.Next None
     → IsDraining e old → AwaitsNext old new
     → Sound gives runs limit new (done ++ e ∷ []) None stage.Head None
 sound_joined gives runs limit old new done e s d a = record {
@@ -78,7 +80,8 @@ sound_joined gives runs limit old new done e s d a = record {
     record {
       request = ap (λ s. s.request) a.rest;
       refused = ap (λ s. s.refused) a.rest;
-      unwritten = subst IsUnwritten (sym (ap (λ s. s.reply) a.rest)) (record { owed = refl; free = refl; headed = refl; refused = refl; sent = refl });
+      unwritten = subst IsUnwritten (sym (ap (λ s. s.reply) a.rest))
+          (record { owed = refl; free = refl; headed = refl; refused = refl; sent = refl });
       kept = ap (λ b. b.kept) a.body.rest;
       body_refused = ap (λ b. b.refused) a.body.rest;
       waits = ap (λ b. b.waits) a.body.rest;

@@ -18,11 +18,13 @@ below UntilClose handed used payload reader b count read is goes = tt
 below (Counted n) handed used payload reader b count read is goes = elim (cases_lt (length used) n) [
   | inl lacks ↦
       let now : unfinished used ≡ ahead payload (length used) b =
-      sym (counted_lacks n used lacks) ∙ read_is (Counted n) used payload reader read ∙ ap (ahead payload (length used)) is in
+      sym (counted_lacks n used lacks) ∙ read_is (Counted n) used payload reader read
+      ∙ ap (ahead payload (length used)) is in
       unread b now lacks
   | inr has ↦
       let now : whole (take n used) n ≡ ahead payload (length used) b =
-      sym (counted_has n used has) ∙ read_is (Counted n) used payload reader read ∙ ap (ahead payload (length used)) is in
+      sym (counted_has n used has) ∙ read_is (Counted n) used payload reader read
+      ∙ ap (ahead payload (length used)) is in
       absurd (whole_so b now goes)
 ] where
   unread : (b : Body) → unfinished used ≡ ahead payload (length used) b → length used < n

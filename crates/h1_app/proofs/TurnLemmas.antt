@@ -84,7 +84,8 @@ next_stepped : {L C J : Type 0} (runs : J → RequestView → Settings → Setti
     → IfAwaiting to (IsNextSet limit done session.settings)
 next_stepped runs limit now shutdown first second old session done None None stage.Head h extends begins next =
     set_alike limit (length done) (pipelining_behind false done) old session.settings (next refl) begins
-next_stepped runs limit now shutdown first second old session done (Some a) None stage.Head h extends begins next = absurd extends
+next_stepped runs limit now shutdown first second old session done (Some a) None stage.Head h extends begins next =
+    absurd extends
 next_stepped runs limit now shutdown first second old session done last (Some b) stage.Head h extends begins next =
     let clash = h.0 in cc
 next_stepped runs limit now shutdown first second old session done last behind _ h extends begins next = tt

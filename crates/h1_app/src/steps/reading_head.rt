@@ -81,11 +81,23 @@ fn begin<L: Link + Drop, SV: ServeHttp<L, C> + Drop, B: Drop, C: Drop>(
     };
     match server.app.start(alloc) {
         Ok(job) => {
-            *last = Some(entry);
+            put(last, entry);
             *stage = Stage::Answer(job);
             Outcome::Done
         }
         Err(error) => Outcome::Ends(End::Failed(error)),
+    }
+}
+
+/// Puts the exchange where none goes on.
+#[inline(always)]
+fn put(last: &mut Option<Entry>, entry: Entry)
+    requires { last.old ≡ None }
+    ensures { last.new ≡ Some entry }
+{
+    match last {
+        None => *last = Some(entry),
+        Some(_) => unreachable!(),
     }
 }
 
@@ -101,6 +113,7 @@ fn keepalive(shutdown: bool) -> Option<u64>
 }
 
 /// The exchange of a request of which no body was read yet.
+#[inline(always)]
 fn new_entry(alloc: Global, request: &Request, settings: Settings) -> Result<Entry, Error>
     ensures ok { IfOk result (IsNewEntry request.now settings) }
     ensures err { IfErr result (λ error. error ≡ no_memory) }

@@ -10,7 +10,7 @@ ghost use Rattle.h1_app.specs.Step.{StepReady, Stepped, Continues};
 ghost use Rattle.h1_app.specs.Replying.{NotesHeader, StandsAfter};
 
 use crate::exchange::{Exchange, Outcome, Stage};
-use crate::{Entry, HttpServer, ServeHttp};
+use crate::{Entry, HttpServer, Reply, ServeHttp};
 use bytes::Bytes;
 use futures::task::Poll;
 use h1_body::BodyBytes;
@@ -180,6 +180,7 @@ fn headers(entry: &Entry) -> Result<(ResponseHeader, Option<ResponseHeader>), Er
 }
 
 /// Notes a header that was taken up in a poll at this moment. One that is handed back was not.
+#[inline(always)]
 fn note_header(
     entry: &mut Entry,
     back: &Option<ResponseHeader>,
@@ -204,7 +205,8 @@ fn note_header(
     }
 }
 
-/// Notes the reply's body, and hands it out where it has bytes.
+/// Notes the reply's body, and hands it out where it has bytes. None of them is copied.
+#[inline(always)]
 fn note_body(alloc: Global, entry: &mut Entry) -> Result<Option<Bytes>, Error>
     requires { IsSome entry.old.reply }
     ensures ok { IfOk result
@@ -213,21 +215,31 @@ fn note_body(alloc: Global, entry: &mut Entry) -> Result<Option<Bytes>, Error>
     ensures err { IfErr result
         (λ error. (error ≡ no_memory) × (entry.new ≡ entry.old)) }
 {
-    let Some(reply) = &entry.reply else {
-        unreachable!()
+    let sent = shared_body(&mut entry.reply)?;
+    let piece = if sent.is_empty() {
+        None
+    } else {
+        Some(sent.clone()?)
     };
-    let bytes = reply.body.as_slice();
-    let sent = BodyBytes::from_slice(alloc, bytes)?;
-    if bytes.is_empty() {
-        entry.sent_body = Some(sent);
-        return Ok(None);
+    entry.sent_body = Some(BodyBytes::from_shared(alloc, sent));
+    Ok(piece)
+}
+
+/// The reply's body, to be held by others too.
+fn shared_body(reply: &mut Option<Reply>) -> Result<Bytes, Error>
+    requires { IsSome reply.old }
+    ensures ok { IfOk result (λ sent. IfSome reply.old (λ made. sent ≡ made.body)) }
+    ensures err { IfErr result (λ error. error ≡ no_memory) }
+    ensures kept { reply.new ≡ reply.old }
+{
+    match reply {
+        Some(made) => made.body.share(),
+        None => unreachable!(),
     }
-    let piece = Bytes::copy_from_slice(alloc, bytes)?;
-    entry.sent_body = Some(sent);
-    Ok(Some(piece))
 }
 
 /// Where the exchange stands after a call that writes a part of the reply.
+#[inline(always)]
 fn stand<J: Drop, T>(
     stage: &mut Stage<J>,
     answer: &Poll<Result<T, Error>>,

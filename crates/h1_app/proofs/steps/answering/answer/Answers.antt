@@ -37,12 +37,15 @@ returns-in-Replied-clause-stepped g c = λ shutdown.
 
 pub returns-in-Pends-clause-leaves : goal.returns-in-Pends-clause-leaves
 returns-in-Pends-clause-leaves g c =
-    asked_leaves g.L.Link.state _ _ c.last_entry-entry.result.now c.ask.new.entry c.ask.new.entry _ c.ask.ensures.asks refl
+    asked_leaves g.L.Link.state _ _ c.last_entry-entry.result.now c.ask.new.entry c.ask.new.entry _
+    c.ask.ensures.asks refl
 
 pub returns-in-Failed-clause-leaves : goal.returns-in-Failed-clause-leaves
 returns-in-Failed-clause-leaves g c =
-    asked_fails g.L.Link.state _ _ c.last_entry-entry.result.now c.ask.new.entry c.ask.new.entry _ c.in-Failed.error c.ask.ensures.asks refl
+    asked_fails g.L.Link.state _ _ c.last_entry-entry.result.now c.ask.new.entry c.ask.new.entry _
+    c.in-Failed.error c.ask.ensures.asks refl
 
 pub returns-in-Replied-clause-leaves : goal.returns-in-Replied-clause-leaves
 returns-in-Replied-clause-leaves g c =
-    asked_leaves g.L.Link.state _ _ c.last_entry-entry.result.now c.ask.new.entry (record c.ask.new.entry { reply = Some c.in-Replied.reply }) _ c.ask.ensures.asks refl
+    asked_leaves g.L.Link.state _ _ c.last_entry-entry.result.now c.ask.new.entry
+    (record c.ask.new.entry { reply = Some c.in-Replied.reply }) _ c.ask.ensures.asks refl

@@ -14,7 +14,8 @@ returns-in-Pending-clause-stepped g c = λ shutdown.
 pub returns-in-Ready-Err-clause-stepped : goal.returns-in-Ready-Err-clause-stepped
 returns-in-Ready-Err-clause-stepped g c = λ shutdown.
     drain_stepped g.L.Link.state _ _ _ c.args.now shutdown _ _ _ c.reuse.new.entry _
-    (Ready (Err c.in-Ready-Err.error)) (keeps_alive c.reuse.new.session) _ c.requires.ready c.requires.at c.last_entry-entry.ensures.value
+    (Ready (Err c.in-Ready-Err.error)) (keeps_alive c.reuse.new.session) _ c.requires.ready c.requires.at
+    c.last_entry-entry.ensures.value
     refl c.reuse.ensures.reuses refl
     (c.in-Ready-Err.is ∙ ap Ready c.in-Ready-Err.field-0-is) refl
 

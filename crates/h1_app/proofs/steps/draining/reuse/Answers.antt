@@ -27,3 +27,12 @@ returns-in_default-clause-calls g c =
     c.poll_reuse-answer.new.self c.args.entry.now.body c.poll_reuse-answer.result
     (c.keep_payload.ensures ∙ ap (lent c.args.session.now) c.replace.ensures.value) c.requires.replied
     c.poll_reuse-answer.ensures.reuse c.poll_reuse-answer.ensures.calls)
+
+pub returns-in_default-clause-reuses : goal.returns-in_default-clause-reuses
+returns-in_default-clause-reuses g c =
+    reuses_as g.L.Link.state c.args.session.now c.keep_payload.new.self c.poll_reuse-answer.new.self
+    c.take_payload.new.self c.args.entry.now c.replace.new.dest c.poll_reuse-answer.result c.requires.replied
+    (c.keep_payload.ensures ∙ ap (lent c.args.session.now) c.replace.ensures.value)
+    c.poll_reuse-answer.ensures.reuse c.take_payload.ensures.rest
+    (c.replace.ensures.after ∙ c.new.ensures ∙ ap (λ (kept : Option (List ℕ)). unwrap_or kept [])
+    (sym c.in_default.is ∙ c.take_payload.ensures.taken))

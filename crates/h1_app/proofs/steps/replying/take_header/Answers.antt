@@ -16,7 +16,8 @@ returns-clause-stepped g c = λ shutdown.
     taken_header_stepped g.L.Link.state _ _ _ c.args.now shutdown _ _ _ c.requires.ready
     c.in-Ok.headers.0 c.in-Ok.headers.1 c.poll_write_response_header-answer.new.header _ _ _
     c.note_header.new.entry (rw c.requires.at at c.requires.ready.sound) c.requires.at
-    (rw c.last_entry-entry.ensures.value c.in-Ok.ensures.ok) (rw c.last_entry-entry.ensures.value c.note_header.ensures) refl
+    (rw c.last_entry-entry.ensures.value c.in-Ok.ensures.ok)
+    (rw c.last_entry-entry.ensures.value c.note_header.ensures) refl
     c.poll_write_response_header-answer.ensures.writes c.reply_keeps-keep.ensures
     c.written_bytes-written.ensures c.stand.ensures
 
