@@ -53,7 +53,8 @@ short_name (name ∷ names) (suc k) h =
 short_day : (wday : ℕ) → length (day_name wday) ≤ 3
 short_day wday =
     short_name
-    (codes "Mon" ∷ codes "Tue" ∷ codes "Wed" ∷ codes "Thu" ∷ codes "Fri" ∷ codes "Sat" ∷ codes "Sun" ∷ []) (wday - 1) refl
+    (codes "Mon" ∷ codes "Tue" ∷ codes "Wed" ∷ codes "Thu" ∷ codes "Fri" ∷ codes "Sat" ∷ codes "Sun" ∷ [])
+    (wday - 1) refl
 
 short_month : (mon : ℕ) → length (month_name mon) ≤ 3
 short_month mon =

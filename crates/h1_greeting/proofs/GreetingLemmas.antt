@@ -24,7 +24,9 @@ name_is = refl
 pub is_a_line : line_fault (codes "content-length") (codes "6") ≡ None
 is_a_line = rw name_is refl
 
-pub only_memory : (error : Error) → RefusedFor {T = Unit {0}} (line_fault (codes "content-length") (codes "6")) (Err error) → error ≡ no_memory
+pub only_memory : (error : Error)
+    → RefusedFor {T = Unit {0}} (line_fault (codes "content-length") (codes "6")) (Err error)
+    → error ≡ no_memory
 only_memory error h =
     subst (λ fault. RefusedFor {T = Unit {0}} fault (Err error)) is_a_line h
 
@@ -33,17 +35,21 @@ pub all_greeted : (entries : List Entry) → AllByRecursion (IsAllowed Greeting)
     → All (λ e. IfSome e.reply (λ reply. reply ≡ greeting)) entries
 all_greeted entries allowed = All-from_recursion _ entries (each entries allowed)
   where
-    of_reply : (reply : Option Reply) (P : Reply → Type 0) → ((r : Reply) → P r → r ≡ greeting) → IfSome reply P → IfSome reply (λ r. r ≡ greeting)
+    of_reply : (reply : Option Reply) (P : Reply → Type 0) → ((r : Reply) → P r → r ≡ greeting)
+        → IfSome reply P → IfSome reply (λ r. r ≡ greeting)
     of_reply None P is h = tt
     of_reply (Some r) P is h = is r h
 
-    each : (entries : List Entry) → AllByRecursion (IsAllowed Greeting) entries → AllByRecursion (λ e. IfSome e.reply (λ reply. reply ≡ greeting)) entries
+    each : (entries : List Entry) → AllByRecursion (IsAllowed Greeting) entries
+        → AllByRecursion (λ e. IfSome e.reply (λ reply. reply ≡ greeting)) entries
     each [] h = tt
     each (e ∷ more) h = (of_reply e.reply _ (λ r gives. gives.1.is) h.0.reply, each more h.1)
 
 -- a job greets, or there is no memory
-pub greets : {L C : Type 0} (old new : SessionView L C) (head : RequestView) (began : Settings) (result : Result Reply Error)
-    → new ≡ record old { settings = record old.settings { pipelining = true } } → (old.settings ≡ began) × (payload_of old ≡ [])
+pub greets : {L C : Type 0} (old new : SessionView L C) (head : RequestView) (began : Settings)
+    (result : Result Reply Error)
+    → new ≡ record old { settings = record old.settings { pipelining = true } }
+    → (old.settings ≡ began) × (payload_of old ≡ [])
     → IfOk result (λ reply. reply ≡ greeting) → IfErr result (λ error. error ≡ no_memory)
     → GivesReply Greeting (given_by head began new) (λ error. error ≡ no_memory) (Ready result)
 greets old new head began (Ok reply) set runs is memory = record {

@@ -31,11 +31,13 @@ pub record NeverWaits (link : MemState) : Type 0 where
 
 -- the link was given these bytes and never waits, the transcript agrees with it since it was new, and
 -- so many polls were made
-pub record IsServed {C A J : Type 0} (given : List ℕ) (polls : ℕ) (served : View MemState C A J) : Type 0 where
+pub record IsServed {C A J : Type 0} (given : List ℕ) (polls : ℕ) (served : View MemState C A J)
+    : Type 0 where
   pub put : served.session.link.put ≡ given
   pub ready : NeverWaits served.session.link
   pub limit : served.limit ≡ None
-  pub accounted : Accounted (λ link. link.state) new_mem_state.state served.session served.done served.last
+  pub accounted : Accounted (λ link. link.state) new_mem_state.state served.session served.done
+      served.last
   pub agrees : Agrees Greeting None new_mem_state.state served.session.link.state (entries served)
   pub polled : Polled polls served.end served.session.link.state
 
@@ -65,13 +67,17 @@ ended_or_not None some is = absurd (false≢true some)
 no_reads : (link : MemState) → NeverWaits link → Rule link → link.state.read_waits ≡ 0
 no_reads link ready rule = by (cases_lt 0 link.state.read_waits) where
   by : (0 < link.state.read_waits) ⊎ (link.state.read_waits ≤ 0) → link.state.read_waits ≡ 0
-  by (inl some) = let waited = rule.waits (omega (arith, some, ready.reads)) in absurd (ended_or_not link.end_at ready.end_at waited.1)
+  by (inl some) =
+      let waited = rule.waits (omega (arith, some, ready.reads)) in
+      absurd (ended_or_not link.end_at ready.end_at waited.1)
   by (inr none) = omega (arith, none)
 
 no_writes : (link : MemState) → NeverWaits link → Rule link → link.state.write_waits ≡ 0
 no_writes link ready rule = by (cases_lt 0 link.state.write_waits) where
   by : (0 < link.state.write_waits) ⊎ (link.state.write_waits ≤ 0) → link.state.write_waits ≡ 0
-  by (inl some) = let closed = rule.stalls (omega (arith, some, ready.writes)) in absurd (subst IsClosed ready.gate closed)
+  by (inl some) =
+      let closed = rule.stalls (omega (arith, some, ready.writes)) in
+      absurd (subst IsClosed ready.gate closed)
   by (inr none) = omega (arith, none)
 
 -- an application whose count never rises is not waited for
@@ -84,14 +90,16 @@ no_wait (stage.Answer before) (stage.Answer job) h = absurd (omega (arith, h))
 no_wait stage.Head to h = no_job to h
 no_wait _ _ h = h
 
-no_pending : {J : Type 0} (from to : List Entry) (before now : Stage J) → PendedBy (λ _. Unit {0}) (λ _. 0) from to before now → ⊥
+no_pending : {J : Type 0} (from to : List Entry) (before now : Stage J)
+    → PendedBy (λ _. Unit {0}) (λ _. 0) from to before now → ⊥
 no_pending from to before now h = by (cases_lt (length from) (length to)) where
   by : (length from < length to) ⊎ (length to ≤ length from) → ⊥
   by (inl more) = no_job now (h.later more)
   by (inr no_more) = no_wait before now (h.same (omega (arith, no_more, h.longer)))
 
 -- each poll that isn't the last moves bytes in 64 calls
-polled_on : {C A J : Type 0} (before : LinkState) (polls : ℕ) (from to : View MemState C A J) (answer : Progress)
+polled_on : {C A J : Type 0} (before : LinkState) (polls : ℕ) (from to : View MemState C A J)
+    (answer : Progress)
     → polls < 1000 → from.end ≡ None → Polled polls from.end from.session.link.state
     → to.session.link.state.read_waits ≡ 0 → to.session.link.state.write_waits ≡ 0
     → Cause (λ (link : MemState). link.state) (λ _. Unit {0}) (λ _. 0) before from to answer
@@ -107,12 +115,14 @@ polled_on before polls from to (Pending waiting.App) small on was reads writes c
     absurd (no_pending from.done to.done from.stage to.stage cause.1.1)
 
 -- what held before a poll holds after it
-pub served_on : {C A J : Type 0} (given : List ℕ) (polls : ℕ) (from to : View MemState C A J) (answer : Progress)
+pub served_on : {C A J : Type 0} (given : List ℕ) (polls : ℕ) (from to : View MemState C A J)
+    (answer : Progress)
     → IsServed given polls from → polls < 1000 → from.end ≡ None → to.limit ≡ from.limit
     → SamePlan from.session.link to.session.link → Rule to.session.link
     → Accounted (λ link. link.state) new_mem_state.state to.session to.done to.last
     → Agrees Greeting to.limit new_mem_state.state to.session.link.state (entries to)
-    → Cause (λ (link : MemState). link.state) (λ _. Unit {0}) (λ _. 0) new_mem_state.state from to answer
+    → Cause (λ (link : MemState). link.state) (λ _. Unit {0}) (λ _. 0)
+    new_mem_state.state from to answer
     → IsServed given (polls + 1) to
 served_on given polls from to answer was small on limit plan rule since agrees cause =
     let ready = ready_on from.session.link to.session.link plan was.ready in record {
@@ -120,6 +130,10 @@ served_on given polls from to answer was small on limit plan rule since agrees c
       ready = ready;
       limit = limit ∙ was.limit;
       accounted = since;
-      agrees = subst (λ l. Agrees Greeting l new_mem_state.state to.session.link.state (entries to)) (limit ∙ was.limit) agrees;
-      polled = polled_on new_mem_state.state polls from to answer small on was.polled (no_reads to.session.link ready rule) (no_writes to.session.link ready rule) cause;
+      agrees =
+          subst (λ l. Agrees Greeting l new_mem_state.state to.session.link.state (entries to))
+          (limit ∙ was.limit) agrees;
+      polled =
+          polled_on new_mem_state.state polls from to answer small on was.polled
+          (no_reads to.session.link ready rule) (no_writes to.session.link ready rule) cause;
     }

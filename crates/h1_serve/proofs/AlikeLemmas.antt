@@ -26,7 +26,8 @@ abbrev pub IsDatedBy : ℕ → Entry → Type 0
 IsDatedBy secs e = IfSome e.sent_head (λ header. e.date ≡ secs)
 
 -- the bytes are the requests of these exchanges, which ended, and nothing after them
-pub record AreEnded (secs : ℕ) (since : List ℕ) (flushed : ℕ → Type 0) (total : ℕ) (done : List Entry) : Type 0 where
+pub record AreEnded (secs : ℕ) (since : List ℕ) (flushed : ℕ → Type 0) (total : ℕ)
+    (done : List Entry) : Type 0 where
   pub read : ReadBehind since done []
   pub allowed : AllByRecursion (IsAllowed EchoGives) done
   pub dated : AllByRecursion (IsDatedBy secs) done
@@ -44,7 +45,8 @@ some_none : (o : Option Error) → o ≡ None → IsSome o → ⊥
 some_none None none some = cc
 some_none (Some error) none some = cc
 
-some_of : {T : Type 0} (o : Option T) (P : T → Type 0) → IsSome o → IfSome o P → (x : T) × (o ≡ Some x) × P x
+some_of : {T : Type 0} (o : Option T) (P : T → Type 0) → IsSome o → IfSome o P
+    → (x : T) × (o ≡ Some x) × P x
 some_of None P some h = absurd (let never : false ≡ true = some in cc)
 some_of (Some x) P some h = (x, refl, h)
 
@@ -52,13 +54,15 @@ at_some : {T : Type 0} (o : Option T) (x : T) (P : T → Type 0) → o ≡ Some 
 at_some o x P is h = subst (λ o. IfSome o P) is h
 
 -- the application was handed all of a body that was not refused
-all_handed : (how : How) (e : Entry) (b : Body) → how ≢ Open → e.body_error ≡ None → StoodAs how e b → e.handed ≡ length e.body
+all_handed : (how : How) (e : Entry) (b : Body) → how ≢ Open → e.body_error ≡ None → StoodAs how e b
+    → e.handed ≡ length e.body
 all_handed Whole e b read none stood = stood.1
 all_handed Open e b read none stood = absurd (read refl)
 all_handed Failed e b read none stood = absurd (some_none e.body_error none stood)
 
 -- so its reply is that to the whole body
-reply_is : (e : Entry) (reply : Reply) (k : ℕ) → e.body_error ≡ None → StoodAs e.how e (whole e.body k)
+reply_is : (e : Entry) (reply : Reply) (k : ℕ) → e.body_error ≡ None
+    → StoodAs e.how e (whole e.body k)
     → EchoGives (given_to e e.head) reply → reply ≡ echo_reply e.head e.body None
 reply_is e reply k none stood gives =
     let count = all_handed e.how e (whole e.body k) gives.read none stood in
@@ -69,13 +73,15 @@ reply_is e reply k none stood gives =
 -- the bytes of that reply, which keeps the connection, with this date
 abbrev kept_bytes : RequestView → List ℕ → List ℕ → List ℕ
 kept_bytes head payload date =
-    render_parts head.method (Some (echo_reply head payload None)) (Some (echo_reply head payload None).body) date true (Some (echo_reply head payload None).header)
+    render_parts head.method (Some (echo_reply head payload None)) (Some (echo_reply head payload None).body) date true
+    (Some (echo_reply head payload None).header)
 
 record IsRendered (secs : ℕ) (e : Entry) : Type 0 where
   is : render e ≡ kept_bytes e.head e.body e.date_text
   date : IsDateAt secs e.date_text
 
-rendered : (secs : ℕ) (since : List ℕ) (flushed : ℕ → Type 0) (total : ℕ) (e : Entry) (more : List Entry)
+rendered : (secs : ℕ) (since : List ℕ) (flushed : ℕ → Type 0) (total : ℕ) (e : Entry)
+    (more : List Entry)
     → AreEnded secs since flushed total (e ∷ more) → IsRendered secs e
 rendered secs since flushed total e more h =
     let allowed : IsAllowed EchoGives e = h.allowed.0 in
@@ -97,7 +103,8 @@ rendered secs since flushed total e more h =
     record {
       is = ap (λ o. render_parts e.head.method o e.sent_body e.date_text e.keep e.sent_head) reply_at
           ∙ ap (λ o. render_parts e.head.method (Some made) o e.date_text e.keep e.sent_head) body_at
-          ∙ ap (λ keep. render_parts e.head.method (Some made) (Some made.body) e.date_text keep e.sent_head) h.ended.0.keep
+          ∙ ap (λ keep. render_parts e.head.method (Some made) (Some made.body) e.date_text keep e.sent_head)
+          h.ended.0.keep
           ∙ ap (render_parts e.head.method (Some made) (Some made.body) e.date_text true) head_at;
       date = subst (λ n. IsDateAt n e.date_text) dated head.2.4.date;
     }
@@ -109,30 +116,37 @@ same_use : {front other : List ℕ} {i k : ℕ} → whole front i ≡ whole othe
 same_use e = cc
 
 -- the first exchanges of the same bytes are alike, and the same bytes are left after them
-record Firsts (since : List ℕ) (e f : Entry) (more later : List Entry) (x : ReadBehind since (e ∷ more) []) (y : ReadBehind since (f ∷ later) []) : Type 0 where
+record Firsts (since : List ℕ) (e f : Entry) (more later : List Entry)
+    (x : ReadBehind since (e ∷ more) []) (y : ReadBehind since (f ∷ later) []) : Type 0 where
   head : e.head ≡ f.head
   payload : e.body ≡ f.body
   behind : drop y.2 (drop y.0 since) ≡ drop x.2 (drop x.0 since)
 
-firsts : (since : List ℕ) (e f : Entry) (more later : List Entry) (x : ReadBehind since (e ∷ more) []) (y : ReadBehind since (f ∷ later) [])
+firsts : (since : List ℕ) (e f : Entry) (more later : List Entry)
+    (x : ReadBehind since (e ∷ more) []) (y : ReadBehind since (f ∷ later) [])
     → Firsts since e f more later x y
 firsts since e f more later x y =
     let same = HeadAt-unique since x.0 y.0 e.head f.head e.both f.both x.1 y.1 in
     let bodies : whole e.body x.2 ≡ whole f.body y.2 =
-    sym x.3 ∙ ap (λ i. body (framing e.head) (drop i since)) same.0 ∙ ap (λ (h : RequestView). body (framing h) (drop y.0 since)) same.1 ∙ y.3 in
+    sym x.3 ∙ ap (λ i. body (framing e.head) (drop i since)) same.0
+    ∙ ap (λ (h : RequestView). body (framing h) (drop y.0 since)) same.1 ∙ y.3 in
     record {
       head = same.1;
       payload = same_payload bodies;
-      behind = ap (λ i. drop y.2 (drop i since)) (sym same.0) ∙ ap (λ i. drop i (drop x.0 since)) (sym (same_use bodies));
+      behind =
+          ap (λ i. drop y.2 (drop i since)) (sym same.0) ∙ ap (λ i. drop i (drop x.0 since)) (sym (same_use bodies));
     }
 
-behind_first : (secs : ℕ) (since : List ℕ) (flushed : ℕ → Type 0) (total : ℕ) (e : Entry) (more : List Entry)
-    → (h : AreEnded secs since flushed total (e ∷ more)) → AreEnded secs (drop h.read.2 (drop h.read.0 since)) flushed (total + e.written) more
+behind_first : (secs : ℕ) (since : List ℕ) (flushed : ℕ → Type 0) (total : ℕ) (e : Entry)
+    (more : List Entry)
+    → (h : AreEnded secs since flushed total (e ∷ more))
+    → AreEnded secs (drop h.read.2 (drop h.read.0 since)) flushed (total + e.written) more
 behind_first secs since flushed total e more h =
     record { read = h.read.6; allowed = h.allowed.1; dated = h.dated.1; ended = h.ended.1 }
 
 -- exchanges that ended with the same bytes are alike
-pub alike : (secs : ℕ) (since : List ℕ) (flushed other : ℕ → Type 0) (total count : ℕ) (a b : List Entry)
+pub alike : (secs : ℕ) (since : List ℕ) (flushed other : ℕ → Type 0) (total count : ℕ)
+    (a b : List Entry)
     → AreEnded secs since flushed total a → AreEnded secs since other count b → AreAlike a b
 alike secs since flushed other total count [] [] x y = tt
 alike secs since flushed other total count [] (f ∷ later) x y =
@@ -144,10 +158,12 @@ alike secs since flushed other total count (e ∷ more) (f ∷ later) x y =
     let one = rendered secs since flushed total e more x in
     let two = rendered secs since other count f later y in
     let date = date_unique secs e.date_text f.date_text one.date two.date in
-    let left = subst (λ xs. AreEnded secs xs other (count + f.written) later) same.behind (behind_first secs since other count f later y) in (
+    let left = subst (λ xs. AreEnded secs xs other (count + f.written) later) same.behind
+    (behind_first secs since other count f later y) in (
       same.head,
       same.payload,
-      one.is ∙ ap (λ (h : RequestView). kept_bytes h e.body e.date_text) same.head ∙ ap (λ xs. kept_bytes f.head xs e.date_text) same.payload
+      one.is ∙ ap (λ (h : RequestView). kept_bytes h e.body e.date_text) same.head
+          ∙ ap (λ xs. kept_bytes f.head xs e.date_text) same.payload
           ∙ ap (kept_bytes f.head f.body) date ∙ sym two.is,
       alike secs (drop x.read.2 (drop x.read.0 since)) flushed other (total + e.written) (count + f.written) more later
           (behind_first secs since flushed total e more x) left,
@@ -166,7 +182,8 @@ alike_lines (e ∷ more) (f ∷ later) h =
     ∙ ap (λ xs. exchange_lines f ++ xs) (alike_lines more later h.3) ∙ sym (flat_map-cons exchange_lines f later)
 
 -- and what was written is the same
-pub alike_written : (a b : List Entry) (one other : List ℕ) → AreAlike a b → WroteBehind one a [] → WroteBehind other b [] → one ≡ other
+pub alike_written : (a b : List Entry) (one other : List ℕ) → AreAlike a b → WroteBehind one a []
+    → WroteBehind other b [] → one ≡ other
 alike_written [] [] one other h x y = x ∙ sym y
 alike_written [] (f ∷ later) one other h x y = absurd h
 alike_written (e ∷ more) [] one other h x y = absurd h

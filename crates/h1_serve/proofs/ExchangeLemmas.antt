@@ -18,6 +18,7 @@ more_lines entries i e front text behind at is more =
     ∙ ap (λ es. front ++ exchanges_lines es) (sym taken)
 
 -- there is an exchange at each place
-pub never_none : (entries : List Entry) (i : ℕ) → i < length entries → None ≡ slice_get entries i → ⊥
+pub never_none : (entries : List Entry) (i : ℕ) → i < length entries → None ≡ slice_get entries i
+    → ⊥
 never_none entries i within none =
     elim (slice_get_cases entries i).1 [ inl found ↦ (let some = found.2 in cc) | inr past ↦ omega (arith, past.0) ]

@@ -30,13 +30,17 @@ use Rattle.h1_serve.proofs.AlikeLemmas.{IsDatedBy, AreEnded, alike, alike_lines,
 dated_on : (moment : ℕ) (head : Option ResponseView) (old new : Entry) → old.sent_head ≡ head
     → DatedAt moment head old new → IsDatedBy (moment / 1000) old → IsDatedBy (moment / 1000) new
 dated_on moment None old new is dated before = dated
-dated_on moment (Some header) old new is dated before = any new.sent_head (dated.0 ∙ subst (λ o. IfSome o (λ h. old.date ≡ moment / 1000)) is before) where
-  any : (o : Option ResponseView) → new.date ≡ moment / 1000 → IfSome o (λ h. new.date ≡ moment / 1000)
-  any None e = tt
-  any (Some h) e = e
+dated_on moment (Some header) old new is dated before =
+    any new.sent_head (dated.0 ∙ subst (λ o. IfSome o (λ h. old.date ≡ moment / 1000)) is before)
+  where
+    any : (o : Option ResponseView) → new.date ≡ moment / 1000
+        → IfSome o (λ h. new.date ≡ moment / 1000)
+    any None e = tt
+    any (Some h) e = e
 
 dated_begun : (moment : ℕ) (shut : Bool) (before behind : LinkState) (new : List Entry)
-    → AllByRecursion (IsBegun moment shut before behind) new → AllByRecursion (IsDatedBy (moment / 1000)) new
+    → AllByRecursion (IsBegun moment shut before behind) new
+    → AllByRecursion (IsDatedBy (moment / 1000)) new
 dated_begun moment shut before behind [] h = tt
 dated_begun moment shut before behind (e ∷ more) h = (h.0.dated, dated_begun moment shut before behind more h.1)
 
@@ -48,8 +52,10 @@ dated_all moment shut before behind (e ∷ []) [] h dated = absurd h
 dated_all moment shut before behind (e ∷ []) (n ∷ more) h dated =
     (dated_on moment e.sent_head e n refl h.0.dated dated.0, dated_begun moment shut before behind more h.1)
 dated_all moment shut before behind (e ∷ f ∷ later) [] h dated = absurd h
-dated_all moment shut before behind (e ∷ f ∷ later) (n ∷ more) h dated =
-    (subst (IsDatedBy (moment / 1000)) (sym h.0) dated.0, dated_all moment shut before behind (f ∷ later) more h.1 dated.1)
+dated_all moment shut before behind (e ∷ f ∷ later) (n ∷ more) h dated = (
+  subst (IsDatedBy (moment / 1000)) (sym h.0) dated.0,
+  dated_all moment shut before behind (f ∷ later) more h.1 dated.1,
+)
 
 -- how a connection stands that finished: it read what was put ahead at the last poll
 record StandsFinished (polled : List ℕ) (s : State) : Type 0 where
@@ -70,14 +76,16 @@ finished_by s t (progress.Pending what) cause is = absurd (never cause.0 is) whe
   never e f = cc
 finished_by s t (progress.Ready reason) cause is =
     let same : reason ≡ end.Finished = one cause.0 is in
-    let ends : EndCause new_link s.link t.link t.done t.last end.Finished = subst (EndCause new_link s.link t.link t.done t.last) same cause.2 in
+    let ends : EndCause new_link s.link t.link t.done t.last end.Finished =
+    subst (EndCause new_link s.link t.link t.done t.last) same cause.2 in
     ends
   where
     one : t.end ≡ Some reason → t.end ≡ Some end.Finished → reason ≡ end.Finished
     one e f = cc
 
 -- by this poll, or by one before it
-finished_so : (moment : ℕ) (polled : List ℕ) (s t : State) (answer : Progress) (before : Option End) → s.end ≡ before
+finished_so : (moment : ℕ) (polled : List ℕ) (s t : State) (answer : Progress) (before : Option End)
+    → s.end ≡ before
     → Holds moment polled s → IfNone before (AnswerCause s t answer)
     → IfSome before (λ reason. (answer ≡ progress.Ready reason) × (t ≡ s))
     → t.end ≡ Some end.Finished → EndCause new_link t.link t.link t.done t.last end.Finished
@@ -88,7 +96,8 @@ finished_so moment polled s t answer (Some reason) at holds cause again is =
     subst Ended (sym again.1) (holds.finished was).cause
 
 -- it holds after a poll
-polled_holds : (moment : ℕ) (polled : List ℕ) (s t : State) (answer : Progress) → Holds moment polled s
+polled_holds : (moment : ℕ) (polled : List ℕ) (s t : State) (answer : Progress)
+    → Holds moment polled s
     → Polls moment s answer t → Holds moment t.put t
 polled_holds moment polled s t answer holds polls = record {
   dated = dated_all moment s.shut s.link t.link (transcript s) (transcript t) polls.extends holds.dated;
@@ -111,10 +120,12 @@ polled_in put polled (command.Shutdown ∷ more) = polled_in put polled more
 polled_in put polled (command.Limit count ∷ more) = polled_in put polled more
 
 -- and where the exchanges, the link and the end stay
-same_holds : (moment : ℕ) (polled : List ℕ) (s t : State) → t.done ≡ s.done → t.last ≡ s.last → t.link ≡ s.link → t.end ≡ s.end
+same_holds : (moment : ℕ) (polled : List ℕ) (s t : State) → t.done ≡ s.done → t.last ≡ s.last
+    → t.link ≡ s.link → t.end ≡ s.end
     → Holds moment polled s → Holds moment polled t
 same_holds moment polled s t done last link ends h =
-    let entries : transcript t ≡ transcript s = ap (λ es. es ++ option_to_list t.last) done ∙ ap (λ e. s.done ++ option_to_list e) last in
+    let entries : transcript t ≡ transcript s =
+    ap (λ es. es ++ option_to_list t.last) done ∙ ap (λ e. s.done ++ option_to_list e) last in
     record {
       dated = subst (AllByRecursion (IsDatedBy (moment / 1000))) (sym entries) h.dated;
       finished = λ is.
@@ -126,7 +137,8 @@ same_holds moment polled s t done last link ends h =
           };
     }
 
-lines_hold : (moment : ℕ) (asked : List Command) (s : State) (polled text : List ℕ) (t : State) → ArePolledAt moment asked
+lines_hold : (moment : ℕ) (asked : List Command) (s : State) (polled text : List ℕ) (t : State)
+    → ArePolledAt moment asked
     → Holds moment polled s → Lines s asked text t → Holds moment (polled_in s.put polled asked) t
 lines_hold moment [] s polled text t at holds h = subst (Holds moment polled) (sym h.1) holds
 lines_hold moment (command.Give bytes ∷ more) s polled text t at holds h =
@@ -150,8 +162,10 @@ lines_hold moment (command.Poll here ∷ more) s polled text t at holds h =
     subst (λ put. Holds moment (polled_in put put more) t) polls.put goes
 
 -- the lines are those of polls at the moment
-poll_texts : (moment : ℕ) (asked : List Command) (s : State) (text : List ℕ) (t : State) → ArePolledAt moment asked
-    → Lines s asked text t → (answers : List Progress) × (text ≡ flat_map (poll_line moment) answers)
+poll_texts : (moment : ℕ) (asked : List Command) (s : State) (text : List ℕ) (t : State)
+    → ArePolledAt moment asked
+    → Lines s asked text t
+    → (answers : List Progress) × (text ≡ flat_map (poll_line moment) answers)
 poll_texts moment [] s text t at h = ([], h.0)
 poll_texts moment (command.Give bytes ∷ more) s text t at h =
     let rest = poll_texts moment more h.1 h.2 t at h.5 in
@@ -185,7 +199,8 @@ finish moment polled s written holds is told =
     let stands = holds.finished is in
     let cause = stands.cause in
     let entries : transcript s ≡ s.done = ap (λ e. s.done ++ option_to_list e) cause.0.none ∙ append-nil s.done in
-    let read = told_of new_link.given s.link.given [] polled (λ since. ReadAll since s.done empty) refl stands.given cause.2 in
+    let read = told_of new_link.given s.link.given [] polled (λ since. ReadAll since s.done empty)
+    refl stands.given cause.2 in
     record {
       entries = entries;
       ended = record {
@@ -194,7 +209,9 @@ finish moment polled s written holds is told =
         dated = subst (AllByRecursion (IsDatedBy (moment / 1000))) entries holds.dated;
         ended = cause.0.flushed;
       };
-      wrote = told_of new_link.written s.link.written [] written (λ since. WroteBehind since s.done []) refl told cause.0.written;
+      wrote =
+          told_of new_link.written s.link.written [] written (λ since. WroteBehind since s.done [])
+          refl told cause.0.written;
     }
 
 first_holds : (moment : ℕ) (limit : Option ℕ) → Holds moment [] (start_with limit)
@@ -202,26 +219,31 @@ first_holds moment limit = record { dated = tt; finished = λ is. absurd (never 
   never : (o : Option End) → o ≡ None → o ≡ Some end.Finished → ⊥
   never o e f = cc
 
-finish_of : (moment : ℕ) (asked : List Command) (text : List ℕ) (x : IsTextOf asked text) → ArePolledAt moment asked
+finish_of : (moment : ℕ) (asked : List Command) (text : List ℕ) (x : IsTextOf asked text)
+    → ArePolledAt moment asked
     → x.last.end ≡ Some end.Finished → Finish moment (polled_in [] [] asked) x.last x.written
 finish_of moment asked text x at is =
     finish moment (polled_in [] [] asked) x.last x.written
-    (lines_hold moment asked (start_with (limit_in asked)) [] x.polls x.last at (first_holds moment (limit_in asked)) x.lines) is x.told
+    (lines_hold moment asked (start_with (limit_in asked)) [] x.polls x.last
+    at (first_holds moment (limit_in asked)) x.lines) is x.told
 
-same_lines : (s t : State) (one other : List ℕ) → exchanges_lines (transcript s) ≡ exchanges_lines (transcript t) → one ≡ other
-    → exchanges_lines (transcript s) ++ wrote_line one ≡ exchanges_lines (transcript t) ++ wrote_line other
+same_lines : (s t : State) (one other : List ℕ)
+    → exchanges_lines (transcript s) ≡ exchanges_lines (transcript t) → one ≡ other
+    → exchanges_lines (transcript s) ++ wrote_line one
+    ≡ exchanges_lines (transcript t) ++ wrote_line other
 same_lines s t one other lines written =
     ap (λ xs. xs ++ wrote_line one) lines ∙ ap (λ xs. exchanges_lines (transcript t) ++ wrote_line xs) written
 
 -- after the polls two texts of the same commands are the same
-texts_alike : (moment : ℕ) (asked : List Command) (text other : List ℕ) (x : IsTextOf asked text) (y : IsTextOf asked other)
+texts_alike : (moment : ℕ) (asked : List Command) (text other : List ℕ) (x : IsTextOf asked text)
+    (y : IsTextOf asked other)
     → ArePolledAt moment asked → x.last.end ≡ Some end.Finished → y.last.end ≡ Some end.Finished
     → (told : List ℕ) × IsBehindPolls moment text told × IsBehindPolls moment other told
 texts_alike moment asked text other x y at is also =
     let a = finish_of moment asked text x at is in
     let b = finish_of moment asked other y at also in
-    let same = alike (moment / 1000) (polled_in [] [] asked) (FlushedBy new_link x.last.link) (FlushedBy new_link y.last.link) 0 0
-    x.last.done y.last.done a.ended b.ended in
+    let same = alike (moment / 1000) (polled_in [] [] asked) (FlushedBy new_link x.last.link)
+    (FlushedBy new_link y.last.link) 0 0 x.last.done y.last.done a.ended b.ended in
     let lines : exchanges_lines (transcript x.last) ≡ exchanges_lines (transcript y.last) =
     ap exchanges_lines a.entries ∙ alike_lines x.last.done y.last.done same ∙ sym (ap exchanges_lines b.entries) in
     let written = alike_written x.last.done y.last.done x.written y.written same a.wrote b.wrote in
@@ -229,16 +251,22 @@ texts_alike moment asked text other x y at is also =
     let first = poll_texts moment asked (start_with (limit_in asked)) x.polls x.last at x.lines in
     let second = poll_texts moment asked (start_with (limit_in asked)) y.polls y.last at y.lines in (
       told,
-      (first.0, x.is ∙ append_assoc x.polls (exchanges_lines (transcript x.last)) (wrote_line x.written) ∙ ap (λ xs. xs ++ told) first.1),
+      (
+        first.0,
+        x.is ∙ append_assoc x.polls (exchanges_lines (transcript x.last)) (wrote_line x.written)
+            ∙ ap (λ xs. xs ++ told) first.1,
+      ),
       (
         second.0,
         y.is ∙ append_assoc y.polls (exchanges_lines (transcript y.last)) (wrote_line y.written)
             ∙ ap (λ xs. xs ++ (exchanges_lines (transcript y.last) ++ wrote_line y.written)) second.1
-            ∙ ap (λ xs. flat_map (poll_line moment) second.0 ++ xs) (sym (same_lines x.last y.last x.written y.written lines written)),
+            ∙ ap (λ xs. flat_map (poll_line moment) second.0 ++ xs)
+            (sym (same_lines x.last y.last x.written y.written lines written)),
       ),
     )
 
-same_asked : (asked other : List Command) (outcome : ScriptOutcome) → outcome ≡ commands asked → outcome ≡ commands other → other ≡ asked
+same_asked : (asked other : List Command) (outcome : ScriptOutcome) → outcome ≡ commands asked
+    → outcome ≡ commands other → other ≡ asked
 same_asked asked other outcome e f = cc
 
 -- a text of commands that polled at one moment, of a connection that finished
@@ -246,10 +274,12 @@ record IsFinishedOf (moment : ℕ) (asked : List Command) (text : List ℕ) : Ty
   is_text : IsTextOf asked text
   finished : is_text.last.end ≡ Some end.Finished
 
-pub finished_alike : (moment : ℕ) (script text other : List ℕ) → IsFinished moment script text → IsFinished moment script other
+pub finished_alike : (moment : ℕ) (script text other : List ℕ) → IsFinished moment script text
+    → IsFinished moment script other
     → (told : List ℕ) × IsBehindPolls moment text told × IsBehindPolls moment other told
 finished_alike moment script text other x y =
     let same = same_asked x.report.asked y.report.asked (script_of script) x.report.read y.report.read in
-    let of_y : IsFinishedOf moment y.report.asked other = record { is_text = y.report.is_text; finished = y.finished } in
+    let of_y : IsFinishedOf moment y.report.asked other =
+    record { is_text = y.report.is_text; finished = y.finished } in
     let also = subst (λ asked. IsFinishedOf moment asked other) same of_y in
     texts_alike moment x.report.asked text other x.report.is_text also.is_text x.polled x.finished also.finished

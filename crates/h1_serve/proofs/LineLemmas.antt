@@ -22,10 +22,12 @@ pub record Goes (all left : List Command) (scripted : Scripted) (text : List ℕ
   pub place : Place
   pub running : IsRunning place scripted.connection
   pub order : AreInOrder place left
-  pub lines : (t : State) (rest : List ℕ) → Lines (state_of scripted) left rest t → Lines (start_with (limit_in all)) all (text ++ rest) t
+  pub lines : (t : State) (rest : List ℕ) → Lines (state_of scripted) left rest t
+      → Lines (start_with (limit_in all)) all (text ++ rest) t
 
 pub goes_first : (all : List Command) (scripted : Scripted) (text : List ℕ)
-    → AreInOrder first_place all → IsRunning first_place scripted.connection → state_of scripted ≡ start_with (limit_in all)
+    → AreInOrder first_place all → IsRunning first_place scripted.connection
+    → state_of scripted ≡ start_with (limit_in all)
     → text ≡ [] → Goes all all scripted text
 goes_first all scripted text order running is none = record {
   place = first_place;
@@ -36,7 +38,8 @@ goes_first all scripted text order running is none = record {
 
 goes_on : (all more : List Command) (asked : Command) (old new : Scripted) (text behind : List ℕ)
     → Goes all (asked ∷ more) old text
-    → ((place : Place) → MayStand place asked → IsRunning place old.connection → ObeysOnce place old asked text new behind)
+    → ((place : Place) → MayStand place asked → IsRunning place old.connection
+    → ObeysOnce place old asked text new behind)
     → Goes all more new behind
 goes_on all more asked old new text behind goes obeys =
     let once = obeys goes.place goes.order.1 goes.running in
@@ -46,31 +49,39 @@ goes_on all more asked old new text behind goes obeys =
       order = goes.order.2;
       lines = λ t rest lines.
           let whole = goes.lines t (once.line ++ rest) (once.line, (state_of new), rest, refl, once.obeys, lines) in
-          let front : behind ++ rest ≡ text ++ (once.line ++ rest) = ap (λ front. front ++ rest) once.text_is ∙ append_assoc text once.line rest in
+          let front : behind ++ rest ≡ text ++ (once.line ++ rest) =
+          ap (λ front. front ++ rest) once.text_is ∙ append_assoc text once.line rest in
           subst (λ words. Lines (start_with (limit_in all)) all words t) (sym front) whole;
     }
 
 -- the command at a place is the first that is left there
-left_at : (all : List Command) (i : ℕ) (asked : Command) → i < length all → asked ≡ get_or all i asked
+left_at : (all : List Command) (i : ℕ) (asked : Command) → i < length all
+    → asked ≡ get_or all i asked
     → drop i all ≡ asked ∷ drop (i + 1) all
 left_at all i asked within is =
-    drop-cons all i asked within ∙ ap (λ (c : Command). c ∷ drop (suc i) all) (sym is) ∙ ap (λ n. asked ∷ drop n all) (sym (add-one i))
+    drop-cons all i asked within ∙ ap (λ (c : Command). c ∷ drop (suc i) all) (sym is)
+    ∙ ap (λ n. asked ∷ drop n all) (sym (add-one i))
 
-pub goes_next : (all : List Command) (i : ℕ) (asked : Command) (old new : Scripted) (text behind : List ℕ)
+pub goes_next : (all : List Command) (i : ℕ) (asked : Command) (old new : Scripted)
+    (text behind : List ℕ)
     → i < length all → asked ≡ get_or all i asked → Goes all (drop i all) old text
-    → ((place : Place) → MayStand place asked → IsRunning place old.connection → ObeysOnce place old asked text new behind)
+    → ((place : Place) → MayStand place asked → IsRunning place old.connection
+    → ObeysOnce place old asked text new behind)
     → Goes all (drop (i + 1) all) new behind
 goes_next all i asked old new text behind within is goes obeys =
     goes_on all (drop (i + 1) all) asked old new text behind
     (subst (λ left. Goes all left old text) (left_at all i asked within is) goes) obeys
 
-pub next_in_time : (all : List Command) (i : ℕ) (asked : Command) (scripted : Scripted) (text : List ℕ)
-    → i < length all → asked ≡ get_or all i asked → Goes all (drop i all) scripted text → IsInTime asked
+pub next_in_time : (all : List Command) (i : ℕ) (asked : Command) (scripted : Scripted)
+    (text : List ℕ)
+    → i < length all → asked ≡ get_or all i asked → Goes all (drop i all) scripted text
+    → IsInTime asked
 next_in_time all i asked scripted text within is goes =
     let order = subst (AreInOrder goes.place) (left_at all i asked within is) goes.order in order.0
 
 pub goes_last : (all : List Command) (scripted : Scripted) (n : ℕ) (text written whole : List ℕ)
-    → Goes all (drop n all) scripted text → length all ≤ n → scripted.connection.session.link.state.written ≡ Some written
+    → Goes all (drop n all) scripted text → length all ≤ n
+    → scripted.connection.session.link.state.written ≡ Some written
     → whole ≡ text ++ exchanges_lines (transcript (state_of scripted)) ++ wrote_line written
     → IsTextOf all whole
 goes_last all scripted n text written whole goes past told is = record {
@@ -78,34 +89,43 @@ goes_last all scripted n text written whole goes past told is = record {
   polls = text;
   written = written;
   lines = subst (λ words. Lines (start_with (limit_in all)) all words (state_of scripted)) (append-nil text)
-      (goes.lines (state_of scripted) [] (subst (λ left. Lines (state_of scripted) left [] (state_of scripted)) (sym (drop_all n all past)) (refl, refl)));
+      (goes.lines (state_of scripted) []
+      (subst (λ left. Lines (state_of scripted) left [] (state_of scripted)) (sym (drop_all n all past)) (refl, refl)));
   told = told;
   is = is;
 }
 
 -- the limit at a place is the first that is set from there on
-pub limit_at : (all : List Command) (i : ℕ) (asked : Command) → i < length all → asked ≡ get_or all i asked
+pub limit_at : (all : List Command) (i : ℕ) (asked : Command) → i < length all
+    → asked ≡ get_or all i asked
     → limit_in (drop i all) ≡ limit_in (asked ∷ drop (i + 1) all)
 limit_at all i asked within is = ap limit_in (left_at all i asked within is)
 
-not_said : (ended : Bool) (end_at : Option ℕ) (put : ℕ) → ended ≡ false → EndsAt ended end_at put → end_at ≡ None
+not_said : (ended : Bool) (end_at : Option ℕ) (put : ℕ) → ended ≡ false → EndsAt ended end_at put
+    → end_at ≡ None
 not_said true end_at put e ends = cc
 not_said false end_at put e ends = ends
 
-still_open : (ended : Bool) (end_at : Option ℕ) (put more : ℕ) → ended ≡ false → EndsAt ended end_at put → EndsAt ended end_at more
+still_open : (ended : Bool) (end_at : Option ℕ) (put more : ℕ) → ended ≡ false
+    → EndsAt ended end_at put → EndsAt ended end_at more
 still_open true end_at put more e ends = cc
 still_open false end_at put more e ends = ends
 
 -- bytes put ahead leave what was moved
 gives_once : (place : Place) (old : Scripted) (new : Served) (bytes text : List ℕ)
-    → new ≡ record old.connection { session = record old.connection.session { link = new.session.link } }
-    → new.session.link ≡ record old.connection.session.link { put = old.connection.session.link.put ++ bytes; reads_noted = old.connection.session.link.state.read_waits }
+    → new ≡ record old.connection
+    { session = record old.connection.session { link = new.session.link } }
+    → new.session.link ≡ record old.connection.session.link {
+      put = old.connection.session.link.put ++ bytes;
+      reads_noted = old.connection.session.link.state.read_waits;
+    }
     → Accounted link_state new_link new.session new.done new.last
     → MayStand place (command.Give bytes) → IsRunning place old.connection
     → ObeysOnce place old (command.Give bytes) text (record old { connection = new }) text
 gives_once place old new bytes text rest link since may running =
     let before = old.connection.session.link in
-    let served : MemState → Served = λ l. record old.connection { session = record old.connection.session { link = l } } in
+    let served : MemState → Served =
+    λ l. record old.connection { session = record old.connection.session { link = l } } in
     record {
       line = [];
       text_is = sym (append-nil text);
@@ -117,21 +137,29 @@ gives_once place old new bytes text rest link since may running =
           writes_noted = running.link.writes_noted;
           reads = running.link.reads;
           writes = running.link.writes;
-          end_at = still_open place.ended before.end_at (length before.put) (length (before.put ++ bytes)) may running.link.end_at;
+          end_at =
+              still_open place.ended before.end_at (length before.put)
+              (length (before.put ++ bytes)) may running.link.end_at;
         });
       };
     }
 
 -- the end is said after all that was put ahead
 ends_once : (place : Place) (old : Scripted) (new : Served) (text : List ℕ)
-    → new ≡ record old.connection { session = record old.connection.session { link = new.session.link } }
-    → new.session.link ≡ record old.connection.session.link { end_at = Some (unwrap_or old.connection.session.link.end_at (length old.connection.session.link.put)); reads_noted = old.connection.session.link.state.read_waits }
+    → new ≡ record old.connection
+    { session = record old.connection.session { link = new.session.link } }
+    → new.session.link ≡ record old.connection.session.link {
+      end_at = Some (unwrap_or old.connection.session.link.end_at
+          (length old.connection.session.link.put));
+      reads_noted = old.connection.session.link.state.read_waits;
+    }
     → Accounted link_state new_link new.session new.done new.last
     → MayStand place command.End → IsRunning place old.connection
     → ObeysOnce place old command.End text (record old { connection = new }) text
 ends_once place old new text rest link since may running =
     let before = old.connection.session.link in
-    let served : MemState → Served = λ l. record old.connection { session = record old.connection.session { link = l } } in
+    let served : MemState → Served =
+    λ l. record old.connection { session = record old.connection.session { link = l } } in
     record {
       line = [];
       text_is = sym (append-nil text);
@@ -155,29 +183,45 @@ on_ok (Ok x) P Q goes h = goes h
 on_ok (Err e) P Q goes h = tt
 
 -- the same of a command that is known to be this one
-pub gives_line : (place : Place) (old : Scripted) (new : Served) (asked : Command) (bytes text : List ℕ)
+pub gives_line : (place : Place) (old : Scripted) (new : Served) (asked : Command)
+    (bytes text : List ℕ)
     → asked ≡ command.Give bytes
-    → new ≡ record old.connection { session = record old.connection.session { link = new.session.link } }
-    → new.session.link ≡ record old.connection.session.link { put = old.connection.session.link.put ++ bytes; reads_noted = old.connection.session.link.state.read_waits }
-    → ((before : LinkState) → Accounted link_state before old.connection.session old.connection.done old.connection.last → Accounted link_state before new.session new.done new.last)
+    → new ≡ record old.connection
+    { session = record old.connection.session { link = new.session.link } }
+    → new.session.link ≡ record old.connection.session.link {
+      put = old.connection.session.link.put ++ bytes;
+      reads_noted = old.connection.session.link.state.read_waits;
+    }
+    → ((before : LinkState)
+    → Accounted link_state before old.connection.session old.connection.done old.connection.last
+    → Accounted link_state before new.session new.done new.last)
     → MayStand place asked → IsRunning place old.connection
     → ObeysOnce place old asked text (record old { connection = new }) text
 gives_line place old new asked bytes text is rest link since may running =
     let Stands : Command → Type 0 = MayStand place in
     let Goal : Command → Type 0 = λ asked. ObeysOnce place old asked text (record old { connection = new }) text in
-    subst Goal (sym is) (gives_once place old new bytes text rest link (since new_link running.accounted) (subst Stands is may) running)
+    subst Goal (sym is)
+    (gives_once place old new bytes text rest link (since new_link running.accounted) (subst Stands is may) running)
 
 pub ends_line : (place : Place) (old : Scripted) (new : Served) (asked : Command) (text : List ℕ)
     → asked ≡ command.End
-    → new ≡ record old.connection { session = record old.connection.session { link = new.session.link } }
-    → new.session.link ≡ record old.connection.session.link { end_at = Some (unwrap_or old.connection.session.link.end_at (length old.connection.session.link.put)); reads_noted = old.connection.session.link.state.read_waits }
-    → ((before : LinkState) → Accounted link_state before old.connection.session old.connection.done old.connection.last → Accounted link_state before new.session new.done new.last)
+    → new ≡ record old.connection
+    { session = record old.connection.session { link = new.session.link } }
+    → new.session.link ≡ record old.connection.session.link {
+      end_at = Some (unwrap_or old.connection.session.link.end_at
+          (length old.connection.session.link.put));
+      reads_noted = old.connection.session.link.state.read_waits;
+    }
+    → ((before : LinkState)
+    → Accounted link_state before old.connection.session old.connection.done old.connection.last
+    → Accounted link_state before new.session new.done new.last)
     → MayStand place asked → IsRunning place old.connection
     → ObeysOnce place old asked text (record old { connection = new }) text
 ends_line place old new asked text is rest link since may running =
     let Stands : Command → Type 0 = MayStand place in
     let Goal : Command → Type 0 = λ asked. ObeysOnce place old asked text (record old { connection = new }) text in
-    subst Goal (sym is) (ends_once place old new text rest link (since new_link running.accounted) (subst Stands is may) running)
+    subst Goal (sym is)
+    (ends_once place old new text rest link (since new_link running.accounted) (subst Stands is may) running)
 
 -- later polls are told that the server shuts down
 shuts_once : (place : Place) (old : Scripted) (text : List ℕ) → IsRunning place old.connection
@@ -189,14 +233,17 @@ shuts_once place old text running = record {
   running = running;
 }
 
-pub shuts_line : (place : Place) (old : Scripted) (asked : Command) (text : List ℕ) → asked ≡ command.Shutdown
-    → IsRunning place old.connection → ObeysOnce place old asked text (record old { shutdown = true }) text
+pub shuts_line : (place : Place) (old : Scripted) (asked : Command) (text : List ℕ)
+    → asked ≡ command.Shutdown
+    → IsRunning place old.connection
+    → ObeysOnce place old asked text (record old { shutdown = true }) text
 shuts_line place old asked text is running =
     let Goal : Command → Type 0 = λ asked. ObeysOnce place old asked text (record old { shutdown = true }) text in
     subst Goal (sym is) (shuts_once place old text running)
 
 -- a limit was set before
-limits_once : (place : Place) (old : Scripted) (count : ℕ) (text : List ℕ) → IsRunning place old.connection
+limits_once : (place : Place) (old : Scripted) (count : ℕ) (text : List ℕ)
+    → IsRunning place old.connection
     → ObeysOnce place old (command.Limit count) text old text
 limits_once place old count text running = record {
   line = [];
@@ -205,7 +252,8 @@ limits_once place old count text running = record {
   running = record { accounted = running.accounted; link = running.link };
 }
 
-pub limits_line : (place : Place) (old : Scripted) (asked : Command) (count : ℕ) (text : List ℕ) → asked ≡ command.Limit count
+pub limits_line : (place : Place) (old : Scripted) (asked : Command) (count : ℕ) (text : List ℕ)
+    → asked ≡ command.Limit count
     → IsRunning place old.connection → ObeysOnce place old asked text old text
 limits_line place old asked count text is running =
     let Goal : Command → Type 0 = λ asked. ObeysOnce place old asked text old text in
@@ -213,7 +261,8 @@ limits_line place old asked count text is running =
 
 -- the text of a report, part by part
 pub whole_text : (front between behind : List ℕ) (entries same : List Entry) (written : List ℕ)
-    → between ≡ front ++ exchanges_lines entries → entries ≡ same → behind ≡ between ++ wrote_line written
+    → between ≡ front ++ exchanges_lines entries → entries ≡ same
+    → behind ≡ between ++ wrote_line written
     → behind ≡ front ++ exchanges_lines same ++ wrote_line written
 whole_text front between behind entries same written first is second =
     second ∙ ap (λ words. words ++ wrote_line written) (first ∙ ap (λ es. front ++ exchanges_lines es) is)

@@ -16,7 +16,8 @@ use Rattle.h1_words.specs.declared.place.Place.{Place}
 use Rattle.h1_serve.specs.Running.{IsInTime, MayStand, AreInOrder, first_place}
 
 -- a test decides whether a number is kept
-kept_if : (most n : ℕ) (b : Bool) → (b ≡ true → n ≤ most) → IfSome (cond b (Some n) None) (λ n. n ≤ most)
+kept_if : (most n : ℕ) (b : Bool) → (b ≡ true → n ≤ most)
+    → IfSome (cond b (Some n) None) (λ n. n ≤ most)
 kept_if most n true bound = bound refl
 kept_if most n false bound = tt
 
@@ -48,10 +49,12 @@ zero_within most = omega arith
 
 number_within : (most : ℕ) (digits : List ℕ) → IfSome (number_up_to most digits) (λ n. n ≤ most)
 number_within most digits =
-    chosen_within most (nat_lt 0 (length digits) && nat_le (length digits) MAX_DIGITS) (number_from most (Some 0) digits)
+    chosen_within most (nat_lt 0 (length digits) && nat_le (length digits) MAX_DIGITS)
+    (number_from most (Some 0) digits)
     (number_from_within most digits (Some 0) (zero_within most))
 
-poll_of_number : (o : Option ℕ) → IfSome o (λ n. n ≤ LAST_MOMENT) → IfSome (option_map command.Poll o) IsInTime
+poll_of_number : (o : Option ℕ) → IfSome o (λ n. n ≤ LAST_MOMENT)
+    → IfSome (option_map command.Poll o) IsInTime
 poll_of_number None h = tt
 poll_of_number (Some n) h = h
 
@@ -106,14 +109,16 @@ may_stand place (command.Limit count) e = neither place.polled place.limited e
 may_stand place (command.Poll moment) e = grind (arith, nat_tests)
 
 -- a reading that stopped stays so
-stays_stopped : (number : ℕ) (lines : List (List ℕ)) → reading_behind (stopped_at number) lines ≡ stopped_at number
+stays_stopped : (number : ℕ) (lines : List (List ℕ))
+    → reading_behind (stopped_at number) lines ≡ stopped_at number
 stays_stopped number [] = refl
 stays_stopped number (line ∷ lines) = stays_stopped number lines
 
 never_faulty : (number : ℕ) (lines : List (List ℕ)) (cs : List Command)
     → outcome_of (reading_behind (stopped_at number) lines) ≡ commands cs → ⊥
 never_faulty number lines cs e =
-    let stopped : outcome_of (reading_behind (stopped_at number) lines) ≡ faulty_at number = ap outcome_of (stays_stopped number lines) in cc
+    let stopped : outcome_of (reading_behind (stopped_at number) lines) ≡ faulty_at number =
+    ap outcome_of (stays_stopped number lines) in cc
 
 -- the commands go on in order after these
 GoesOn : Place → List Command → List Command → Type 0
@@ -121,23 +126,29 @@ GoesOn place before cs = (more : List Command) × (cs ≡ before ++ more) × Are
 
 abbrev Follows : List (List ℕ) → List Command → Type 0
 Follows lines cs = (place : Place) (before : List Command) (number : ℕ)
-    → outcome_of (reading_behind (at_line place before number) lines) ≡ commands cs → GoesOn place before cs
+    → outcome_of (reading_behind (at_line place before number) lines) ≡ commands cs
+    → GoesOn place before cs
 
 put_in_front : (place : Place) (before cs : List Command) (c : Command)
-    → IsInTime c → MayStand place c → GoesOn (place_after place c) (before ++ c ∷ []) cs → GoesOn place before cs
+    → IsInTime c → MayStand place c → GoesOn (place_after place c) (before ++ c ∷ []) cs
+    → GoesOn place before cs
 unfolding GoesOn
 put_in_front place before cs c time may goes =
     (c ∷ goes.0, goes.1 ∙ append_assoc before (c ∷ []) goes.0, (time, may, goes.2))
 
-with_test : (place : Place) (before : List Command) (number : ℕ) (lines : List (List ℕ)) (cs : List Command) (c : Command) (b : Bool)
+with_test : (place : Place) (before : List Command) (number : ℕ) (lines : List (List ℕ))
+    (cs : List Command) (c : Command) (b : Bool)
     → IsInTime c → (b ≡ true → MayStand place c) → Follows lines cs
-    → outcome_of (reading_behind (cond b (at_line (place_after place c) (before ++ c ∷ []) (number + 1)) (stopped_at number)) lines) ≡ commands cs
+    → outcome_of (reading_behind
+    (cond b (at_line (place_after place c) (before ++ c ∷ []) (number + 1)) (stopped_at number))
+    lines) ≡ commands cs
     → GoesOn place before cs
 with_test place before number lines cs c true time may follows e =
     put_in_front place before cs c time (may refl) (follows (place_after place c) (before ++ c ∷ []) (number + 1) e)
 with_test place before number lines cs c false time may follows e = absurd (never_faulty number lines cs e)
 
-with_one : (place : Place) (before : List Command) (number : ℕ) (lines : List (List ℕ)) (cs : List Command) (o : Option Command)
+with_one : (place : Place) (before : List Command) (number : ℕ) (lines : List (List ℕ))
+    (cs : List Command) (o : Option Command)
     → IfSome o IsInTime → Follows lines cs
     → outcome_of (reading_behind (with_command place before number o) lines) ≡ commands cs
     → GoesOn place before cs
@@ -157,7 +168,8 @@ in_order_of : (cs : List Command) → GoesOn first_place [] cs → AreInOrder fi
 unfolding GoesOn
 in_order_of cs goes = rw goes.1 goes.2
 
-never_by : (number : ℕ) (outcome : ScriptOutcome) (cs : List Command) → faulty_by number outcome ≡ commands cs → ⊥
+never_by : (number : ℕ) (outcome : ScriptOutcome) (cs : List Command)
+    → faulty_by number outcome ≡ commands cs → ⊥
 never_by number (commands read) cs e = cc
 never_by number (faulty_at first) cs e = cc
 
@@ -167,14 +179,20 @@ whole_script true number outcome cs e = (refl, e)
 whole_script false number outcome cs e = absurd (never_by number outcome cs e)
 
 -- the commands of a script stand in order
-pub commands_in_order : (bytes : List ℕ) (cs : List Command) → script_of bytes ≡ commands cs → AreInOrder first_place cs
+pub commands_in_order : (bytes : List ℕ) (cs : List Command) → script_of bytes ≡ commands cs
+    → AreInOrder first_place cs
 commands_in_order bytes cs e =
-    let whole = whole_script (nat_le (length bytes) MAX_SCRIPT) (line_at MAX_SCRIPT bytes) (outcome_of (reading_behind first_line (lines_of bytes))) cs e in
+    let whole =
+    whole_script (nat_le (length bytes) MAX_SCRIPT) (line_at MAX_SCRIPT bytes)
+    (outcome_of (reading_behind first_line (lines_of bytes))) cs e in
     in_order_of cs (follows (lines_of bytes) cs first_place [] 1 whole.1)
 
 -- a script that has commands is within its limit
-pub script_within : (bytes : List ℕ) (cs : List Command) → script_of bytes ≡ commands cs → length bytes ≤ MAX_SCRIPT
+pub script_within : (bytes : List ℕ) (cs : List Command) → script_of bytes ≡ commands cs
+    → length bytes ≤ MAX_SCRIPT
 script_within bytes cs e =
-    let whole = whole_script (nat_le (length bytes) MAX_SCRIPT) (line_at MAX_SCRIPT bytes) (outcome_of (reading_behind first_line (lines_of bytes))) cs e in
+    let whole =
+    whole_script (nat_le (length bytes) MAX_SCRIPT) (line_at MAX_SCRIPT bytes)
+    (outcome_of (reading_behind first_line (lines_of bytes))) cs e in
     let test = whole.0 in
     grind (arith, nat_tests)

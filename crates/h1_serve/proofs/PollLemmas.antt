@@ -36,7 +36,8 @@ never_new : (begins : EchoJob → Type 0) (to : Stage EchoJob) → PendedNew beg
 never_new begins (stage.Answer job) p = omega (arith, p.2)
 never_new begins _ p = p
 
-never_on : (begins : EchoJob → Type 0) (from to : Stage EchoJob) → PendedOn begins (λ _. 0) from to → ⊥
+never_on : (begins : EchoJob → Type 0) (from to : Stage EchoJob) → PendedOn begins (λ _. 0) from to
+    → ⊥
 never_on begins (stage.Answer before) (stage.Answer job) p = omega (arith, p)
 never_on begins stage.Head to p = never_new begins to p
 never_on begins (stage.Answer before) _ p = p
@@ -58,7 +59,8 @@ never_pends begins from to p =
 
 pends_for : (begins : EchoJob → Type 0) (from to : Scripted) (what : Waiting)
     → NothingFailed to.connection.session.link.state
-    → WaitCause begins (λ _. 0) new_link from.connection.session.link.state to.connection.session.link.state from.connection to.connection what
+    → WaitCause begins (λ _. 0) new_link from.connection.session.link.state
+    to.connection.session.link.state from.connection to.connection what
     → PendsFor (state_of from) (state_of to) what
 pends_for begins from to waiting.Read faultless cause = cause
 pends_for begins from to waiting.Write faultless cause =
@@ -79,17 +81,20 @@ pub if_none : {X : Type 0} (o : Option X) (P Q : Type 0) → (P → Q) → IfNon
 if_none None P Q goes h = goes h
 if_none (Some x) P Q goes h = tt
 
-if_some : {X : Type 0} (o : Option X) (P Q : X → Type 0) → ((x : X) → P x → Q x) → IfSome o P → IfSome o Q
+if_some : {X : Type 0} (o : Option X) (P Q : X → Type 0) → ((x : X) → P x → Q x) → IfSome o P
+    → IfSome o Q
 if_some None P Q goes h = tt
 if_some (Some x) P Q goes h = goes x h
 
 -- the plan of a link stays that of a script
-open_gate : (gate : Gate) (taken before : ℕ) → gate_from gate taken ≡ gate_from Open before → gate ≡ Open
+open_gate : (gate : Gate) (taken before : ℕ) → gate_from gate taken ≡ gate_from Open before
+    → gate ≡ Open
 open_gate Open taken before e = refl
 open_gate (Room left) taken before e = cc
 open_gate Blocked taken before e = cc
 
-pub stays_scripted : (ended : Bool) (old new : MemState) → IsScripted ended old → SamePlan old new → IsScripted ended new
+pub stays_scripted : (ended : Bool) (old new : MemState) → IsScripted ended old → SamePlan old new
+    → IsScripted ended new
 stays_scripted ended old new scripted plan = record {
   gate = open_gate new.gate new.state.bytes_out old.state.bytes_out
       (plan.gate ∙ ap (λ gate. gate_from gate old.state.bytes_out) scripted.gate);
@@ -112,7 +117,8 @@ none_stalled : (noted count : ℕ) → noted ≡ 0 → (noted < count → ⊥) �
 none_stalled noted zero e never = refl
 none_stalled noted (suc count) e never = absurd (never (omega arith))
 
-nothing_failed : (ended : Bool) (link : MemState) → IsScripted ended link → Rule link → NothingFailed link.state
+nothing_failed : (ended : Bool) (link : MemState) → IsScripted ended link → Rule link
+    → NothingFailed link.state
 nothing_failed ended link scripted rule = record {
   reads = none_due link.read_fault link.state.read_faults scripted.reads;
   writes = none_due link.write_fault link.state.write_faults scripted.writes;
@@ -121,23 +127,27 @@ nothing_failed ended link scripted rule = record {
 }
 
 -- all that was put ahead is given
-all_given : (link : MemState) → Rule link → length link.put ≤ link.state.bytes_in → link.state.given ≡ Some link.put
+all_given : (link : MemState) → Rule link → length link.put ≤ link.state.bytes_in
+    → link.state.given ≡ Some link.put
 all_given link rule all =
     rule.given ∙ ap Some (take_all link.state.bytes_in link.put all)
 
-end_said : (ended : Bool) (end_at : Option ℕ) (put given : ℕ) → EndsAt ended end_at put → EndReached end_at given
+end_said : (ended : Bool) (end_at : Option ℕ) (put given : ℕ) → EndsAt ended end_at put
+    → EndReached end_at given
     → (is_some end_at ≡ true) × (put ≤ given)
 end_said ended None put given ends reached = absurd reached
 end_said true (Some at) put given ends reached = (refl, let same : at ≡ put = cc in omega arith)
 end_said false (Some at) put given ends reached = absurd (let never : Some at ≡ None = ends in cc)
 
-met_end : (ended : Bool) (link : MemState) → IsScripted ended link → Rule link → IsTrue link.state.ended
+met_end : (ended : Bool) (link : MemState) → IsScripted ended link → Rule link
+    → IsTrue link.state.ended
     → (is_some link.end_at ≡ true) × (link.state.given ≡ Some link.put)
 met_end ended link scripted rule met =
     let said = end_said ended link.end_at (length link.put) link.state.bytes_in scripted.end_at (rule.ended met) in
     (said.0, all_given link rule said.1)
 
-waited : (old new : MemState) → SamePlan old new → Rule old → Rule new → old.state.read_waits < new.state.read_waits
+waited : (old new : MemState) → SamePlan old new → Rule old → Rule new
+    → old.state.read_waits < new.state.read_waits
     → (new.state.given ≡ Some new.put) × (is_some new.end_at ≡ false)
 waited old new plan before behind more =
     let noted : new.reads_noted < new.state.read_waits = omega (arith, plan.reads_noted, before.noted_reads) in
@@ -145,19 +155,26 @@ waited old new plan before behind more =
     (all_given new behind (omega (arith, all.0)), ap is_some all.1)
 
 -- what a poll of the connection ensures
-pub record Polled (begins : EchoJob → Type 0) (moment : ℕ) (old : Scripted) (answer : Progress) (new : Scripted) : Type 0 where
+pub record Polled (begins : EchoJob → Type 0) (moment : ℕ) (old : Scripted) (answer : Progress)
+    (new : Scripted) : Type 0 where
   pub later : Later old.connection.session.link.state new.connection.session.link.state
   pub plan : SamePlan old.connection.session.link new.connection.session.link
   pub limit : new.connection.limit ≡ old.connection.limit
   pub shut : new.shutdown ≡ old.shutdown
-  pub accounted : Accounted link_state new_link new.connection.session new.connection.done new.connection.last
-  pub agrees : Agrees EchoGives new.connection.limit new_link new.connection.session.link.state (entries new.connection)
-  pub extends : Extends moment old.shutdown old.connection.session.link.state new.connection.session.link.state (entries old.connection) (entries new.connection)
+  pub accounted : Accounted link_state new_link new.connection.session new.connection.done
+      new.connection.last
+  pub agrees : Agrees EchoGives new.connection.limit new_link new.connection.session.link.state
+      (entries new.connection)
+  pub extends : Extends moment old.shutdown old.connection.session.link.state
+      new.connection.session.link.state (entries old.connection) (entries new.connection)
   pub moves : new.connection.session.link.state.moves ≤ old.connection.session.link.state.moves + 64
-  pub reads_not_ready : new.connection.session.link.state.read_waits + replies (entries old.connection)
+  pub reads_not_ready : new.connection.session.link.state.read_waits
+      + replies (entries old.connection)
       ≤ old.connection.session.link.state.read_waits + replies (entries new.connection) + 1
-  pub ended : IfSome old.connection.end (λ reason. (answer ≡ progress.Ready reason) × (new.connection ≡ old.connection))
-  pub cause : IfNone old.connection.end (Cause link_state begins (λ _. 0) new_link old.connection new.connection answer)
+  pub ended : IfSome old.connection.end (λ reason. (answer ≡ progress.Ready reason)
+      × (new.connection ≡ old.connection))
+  pub cause : IfNone old.connection.end
+      (Cause link_state begins (λ _. 0) new_link old.connection new.connection answer)
 
 -- a connection that stays leaves the state as it was
 same_state : (old new : Scripted) → new.shutdown ≡ old.shutdown → new.connection ≡ old.connection
@@ -166,7 +183,8 @@ same_state old new shut same =
     let seen : Bool → Served → State = λ shut served. state_of (record { connection = served; shutdown = shut }) in
     ap (λ (b : Bool). seen b new.connection) shut ∙ ap (λ (c : Served). seen old.shutdown c) same
 
-polls : (begins : EchoJob → Type 0) (place : Place) (moment : ℕ) (old new : Scripted) (answer : Progress)
+polls : (begins : EchoJob → Type 0) (place : Place) (moment : ℕ) (old new : Scripted)
+    (answer : Progress)
     → IsRunning place old.connection → Polled begins moment old answer new
     → Rule old.connection.session.link → Rule new.connection.session.link → IsAnswered answer
     → Polls moment (state_of old) answer (state_of new)
@@ -189,12 +207,14 @@ polls begins place moment old new answer running polled before behind answered =
       faultless = faultless;
       moves = polled.moves;
       reads_not_ready = polled.reads_not_ready;
-      again = if_some old.connection.end _ _ (λ reason same. (same.0, same_state old new polled.shut same.1)) polled.ended;
+      again =
+          if_some old.connection.end _ _ (λ reason same. (same.0, same_state old new polled.shut same.1)) polled.ended;
       cause = if_none old.connection.end _ _ (answer_cause begins old new answer faultless answered) polled.cause;
     }
 
 -- one poll obeys its line
-pub polls_once : (begins : EchoJob → Type 0) (place : Place) (old new : Scripted) (moment : ℕ) (answer : Progress) (text behind_text : List ℕ)
+pub polls_once : (begins : EchoJob → Type 0) (place : Place) (old new : Scripted) (moment : ℕ)
+    (answer : Progress) (text behind_text : List ℕ)
     → IsRunning place old.connection → Polled begins moment old answer new
     → Rule old.connection.session.link → Rule new.connection.session.link → IsAnswered answer
     → behind_text ≡ text ++ poll_line moment answer

@@ -29,6 +29,8 @@ spent_moved first [] given written tells spent = (given, written, tells, omega a
 spent_moved first (now ∷ rest) given written tells spent =
     let gave = still_told first.given now.given given tells.0 spent.0.given in
     let wrote = still_told first.written now.written written tells.1 spent.0.written in
-    let grew = growth first.given now.given first.written now.written given gave.0 written wrote.0 tells.0 gave.1 tells.1 wrote.1 spent.1 in
+    let grew =
+    growth first.given now.given first.written now.written given gave.0 written wrote.0
+    tells.0 gave.1 tells.1 wrote.1 spent.1 in
     let on = spent_moved now rest gave.0 wrote.0 (gave.1, wrote.1) spent.2 in
     (on.0, on.1, on.2, omega (arith, grew, on.3))

@@ -14,8 +14,10 @@ use Rattle.h1_serve.specs.Report.{IsTextOf}
 use Rattle.h1_serve.specs.Status.{ScriptCause, status_after}
 use Rattle.h1_serve.proofs.OrderLemmas.{script_within}
 
-written_cause : (source source' : SourceState) (sink sink' : SinkState) (whole : Status) (text : List ℕ) (done : Written)
-    → WriteCause sink sink' text done → (Wrote sink sink' text → ScriptCause source source' sink sink' whole)
+written_cause : (source source' : SourceState) (sink sink' : SinkState) (whole : Status)
+    (text : List ℕ) (done : Written)
+    → WriteCause sink sink' text done
+    → (Wrote sink sink' text → ScriptCause source source' sink sink' whole)
     → ScriptCause source source' sink sink' (status_after whole done)
 written_cause source source' sink sink' whole text written.Whole cause goes = goes cause
 written_cause source source' sink sink' whole text written.Failed cause goes = cause
@@ -29,7 +31,8 @@ read_out source source' script asked read is =
     elim read.out [ inl ended ↦ ended | inr beyond ↦ absurd (omega arith) ]
 
 -- the status once a report was written
-pub reported : (source source' : SourceState) (sink sink' : SinkState) (script : List ℕ) (asked : List Command) (text : List ℕ) (done : Written) (answer : Status)
+pub reported : (source source' : SourceState) (sink sink' : SinkState) (script : List ℕ)
+    (asked : List Command) (text : List ℕ) (done : Written) (answer : Status)
     → ReadsScript source source' script → script_of script ≡ commands asked → IsTextOf asked text
     → WriteCause sink sink' text done → answer ≡ status_after status.Done done
     → ScriptCause source source' sink sink' answer
@@ -45,8 +48,10 @@ reported source source' sink sink' script asked text done answer read is is_text
     }))
 
 -- the status once the line of a fault was written
-pub refused : (source source' : SourceState) (sink sink' : SinkState) (script : List ℕ) (number : ℕ) (text : List ℕ) (done : Written) (answer : Status)
-    → ReadsScript source source' script → script_of script ≡ faulty_at number → text ≡ fault_line number
+pub refused : (source source' : SourceState) (sink sink' : SinkState) (script : List ℕ) (number : ℕ)
+    (text : List ℕ) (done : Written) (answer : Status)
+    → ReadsScript source source' script → script_of script ≡ faulty_at number
+    → text ≡ fault_line number
     → WriteCause sink sink' text done → answer ≡ status_after status.Script done
     → ScriptCause source source' sink sink' answer
 refused source source' sink sink' script number text done answer read is line cause after =

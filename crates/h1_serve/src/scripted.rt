@@ -16,17 +16,15 @@ use crate::exchange::{push_exchanges, push_written};
 use h1_app::{Connection, EchoApp, HttpServer, HttpServerOptions, NoModules};
 use h1_error::{End, Error, ErrorType, Progress};
 use h1_link::MemLink;
+use h1_serving::Echoed;
 use h1_words::{Command, LAST_MOMENT, Text};
 use std::alloc::Global;
 use std::sync::Arc;
 
-/// The connection that a script runs over.
-type Served = Connection<MemLink, EchoApp, NoModules, ()>;
-
 /// A script as it runs: its connection, and whether the server shuts down.
 #[derive(Drop)]
 struct Scripted {
-    connection: Served,
+    connection: Echoed<MemLink>,
     shutdown: bool,
 }
 
@@ -120,7 +118,7 @@ fn obey(
     }
 }
 
-fn give(connection: &mut Served, bytes: &[u8]) -> Result<(), Error>
+fn give(connection: &mut Echoed<MemLink>, bytes: &[u8]) -> Result<(), Error>
     ensures link { OnOk result
         (connection.new.session.link
         ≡ record connection.old.session.link {
@@ -138,7 +136,7 @@ fn give(connection: &mut Served, bytes: &[u8]) -> Result<(), Error>
     connection.with_link(|link| link.give(bytes))
 }
 
-fn say_end(connection: &mut Served)
+fn say_end(connection: &mut Echoed<MemLink>)
     ensures link { connection.new.session.link
         ≡ record connection.old.session.link {
           end_at = Some

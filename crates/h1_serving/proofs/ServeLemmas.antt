@@ -212,7 +212,8 @@ pub record IsServing {L C A J : Type 0} (state : L → LinkState) (same_plan : L
       to.end
   pub accounted : (before : LinkState) → Accounted state before from.session from.done from.last
       → Accounted state before to.session to.done to.last
-  pub served : AllByRecursion (BeganInCall first now (state from.session.link) (state to.session.link))
+  pub served : AllByRecursion
+      (BeganInCall first now (state from.session.link) (state to.session.link))
       (entries to)
   pub alive : (before : LinkState) → Accounted state before from.session from.done from.last
       → to.end ≡ None
@@ -230,7 +231,8 @@ pub record IsCall {L C A J : Type 0} (state : L → LinkState) (same_plan : L �
       → Accounted state before to.session to.done to.last
   pub agrees : (before : LinkState) → Accounted state before from.session from.done from.last
       → Agrees EchoGives to.limit before (state to.session.link) (entries to)
-  pub served : AllByRecursion (BeganInCall first now (state from.session.link) (state to.session.link))
+  pub served : AllByRecursion
+      (BeganInCall first now (state from.session.link) (state to.session.link))
       (entries to)
   pub answers : (before : LinkState) → Accounted state before from.session from.done from.last
       → AnswersFor state polls before (state from.session.link) to answer

@@ -186,6 +186,24 @@ pub record PollLeaves {L C A J : Type 0} (state : L → LinkState) (from to : Vi
   pub others : (state to.session.link).others + 3 * length from.done
       ≤ (state from.session.link).others + 3 * length (entries to) + 1
 
+pub poll_leaves : {L C A J : Type 0} {state : L → LinkState} {from to : View L C A J}
+    {answer : Progress}
+    → IfNone from.end (Leaves (state from.session.link) (state to.session.link) to.last to.end)
+    → IfSome from.end (λ reason. (answer ≡ progress.Ready reason) × (to ≡ from))
+    → (state to.session.link).moves ≤ (state from.session.link).moves + CALL_BUDGET
+    → (state to.session.link).read_waits + replies (entries from)
+    ≤ (state from.session.link).read_waits + replies (entries to) + 1
+    → (state to.session.link).others + 3 * length from.done
+    ≤ (state from.session.link).others + 3 * length (entries to) + 1
+    → PollLeaves state from to answer
+poll_leaves leaves ended moves reads_not_ready others = record {
+  leaves = leaves;
+  ended = ended;
+  moves = moves;
+  reads_not_ready = reads_not_ready;
+  others = others;
+}
+
 -- before the first poll
 pub leaves_none : (a : LinkState) (es : List Entry) → LeavesInCall 0 a a es None
 leaves_none a es = record {

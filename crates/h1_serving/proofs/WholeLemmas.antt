@@ -130,7 +130,8 @@ kept_on first last link e none s =
       by (Some error) h = λ is. let rose = h is in absurd (omega (arith, rose, none))
 
 all_kept : (first last : ℕ) (link : LinkState) (es : List Entry) → link.read_faults ≡ 0
-    → AllByRecursion (BeganInCall first last new_mem_state.state link) es → AllByRecursion IsKeptOn es
+    → AllByRecursion (BeganInCall first last new_mem_state.state link) es
+    → AllByRecursion IsKeptOn es
 all_kept first last link [] none h = tt
 all_kept first last link (e ∷ more) none h =
     (kept_on first last link e none h.0, all_kept first last link more none h.1)

@@ -1,4 +1,4 @@
-//! Numbers of a script.
+//! Numbers of a script and of the command line.
 ghost use Rattle.std.specs.Prelude.{◌≡◌, ◌≤◌, IfSome};
 ghost use Rattle.h1_words.specs.Number.{with_digit, number_up_to};
 

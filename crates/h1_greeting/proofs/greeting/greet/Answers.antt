@@ -8,7 +8,8 @@ use Rattle.h1_greeting.proofs.greeting.greet.Goals as goal
 
 pub loop-preserved : goal.loop-preserved
 loop-preserved c =
-    let on = unended c.loop.connection.end (ap is_some (sym c.end-in-loop.ensures) ∙ sym c.is_some.ensures ∙ c.if-is_some.false) in
+    let on = unended c.loop.connection.end
+    (ap is_some (sym c.end-in-loop.ensures) ∙ sym c.is_some.ensures ∙ c.if-is_some.false) in
     let cause = rw on at c.poll.ensures.cause in
     served_on c.args.given.now c.loop.counter c.loop.connection c.poll.new.self c.poll.result c.loop.invariant
     c.loop-test.true on c.poll.ensures.app.1 c.poll.ensures.plan (subst Rule c.link-in-loop.ensures c.rule.ensures)

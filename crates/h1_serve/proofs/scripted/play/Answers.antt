@@ -5,22 +5,26 @@ use Rattle.h1_serve.proofs.scripted.play.Goals as goal
 
 pub obey-requires : goal.obey-requires
 obey-requires c =
-    next_in_time c.args.commands.now c.loop-command.command-index c.command-item.result c.loop-command.scripted c.loop-command.text
+    next_in_time c.args.commands.now c.loop-command.command-index c.command-item.result
+    c.loop-command.scripted c.loop-command.text
     c.loop-command-test.true c.command-item.is c.loop-command.invariant
 
 pub loop-command-preserved : goal.loop-command-preserved
 loop-command-preserved c =
-    goes_next c.args.commands.now c.loop-command.command-index c.command-item.result c.loop-command.scripted c.obey.new.scripted c.loop-command.text c.obey.new.text
+    goes_next c.args.commands.now c.loop-command.command-index c.command-item.result
+    c.loop-command.scripted c.obey.new.scripted c.loop-command.text c.obey.new.text
     c.loop-command-test.true c.command-item.is c.loop-command.invariant c.in_ok-obey.ensures
 
 pub loop-command-init : goal.loop-command-init
 loop-command-init c =
-    goes_first c.args.commands.now c.args.scripted.now c.new-text.result c.requires.order c.requires.running c.requires.state c.new-text.ensures
+    goes_first c.args.commands.now c.args.scripted.now c.new-text.result
+    c.requires.order c.requires.running c.requires.state c.new-text.ensures
 
 pub returns : goal.returns
 returns c =
     let Written : MemState → Type 0 = λ link. link.state.written ≡ Some c.written.result.now in
-    goes_last c.args.commands.now c.loop-command.scripted c.loop-command.command-index c.loop-command.text c.written.result.now c.push_written.new.text
+    goes_last c.args.commands.now c.loop-command.scripted c.loop-command.command-index
+    c.loop-command.text c.written.result.now c.push_written.new.text
     c.loop-command.invariant c.loop-command-test.false (subst Written c.link.ensures c.written.ensures)
     (whole_text c.loop-command.text c.push_exchanges.new.text c.push_written.new.text _ _ c.written.result.now
     c.in_ok-push_exchanges.ensures c.transcript.ensures c.in_ok-push_written.ensures)

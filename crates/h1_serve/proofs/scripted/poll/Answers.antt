@@ -12,9 +12,12 @@ returns c =
     let polled = c.poll-answer.ensures in
     let before = subst Rule c.link.ensures c.rule.ensures in
     let behind = subst Rule c.link-2.ensures c.rule-2.ensures in
-    let words : c.as_slice.result.now ≡ poll_line c.args.moment c.poll-answer.result = c.as_slice.ensures ∙ c.in_ok-line.ensures in
-    let is : c.push.new.self ≡ c.args.text.now ++ poll_line c.args.moment c.poll-answer.result = text ∙ ap (λ line. c.args.text.now ++ line) words in
-    polls_once (λ job. job.body ≡ []) place _ _ c.args.moment c.poll-answer.result c.args.text.now c.push.new.self running
+    let words : c.as_slice.result.now ≡ poll_line c.args.moment c.poll-answer.result =
+    c.as_slice.ensures ∙ c.in_ok-line.ensures in
+    let is : c.push.new.self ≡ c.args.text.now ++ poll_line c.args.moment c.poll-answer.result =
+    text ∙ ap (λ line. c.args.text.now ++ line) words in
+    polls_once
+    (λ job. job.body ≡ []) place _ _ c.args.moment c.poll-answer.result c.args.text.now c.push.new.self running
     (record {
       later = polled.later;
       plan = polled.plan;

@@ -1,6 +1,7 @@
 use Rattle.std.proofs.Common.{◌≡◌, [], arith}
 use Rattle.h1_echo.specs.declared.echo.EchoJob.{EchoJob}
 use Rattle.h1_serving.specs.declared.serving.TheConstants.{MOST_POLLS}
+use Rattle.h1_serving.proofs.WaitLemmas.{poll_leaves}
 use Rattle.h1_serving.proofs.ServeLemmas.{poll_of, serving_none, serving_on, call_of, waiting_of, never_waits}
 use Rattle.h1_serving.proofs.serving.serve_link.Goals as goal
 
@@ -20,13 +21,9 @@ loop-preserved g c =
     (g.T.Clock.moment c.now-now.new.self) c.args.connection.now
     c.loop.connection c.poll-answer.new.self c.poll-answer.result
     g.met.L.Link.plan_on (omega (arith, at.moment, at.later)) c.loop.invariant
-    (poll_of at.moment p.app p.later (record {
-      leaves = p.leaves;
-      ended = p.ended;
-      moves = p.moves;
-      reads_not_ready = p.reads_not_ready;
-      others = p.others;
-    }) p.plan p.accounted p.agrees p.extends p.cause)
+    (poll_of at.moment p.app p.later
+    (poll_leaves p.leaves p.ended p.moves p.reads_not_ready p.others)
+    p.plan p.accounted p.agrees p.extends p.cause)
     (waiting_of c.poll-answer.result c.in_default.not-Ready)
 
 pub returns-in-Ready : goal.returns-in-Ready
@@ -44,13 +41,9 @@ returns-in-Ready g c =
     (λ waits. absurd
     (never_waits c.poll-answer.result c.in-Ready.field-0 c.in-Ready.is waits))
     (omega (arith, c.loop-test.true)) c.loop.invariant
-    (poll_of at.moment p.app p.later (record {
-      leaves = p.leaves;
-      ended = p.ended;
-      moves = p.moves;
-      reads_not_ready = p.reads_not_ready;
-      others = p.others;
-    }) p.plan p.accounted p.agrees p.extends p.cause) in
+    (poll_of at.moment p.app p.later
+    (poll_leaves p.leaves p.ended p.moves p.reads_not_ready p.others)
+    p.plan p.accounted p.agrees p.extends p.cause) in
     record {
       kept = call.kept;
       leaves = call.leaves;
@@ -74,13 +67,9 @@ returns g c =
     g.met.L.Link.plan_on (omega (arith, at.moment, at.later))
     (λ waits. omega (arith, c.loop-test.false, c.loop.auto.counter-end))
     (omega (arith, c.loop-test.false, c.loop.auto.counter-end)) c.loop.invariant
-    (poll_of at.moment p.app p.later (record {
-      leaves = p.leaves;
-      ended = p.ended;
-      moves = p.moves;
-      reads_not_ready = p.reads_not_ready;
-      others = p.others;
-    }) p.plan p.accounted p.agrees p.extends p.cause) in
+    (poll_of at.moment p.app p.later
+    (poll_leaves p.leaves p.ended p.moves p.reads_not_ready p.others)
+    p.plan p.accounted p.agrees p.extends p.cause) in
     record {
       kept = call.kept;
       leaves = call.leaves;

@@ -5,8 +5,10 @@ use Rattle.std.proofs.Common.{refl}
 
 pub returns-clause-reads : goal.returns-clause-reads
 returns-clause-reads g c =
-    refusal_reads g.L.Link.state c.args.http.now c.args.http.now c.set_pipelining_enabled.new.self _ _ refl c.set_pipelining_enabled.ensures refl
+    refusal_reads g.L.Link.state c.args.http.now c.args.http.now
+    c.set_pipelining_enabled.new.self _ _ refl c.set_pipelining_enabled.ensures refl
 
 pub returns-clause-gives : goal.returns-clause-gives
 returns-clause-gives g c = λ head began asked runs.
-    greets c.args.http.now c.set_pipelining_enabled.new.self head began c.greeting.result c.set_pipelining_enabled.ensures runs c.greeting.ensures.ok c.greeting.ensures.err
+    greets c.args.http.now c.set_pipelining_enabled.new.self head began c.greeting.result
+    c.set_pipelining_enabled.ensures runs c.greeting.ensures.ok c.greeting.ensures.err
