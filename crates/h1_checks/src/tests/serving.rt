@@ -193,3 +193,19 @@ fn what_is_left_of_a_body_is_drained_before_the_next_head(rt: HostRuntime) -> Re
     play_refusing(&rt, 0, link, &steps)?;
     Ok(())
 }
+
+#[test]
+fn long_head_by_bytes(rt: HostRuntime) -> Result<(), Fail> {
+    let value = vec![in rt.alloc(); b'a'; 1_048_551]?;
+    let steps = [
+        GiveEach(b"GET /a HTTP/1.1\r\nx: "),
+        GiveEach(&value),
+        GiveEach(b"\r\n\r\n"),
+        NoMore,
+        Ends(End::Finished),
+        Exchanges(1),
+        WroteLen(106),
+    ];
+    play_echo(&rt, None, MemLink::new(rt.alloc()), &steps)?;
+    Ok(())
+}
