@@ -51,7 +51,8 @@ pub enum Step<'a> {
     WroteLen(usize),
 }
 
-/// Plays the steps with `EchoApp` over this link, and gives the link back.
+/// Plays the steps with `EchoApp` over this link, and gives the link back. It promises nothing: an
+/// expectation that isn't met ends the test.
 pub fn play_echo(
     rt: &(impl Abort + AllocGlobal),
     limit: Option<u32>,
@@ -62,7 +63,8 @@ pub fn play_echo(
     play(rt, served, steps)
 }
 
-/// Plays the steps with an application that waits so often and then refuses, over this link.
+/// Plays the steps with an application that waits so often and then refuses, over this link. It
+/// promises nothing: an expectation that isn't met ends the test.
 pub fn play_refusing(
     rt: &(impl Abort + AllocGlobal),
     waits: u64,
