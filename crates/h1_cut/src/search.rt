@@ -1,5 +1,5 @@
 //! The search for the end of a head in a stream that comes in pieces (RFC 9112, section 2.2).
-ghost use Rattle.std.specs.Prelude.{◌≡◌, ◌+◌, ◌-◌, ◌^◌, ◌<◌, ◌≤◌, ◌++◌, ℕ, List, [], false, length, drop, min, IfNone, IfSome, MatchOption};
+ghost use Rattle.std.specs.Prelude.{◌≡◌, ◌+◌, ◌^◌, ◌<◌, ◌≤◌, ◌++◌, ℕ, List, [], false, length, drop, min, IfNone, IfSome, MatchOption};
 ghost use Rattle.h1_cut.specs.Cut.{cut};
 ghost use Rattle.h1_cut.specs.Limit.{CutsAt, HasNoCut};
 ghost use Rattle.h1_cut.specs.Search.{Advanced, HasLooked, HasLookedAt, at_of, found_by, has_begun, is_end};

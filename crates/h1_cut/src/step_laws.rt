@@ -1,5 +1,5 @@
 //! Laws of what the calls of a search cost together.
-ghost use Rattle.std.specs.Prelude.{◌≡◌, ◌+◌, ◌≤◌, ◌++◌, ◌∷◌, ℕ, List, [], length};
+ghost use Rattle.std.specs.Prelude.{◌+◌, ◌≤◌, ◌++◌, ◌∷◌, ℕ, List, [], length};
 ghost use Rattle.h1_cut.specs.Search.{Advanced, Calls, HasLookedAt, at_of};
 
 use crate::HeadSearch;
