@@ -7,3 +7,4 @@ pub mod LengthLemmas
 pub mod CodingLemmas
 pub mod SpanLemmas
 pub mod LivingLemmas
+pub mod SlotLemmas

@@ -1,6 +1,6 @@
 -- Lines of which some are gone.
 use Rattle.std.proofs.Common.{◌≡◌, ◌≢◌, Option, None, Some, is_some, option_map, ℕ, zero, suc, ◌+◌, ◌*◌, ◌/◌, ◌%◌, ◌^◌, ◌<◌, ◌≤◌, ◌==◌, Bool, true, false, cond, List, [], ◌∷◌, length, refl, sym, ap, ◌∙◌, arith}
-use Rattle.std.proofs.lemmas.Bool.{false≢true, ne_eqb}
+use Rattle.std.proofs.lemmas.Bool.{ne_eqb}
 use Rattle.std.proofs.lemmas.List.{length-map}
 use Rattle.h1_fields.specs.Lines.{Line, is_named, has_line, values_of, first_value, with_line, without}
 use Rattle.h1_fields.proofs.LineLemmas.{has_line_is}
@@ -19,6 +19,12 @@ half n b small = omega arith
 rest : (n b : ℕ) → b < 2 → (2 * n + b) % 2 ≡ b
 rest n b small = omega arith
 
+-- the lowest bit tells of the first line, and the others of those behind it
+living_bit : (n b : ℕ) (line : Line) (lines : List Line) → b < 2
+    → living (2 * n + b) (line ∷ lines)
+    ≡ cond (b == 0) (line ∷ living n lines) (living n lines)
+living_bit n b line lines small = rw (rest n b small, half n b small) refl
+
 pub living-hidden : (name : List ℕ) (gone : ℕ) (lines : List Line)
     → living (hidden name gone lines) lines ≡ without name (living gone lines)
 living-hidden name gone [] = refl
@@ -30,20 +36,14 @@ living-hidden name gone (line ∷ lines) =
         → living (hidden name gone (line ∷ lines)) (line ∷ lines)
         ≡ without name (living gone (line ∷ lines))
     by_tests same true named true there =
-        let behind = hidden name (gone / 2) lines in
-        rw (named, there, rest behind 1 (omega arith), half behind 1 (omega arith)) (rw named same)
+        rw (named, there, living_bit (hidden name (gone / 2) lines) 1 line lines (omega arith)) (rw named same)
     by_tests same true named false there =
-        let behind = hidden name (gone / 2) lines in
-        rw (named, there, rest behind 1 (omega arith), half behind 1 (omega arith)) same
+        rw (named, there, living_bit (hidden name (gone / 2) lines) 1 line lines (omega arith)) same
     by_tests same false named true there =
-        let behind = hidden name (gone / 2) lines in
-        let small : gone % 2 < 2 = omega arith in
-        rw (named, rest behind (gone % 2) small, half behind (gone % 2) small, there)
+        rw (named, living_bit (hidden name (gone / 2) lines) (gone % 2) line lines (omega arith), there)
         (rw named (ap (λ xs. line ∷ xs) same))
     by_tests same false named false there =
-        let behind = hidden name (gone / 2) lines in
-        let small : gone % 2 < 2 = omega arith in
-        rw (named, rest behind (gone % 2) small, half behind (gone % 2) small, there) same
+        rw (named, living_bit (hidden name (gone / 2) lines) (gone % 2) line lines (omega arith), there) same
 
 -- so many bits are enough
 pub hidden_below : (name : List ℕ) (k gone : ℕ) (lines : List Line) → length lines ≤ k

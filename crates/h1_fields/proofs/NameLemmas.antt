@@ -1,5 +1,5 @@
 -- Names that are the same in any case.
-use Rattle.std.proofs.Common.{◌≡◌, ℕ, true, false, List, map, Decides, refl, sym, ◌∙◌}
+use Rattle.std.proofs.Common.{◌≡◌, ℕ, true, false, List, map, bytes_eq, Decides, refl, sym, ap, ◌∙◌}
 use Rattle.std.specs.Char.{to_ascii_lowercase}
 use Rattle.std.proofs.lemmas.Bool.{false_from_ne_true, false≢true}
 use Rattle.std.proofs.lemmas.Slice.Eq.{bytes_eq-Decides}
@@ -10,6 +10,11 @@ pub same_name_decides : (a b : List ℕ)
     → Decides (same_name a b) (map to_ascii_lowercase a ≡ map to_ascii_lowercase b)
 unfolding same_name
 same_name_decides a b = bytes_eq-Decides (map to_ascii_lowercase a) (map to_ascii_lowercase b)
+
+-- equal bytes need no case
+pub same_name_equal : (a b : List ℕ) → bytes_eq a b ≡ true → same_name a b ≡ true
+same_name_equal a b equal =
+    (same_name_decides a b).1 (ap (map to_ascii_lowercase) ((bytes_eq-Decides a b).0 equal))
 
 pub same_name_itself : (name : List ℕ) → same_name name name ≡ true
 same_name_itself name = (same_name_decides name name).1 refl

@@ -63,13 +63,12 @@ first_span name text spans place other within named has gives puts =
     ∙ puts value)
 
 -- a line of the name between two others is gone
-pub removed_here : (name text : List ℕ) (spans after : List Span) (place : ℕ) (span : Span)
-    → place < length spans → span ≡ get_or spans place span
-    → after ≡ take place spans ++ drop (place + 1) spans
-    → is_named name (line_of text span) ≡ true
+pub removed_here : (name text : List ℕ) (spans after : List Span) (place : ℕ) (other : Span)
+    → place < length spans → after ≡ take place spans ++ drop (place + 1) spans
+    → is_named name (line_of text (get_or spans place other)) ≡ true
     → lines_of text (take place after) ++ without name (lines_of text (drop place after))
     ≡ lines_of text (take place spans) ++ without name (lines_of text (drop place spans))
-removed_here name text spans after place span within here is named =
+removed_here name text spans after place other within is named =
     let front = take place spans in
     let rest = drop (place + 1) spans in
     let len : length front ≡ place = length-take-le place spans (omega arith) in
@@ -77,11 +76,11 @@ removed_here name text spans after place span within here is named =
     ap (take place) is ∙ ap (λ n. take n (front ++ rest)) (sym len) ∙ take-append_seam front rest in
     let behind : drop place after ≡ rest =
     ap (drop place) is ∙ ap (λ n. drop n (front ++ rest)) (sym len) ∙ drop-append_seam front rest in
-    let whole : drop place spans ≡ span ∷ rest =
-    drop_more spans place span within ∙ ap (λ first. first ∷ rest) (sym here) in
     ap (λ xs. lines_of text xs ++ without name (lines_of text (drop place after))) before
     ∙ ap (λ xs. lines_of text front ++ without name (lines_of text xs)) behind
-    ∙ sym (ap (λ xs. lines_of text front ++ without name (lines_of text xs)) whole ∙ rw named refl)
+    ∙ sym
+    (ap (λ xs. lines_of text front ++ without name (lines_of text xs))
+    (drop_more spans place other within) ∙ rw named refl)
 
 pub fit_removed : (text : List ℕ) (spans after : List Span) (place : ℕ)
     → after ≡ take place spans ++ drop (place + 1) spans → AllFit text spans → AllFit text after

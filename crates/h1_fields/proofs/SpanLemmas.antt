@@ -1,8 +1,10 @@
 -- The lines of a text that grows.
-use Rattle.std.proofs.Common.{◌≡◌, ℕ, ◌≤◌, ◌-◌, List, [], ◌∷◌, ◌++◌, length, take, drop, refl, sym, ap, ◌∙◌, arith}
-use Rattle.std.proofs.lemmas.List.{take-append-drop, take-append-le, drop-append-le, length-drop, length-append, map-append}
+use Rattle.std.proofs.Common.{◌≡◌, ℕ, ◌≤◌, ◌-◌, List, [], ◌∷◌, ◌++◌, length, take, drop, set, refl, sym, ap, ◌∙◌, arith}
+use Rattle.std.proofs.lemmas.List.{length-set, take-append-drop, take-append-le, drop-append-le, length-drop, length-append, map-append}
 use Rattle.std.proofs.lemmas.List.Elements.{All-head, All-tail, All-rest, All-push, All-weaker}
-use Rattle.std.specs.List.{slice_range}
+use Rattle.std.specs.List.{slice_range, refill}
+use Rattle.smallvec.specs.SmallVec.{SmallVec}
+use Rattle.smallvec.proofs.SmallVecLemmas.{items-with_items}
 use Rattle.h1_fields.specs.declared.span.Span.{Span}
 use Rattle.h1_fields.specs.Spans.{AllFit, Fits, IsPlaceOf, line_of, lines_of}
 
@@ -72,3 +74,12 @@ lines_added old new name value spans after span kept fit place added =
 pub fit_rest : (text : List ℕ) (spans left : List Span) (span : Span) → spans ≡ span ∷ left
     → AllFit text spans → AllFit text left
 fit_rest text spans left span is fit = All-rest (Fits (length text)) span left spans is fit
+
+-- places of which one was written
+pub places_set : (spans : SmallVec Span) (slice : List Span) (place : ℕ) (span : Span)
+    → slice ≡ spans.items
+    → refill (length spans.items) spans.items (set slice place span) ≡ set spans.items place span
+places_set spans slice place span is =
+    items-with_items spans (set slice place span)
+    (length-set slice place span ∙ ap length is)
+    ∙ ap (λ items. set items place span) is

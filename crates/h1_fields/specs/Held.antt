@@ -4,7 +4,7 @@ use Rattle.std.specs.Arc.{arc_value}
 use Rattle.std.specs.Box.{box_value}
 use Rattle.h1_fields.specs.declared.held.Held.{Held}
 use Rattle.h1_fields.specs.declared.held.Held.TheVariants.{Nothing, Shared, Own}
-use Rattle.h1_fields.specs.declared.held.TheConstants.{FLAGS}
+use Rattle.h1_fields.specs.declared.held.TheConstants.{MAX_SHARED_LINES}
 use Rattle.h1_fields.specs.Lines.{Line}
 
 abbrev pub lines_in : Held → List Line
@@ -15,5 +15,5 @@ lines_in (Own block) = box_value block
 -- a line may be gone only from a block of few lines
 abbrev pub AreFlags : ℕ → Held → Type 0
 AreFlags gone Nothing = ⊤
-AreFlags gone (Shared owner) = length (arc_value owner) ≤ FLAGS
+AreFlags gone (Shared owner) = length (arc_value owner) ≤ MAX_SHARED_LINES
 AreFlags gone (Own block) = gone ≡ 0

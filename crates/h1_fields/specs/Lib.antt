@@ -8,3 +8,5 @@ pub mod Held
 pub mod Search
 pub mod Pieces
 pub mod Spans
+pub mod Slots
+pub mod Text

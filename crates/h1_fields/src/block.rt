@@ -1,48 +1,66 @@
 //! A block of field lines: one text, and the places of the lines in it.
-ghost use Rattle.std.specs.Prelude.{◌≡◌, ◌∷◌, ◌++◌, [], length, IfOk, OnOk, OnErr, IsOkUnless};
+ghost use Rattle.std.specs.Prelude.{◌≡◌, false, ◌∷◌, ◌++◌, [], length, IfOk, OnOk, OnErr, IsOkUnless};
 ghost use Rattle.h1_error.specs.Memory.{no_memory};
 ghost use Rattle.h1_fields.specs.Lines.{has_line, without, with_line};
 ghost use Rattle.h1_fields.specs.Spans.{AllFit, lines_of};
 
 use crate::iter::FieldsIter;
-use crate::span::{Span, first_named, remove_named};
+use crate::slots::Slots;
+use crate::span::{FEW_LINES, Places, Span, first_named, remove_named};
+use crate::text::Text;
 use h1_error::Error;
+use smallvec::SmallVec;
 use std::alloc::Global;
 use std::marker::Model;
 
 /// The room for text that is reserved for each line, in bytes.
-const TEXT_PER_LINE: usize = 32;
+const TEXT_PER_LINE: usize = 48;
 
 /// Field lines in order, with one owner or several. A contract sees the list of pairs of name and
 /// value.
 #[derive(Drop)]
 pub(crate) struct Block {
-    text: Vec<u8>,
-    lines: Vec<Span>,
+    text: Text,
+    lines: Places,
+    slots: Slots,
 }
 
 impl Model for Block {
     ghost use Rattle.std.specs.Prelude.{ℕ, List};
-    ghost use Rattle.h1_fields.specs.Spans.{AllFit, lines_of};
+    ghost use Rattle.h1_fields.specs.Spans.{lines_of};
+    ghost use Rattle.h1_fields.specs.Slots.{AreMarked};
 
     ghost Value = { List (List ℕ × List ℕ) };
 
-    ghost view = { λ b. lines_of b.text.items b.lines.items };
+    ghost view = { λ b. lines_of b.text b.lines.items };
 
-    ghost invariant = { λ b. AllFit b.text.items b.lines.items };
+    ghost invariant = { λ b. AreMarked b.text b.lines.items b.slots };
 }
 
 impl Block {
-    /// No lines, with room for that many, and for a first part of their text.
+    /// No lines. Takes no memory.
     #[inline(always)]
+    pub(crate) fn new(alloc: Global) -> Self
+        ensures { result ≡ [] }
+    {
+        Block {
+            text: Text::new(alloc),
+            lines: SmallVec::new(alloc),
+            slots: Slots::none(),
+        }
+    }
+
+    /// No lines, with room for that many, and for a first part of their text.
     pub(crate) fn with_capacity(alloc: Global, lines: usize) -> Result<Self, Error>
         ensures ok { IfOk result (λ block. block ≡ []) }
         ensures err { IsOkUnless result no_memory }
     {
-        Ok(Block {
-            text: Vec::with_capacity(alloc, lines.saturating_mul(TEXT_PER_LINE))?,
-            lines: Vec::with_capacity(alloc, lines)?,
-        })
+        let mut block = Block::new(alloc);
+        if lines > FEW_LINES {
+            block.text.reserve(lines.saturating_mul(TEXT_PER_LINE))?;
+            block.lines.reserve_exact(lines)?;
+        }
+        Ok(block)
     }
 
     /// The lines that are left of an iterator, with room for one more.
@@ -70,7 +88,15 @@ impl Block {
         ensures fit { AllFit result.0.now result.1.now }
         ensures lines { lines_of result.0.now result.1.now ≡ self.now }
     {
-        (&self.text, &self.lines)
+        (self.text.as_slice(), self.lines.as_slice())
+    }
+
+    /// False only where no line has that name.
+    #[inline(always)]
+    pub(crate) fn may_have(&self, name: &[u8]) -> bool
+        ensures { (result ≡ false) → has_line name.now self.now ≡ false }
+    {
+        self.slots.has(name)
     }
 
     /// Adds a line at the end.
@@ -82,31 +108,33 @@ impl Block {
     {
         let span = Span::write(&mut self.text, name, value)?;
         self.lines.push(span)?;
+        self.slots = self.slots.with(name);
         Ok(())
     }
 
     /// Puts the line in the place of the first of that name, and removes later ones of that name;
-    /// at the end where there is none. The text of the lines that go is kept until the drop.
+    /// at the end where there is none. Their text stays until the block is dropped.
     pub(crate) fn insert(&mut self, name: &[u8], value: &[u8]) -> Result<(), Error>
         ensures ok { OnOk result (self.new ≡ with_line name.now value.now self.old) }
         ensures err { IsOkUnless result no_memory }
         ensures same { OnErr result (self.new ≡ self.old) }
     {
-        match first_named(&self.text, &self.lines, name) {
+        match first_named(self.text.as_slice(), self.lines.as_slice(), name) {
             None => self.append(name, value),
             Some(at) => {
                 let span = Span::write(&mut self.text, name, value)?;
-                remove_named(&self.text, &mut self.lines, at + 1, name);
-                self.lines[at] = span;
+                self.slots = self.slots.with(name);
+                remove_named(self.text.as_slice(), &mut self.lines, at + 1, name);
+                self.lines.as_mut_slice()[at] = span;
                 Ok(())
             }
         }
     }
 
-    /// Removes all lines of that name, though not their text.
+    /// Removes all lines of that name. Their text stays until the block is dropped.
     pub(crate) fn remove(&mut self, name: &[u8])
         ensures { self.new ≡ without name.now self.old }
     {
-        remove_named(&self.text, &mut self.lines, 0, name);
+        remove_named(self.text.as_slice(), &mut self.lines, 0, name);
     }
 }

@@ -1,8 +1,8 @@
 //! The field lines of a message (RFC 9110, section 5).
-ghost use Rattle.std.specs.Prelude.{◌≡◌, ◌≤◌, ◌==◌, ◌∷◌, ◌++◌, [], length, option_map, IfOk, OnOk, OnErr, IsOkUnless};
+ghost use Rattle.std.specs.Prelude.{◌≡◌, false, ◌≤◌, ◌==◌, ◌∷◌, ◌++◌, [], length, option_map, IfOk, OnOk, OnErr, IsOkUnless};
 ghost use Rattle.std.specs.Arc.{arc_value};
 ghost use Rattle.h1_error.specs.Memory.{no_memory};
-ghost use Rattle.h1_fields.specs.declared.held.TheConstants.{FLAGS};
+ghost use Rattle.h1_fields.specs.declared.held.TheConstants.{MAX_SHARED_LINES};
 ghost use Rattle.h1_fields.specs.Held.{lines_in};
 ghost use Rattle.h1_fields.specs.Lines.{has_line, values_of, first_value, without, with_line};
 ghost use Rattle.h1_fields.specs.Living.{living};
@@ -10,25 +10,23 @@ ghost use Rattle.h1_fields.specs.Spans.{AllFit, lines_of};
 
 use crate::block::Block;
 use crate::gone::{count_lines, count_values, first_value, hide};
-use crate::held::{FLAGS, Held};
+use crate::held::{Held, MAX_SHARED_LINES};
 use crate::iter::{FieldsIter, ValuesIter};
-use crate::span::Span;
+use crate::span::{FEW_LINES, Span};
 use h1_error::Error;
 use std::alloc::Global;
 use std::fmt;
 use std::marker::Model;
 use std::sync::Arc;
 
-/// How many lines there is room for at first where none was reserved.
-const FIRST_LINES: usize = 4;
-
 /// The field lines of a message, in order, with names in their spelling. A contract sees the list
 /// of pairs of name and value.
 ///
-/// A copy shares its lines with the value that it was made from, up to 64 lines. A change of lines
-/// that are shared first copies them, and a removal only marks them. All names and values stand in
-/// one text. The text of lines that were removed or replaced stays in memory until the last owner
-/// of the lines is dropped, and no call shows it.
+/// A copy is one owner more of the same lines, where there are at most 64 and no room was reserved
+/// for more. An owner that isn't the only one adds and replaces in lines of its own, which it
+/// copies first, and removes by marking lines as gone for itself. All names and values stand in one
+/// text, where those of a line that went stay until the last owner is dropped; no call shows them.
+/// A few short lines take one block of memory. A name is searched only where a line may have it.
 #[derive(Drop)]
 pub struct Fields {
     alloc: Global,
@@ -69,10 +67,9 @@ impl Fields {
         if lines == 0 {
             return Ok(Fields::new(alloc));
         }
-        let block = Block::with_capacity(alloc, lines)?;
         Ok(Fields {
             alloc,
-            held: Held::new(alloc, block)?,
+            held: Held::with_capacity(alloc, lines)?,
             gone: 0,
         })
     }
@@ -101,16 +98,28 @@ impl Fields {
     {
         match &mut self.held {
             Held::Own(block) => return block.append(name, value),
-            Held::Shared(owner) if self.gone == 0 && owner.len() < FLAGS => {
+            Held::Shared(owner) if self.gone == 0 && owner.len() < MAX_SHARED_LINES => {
                 if let Some(block) = Arc::get_mut(owner) {
                     return block.append(name, value);
                 }
             }
             _ => {}
         }
+        self.append_to_copy(name, value)
+    }
+
+    // The same with lines that are copied first.
+    #[cold]
+    #[inline(never)]
+    #[tactic(auto, using(crate::proofs::LivingLemmas::living_all))]
+    fn append_to_copy(&mut self, name: &[u8], value: &[u8]) -> Result<(), Error>
+        ensures ok { OnOk result (self.new ≡ self.old ++ (name.now, value.now) ∷ []) }
+        ensures err { IsOkUnless result no_memory }
+        ensures same { OnErr result (self.new ≡ self.old) }
+    {
         let mut block = self.own_lines()?;
         block.append(name, value)?;
-        self.held = Held::new(self.alloc, block)?;
+        self.held = Held::new(self.alloc, block, 0)?;
         self.gone = 0;
         Ok(())
     }
@@ -125,7 +134,7 @@ impl Fields {
     {
         match &mut self.held {
             Held::Own(block) => return block.insert(name, value),
-            Held::Shared(owner) if self.gone == 0 && owner.len() < FLAGS => {
+            Held::Shared(owner) if self.gone == 0 && owner.len() < MAX_SHARED_LINES => {
                 if let Some(block) = Arc::get_mut(owner) {
                     block.insert(name, value)?;
                     return Ok(());
@@ -133,9 +142,21 @@ impl Fields {
             }
             _ => {}
         }
+        self.insert_to_copy(name, value)
+    }
+
+    // The same with lines that are copied first.
+    #[cold]
+    #[inline(never)]
+    #[tactic(auto, using(crate::proofs::LivingLemmas::living_all))]
+    fn insert_to_copy(&mut self, name: &[u8], value: &[u8]) -> Result<(), Error>
+        ensures ok { OnOk result (self.new ≡ with_line name.now value.now self.old) }
+        ensures err { IsOkUnless result no_memory }
+        ensures same { OnErr result (self.new ≡ self.old) }
+    {
         let mut block = self.own_lines()?;
         block.insert(name, value)?;
-        self.held = Held::new(self.alloc, block)?;
+        self.held = Held::new(self.alloc, block, 0)?;
         self.gone = 0;
         Ok(())
     }
@@ -162,6 +183,7 @@ impl Fields {
     }
 
     /// Whether there is a line of that name.
+    #[inline(always)]
     pub fn contains(&self, name: &[u8]) -> bool
         ensures { result ≡ has_line name.now self.now }
     {
@@ -169,11 +191,34 @@ impl Fields {
     }
 
     /// The value of the first line of that name.
+    #[inline(always)]
     pub fn get(&self, name: &[u8]) -> Option<&[u8]>
+        ensures { option_map (λ value. value.now) result ≡ first_value name.now self.now }
+    {
+        if !self.may_have(name) {
+            return None;
+        }
+        self.get_among(name)
+    }
+
+    // Kept apart, so that the answer for a name that isn't there can be inlined.
+    fn get_among(&self, name: &[u8]) -> Option<&[u8]>
         ensures { option_map (λ value. value.now) result ≡ first_value name.now self.now }
     {
         let (text, spans) = parts_of(&self.held);
         first_value(text, spans, self.gone, name)
+    }
+
+    /// False only where no line has that name.
+    #[inline(always)]
+    pub(crate) fn may_have(&self, name: &[u8]) -> bool
+        ensures { (result ≡ false) → values_of name.now self.now ≡ [] }
+    {
+        match &self.held {
+            Held::Nothing => false,
+            Held::Shared(owner) => owner.may_have(name),
+            Held::Own(block) => block.may_have(name),
+        }
     }
 
     /// How many lines have that name.
@@ -198,11 +243,17 @@ impl Fields {
     pub fn get_all<'a>(&'a self, name: &'a [u8]) -> ValuesIter<'a>
         ensures { result ≡ values_of name.now self.now }
     {
-        let (text, spans) = parts_of(&self.held);
+        let (text, spans) = if self.may_have(name) {
+            parts_of(&self.held)
+        } else {
+            (b"".as_slice(), [].as_slice())
+        };
         ValuesIter::new(name, text, spans, self.gone)
     }
 
-    /// The same lines again. Takes memory only for more than 64 lines.
+    /// The same lines again. Takes memory only where there are more than 64, or room was reserved
+    /// for more.
+    #[inline(always)]
     pub fn copy(&self) -> Result<Self, Error>
         ensures ok { IfOk result (λ copy. copy ≡ self.now) }
         ensures err { IsOkUnless result no_memory }
@@ -220,6 +271,8 @@ impl Fields {
     }
 
     // The same lines in a block with no other owner.
+    #[cold]
+    #[inline(never)]
     #[tactic(auto, using(crate::proofs::LivingLemmas::living_all))]
     fn own_copy(&self) -> Result<Self, Error>
         ensures ok { IfOk result (λ copy. copy ≡ self.now) }
@@ -228,7 +281,7 @@ impl Fields {
         let block = self.own_lines()?;
         Ok(Fields {
             alloc: self.alloc,
-            held: Held::new(self.alloc, block)?,
+            held: Held::new(self.alloc, block, 0)?,
             gone: 0,
         })
     }
@@ -239,18 +292,18 @@ impl Fields {
         ensures err { IsOkUnless result no_memory }
     {
         let lines = parts_of(&self.held).1.len();
-        Block::of_lines(self.alloc, self.iter(), lines.saturating_add(FIRST_LINES))
+        Block::of_lines(self.alloc, self.iter(), lines.saturating_add(FEW_LINES))
     }
 }
 
-/// Removes the lines of that name from this owner of a block: the lines themselves where there is
-/// no other owner. What it returns tells which lines are gone then.
+/// Removes the lines of that name for one owner of a block: the lines themselves where it is the
+/// only one and none is gone, and else it counts them as gone. Returns which lines are gone then.
 #[tactic(auto, using(crate::proofs::LivingLemmas::living_all))]
 fn remove_from(owner: &mut Arc<Block>, gone: u64, name: &[u8]) -> u64
-    requires { length (arc_value owner.old) ≤ FLAGS }
+    requires { length (arc_value owner.old) ≤ MAX_SHARED_LINES }
     ensures lines { living result (arc_value owner.new)
         ≡ without name.now (living gone (arc_value owner.old)) }
-    ensures few { length (arc_value owner.new) ≤ FLAGS }
+    ensures few { length (arc_value owner.new) ≤ MAX_SHARED_LINES }
 {
     match Arc::get_mut(owner) {
         None => {

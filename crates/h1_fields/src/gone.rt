@@ -1,11 +1,11 @@
 //! Which lines of a shared block are gone from one of its owners.
 ghost use Rattle.std.specs.Prelude.{◌≡◌, ◌≤◌, length, option_map};
-ghost use Rattle.h1_fields.specs.declared.held.TheConstants.{FLAGS};
+ghost use Rattle.h1_fields.specs.declared.held.TheConstants.{MAX_SHARED_LINES};
 ghost use Rattle.h1_fields.specs.Lines.{first_value, values_of};
 ghost use Rattle.h1_fields.specs.Living.{hidden, is_shown, living};
 ghost use Rattle.h1_fields.specs.Spans.{AllFit, Fits, line_of, lines_of};
 
-use crate::held::FLAGS;
+use crate::held::MAX_SHARED_LINES;
 use crate::iter::{FieldsIter, ValuesIter};
 use crate::span::Span;
 
@@ -61,7 +61,7 @@ pub(crate) fn count_values(text: &[u8], spans: &[Span], gone: u64, name: &[u8]) 
 /// What tells that the lines of that name are gone too.
 pub(crate) fn hide(text: &[u8], spans: &[Span], gone: u64, name: &[u8]) -> u64
     requires fit { AllFit text.now spans.now }
-    requires few { length spans.now ≤ FLAGS }
+    requires few { length spans.now ≤ MAX_SHARED_LINES }
     ensures { result ≡ hidden name.now gone (lines_of text.now spans.now) }
 {
     let Some((first, more)) = spans.split_first() else {

@@ -105,6 +105,7 @@ impl<'a> Iterator for ValuesIter<'a> {
 
     ghost remaining = { item_count (λ left. left) };
 
+    #[inline]
     fn next(&mut self) -> Option<&'a [u8]> {
         while let Some((first, left)) = self.left.split_first() {
             self.left = left;

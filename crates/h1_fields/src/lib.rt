@@ -15,9 +15,11 @@ mod laws;
 mod lists;
 mod meaning;
 mod name;
+mod slots;
 mod span;
 #[cfg(test)]
 mod tests;
+mod text;
 
 pub use content_length::ContentLength;
 pub use fields::Fields;

@@ -11,7 +11,19 @@ use crate::{ContentLength, Fields};
 
 impl Fields {
     /// The length that the Content-Length lines state together. Takes no memory.
+    #[inline(always)]
     pub fn content_length(&self) -> ContentLength
+        ensures { result ≡ content_length self.now }
+    {
+        if !self.may_have(b"Content-Length") {
+            return ContentLength::Absent;
+        }
+        self.stated_length()
+    }
+
+    // Kept apart, as are `states_chunked_last` and `lists_among`, so that the answer for a name
+    // that isn't there can be inlined.
+    fn stated_length(&self) -> ContentLength
         ensures { result ≡ content_length self.now }
     {
         let mut found = ContentLength::Absent;
@@ -22,6 +34,7 @@ impl Fields {
     }
 
     /// Whether there is a Transfer-Encoding line, perhaps an empty one.
+    #[inline(always)]
     pub fn has_transfer_encoding(&self) -> bool
         ensures { result ≡ has_coding_line self.now }
     {
@@ -29,7 +42,14 @@ impl Fields {
     }
 
     /// Whether the last transfer coding is `chunked`.
+    #[inline(always)]
     pub fn is_chunked_last(&self) -> bool
+        ensures { result ≡ is_chunked_last self.now }
+    {
+        self.may_have(b"Transfer-Encoding") && self.states_chunked_last()
+    }
+
+    fn states_chunked_last(&self) -> bool
         ensures { result ≡ is_chunked_last self.now }
     {
         let mut found = false;
@@ -42,6 +62,7 @@ impl Fields {
     }
 
     /// Whether Connection lists `close`.
+    #[inline(always)]
     pub fn lists_close(&self) -> bool
         ensures { result ≡ lists_close self.now }
     {
@@ -49,6 +70,7 @@ impl Fields {
     }
 
     /// Whether Connection lists `keep-alive`.
+    #[inline(always)]
     pub fn lists_keep_alive(&self) -> bool
         ensures { result ≡ lists_keep_alive self.now }
     {
@@ -56,7 +78,14 @@ impl Fields {
     }
 
     /// Whether the lines of that name list the token, in any case.
+    #[inline(always)]
     pub fn lists_named(&self, name: &[u8], token: &[u8]) -> bool
+        ensures { result ≡ lists_named name.now token.now self.now }
+    {
+        self.may_have(name) && self.lists_among(name, token)
+    }
+
+    fn lists_among(&self, name: &[u8], token: &[u8]) -> bool
         ensures { result ≡ lists_named name.now token.now self.now }
     {
         for part in self.parts(name) {

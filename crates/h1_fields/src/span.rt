@@ -6,10 +6,18 @@ ghost use Rattle.h1_fields.specs.Search.{HasNone, IsFirstAt};
 ghost use Rattle.h1_fields.specs.Spans.{AllFit, Fits, IsPlaceOf, line_of, lines_of};
 
 use crate::name::is_same_name;
+use crate::text::Text;
 use h1_error::Error;
+use smallvec::SmallVec;
+
+/// How many places a block has in itself.
+pub(crate) const FEW_LINES: usize = 3;
+
+/// The places of field lines. Few need no block of memory of their own.
+pub(crate) type Places = SmallVec<Span, FEW_LINES>;
 
 /// The place of one line in a text: its name, and right behind it its value.
-#[derive(Clone, Copy, Debug)]
+#[derive(Clone, Copy, Debug, Default)]
 pub(crate) struct Span {
     start: usize,
     middle: usize,
@@ -19,15 +27,15 @@ pub(crate) struct Span {
 impl Span {
     /// Copies the line to the end of the text. With an error a part of it may be there.
     #[inline(always)]
-    pub(crate) fn write(text: &mut Vec<u8>, name: &[u8], value: &[u8]) -> Result<Span, Error>
-        ensures ok { IfOk result (IsPlaceOf text.new.items name.now value.now) }
+    pub(crate) fn write(text: &mut Text, name: &[u8], value: &[u8]) -> Result<Span, Error>
+        ensures ok { IfOk result (IsPlaceOf text.new name.now value.now) }
         ensures err { IsOkUnless result no_memory }
-        ensures kept { take (length text.old.items) text.new.items ≡ text.old.items }
+        ensures kept { take (length text.old) text.new ≡ text.old }
     {
         let start = text.len();
-        text.extend_from_slice(name)?;
+        text.append(name)?;
         let middle = text.len();
-        text.extend_from_slice(value)?;
+        text.append(value)?;
         let end = text.len();
         Ok(Span { start, middle, end })
     }
@@ -73,7 +81,7 @@ pub(crate) fn first_named(text: &[u8], spans: &[Span], name: &[u8]) -> Option<us
 }
 
 /// Removes the lines of that name from the place `start` on.
-pub(crate) fn remove_named(text: &[u8], spans: &mut Vec<Span>, start: usize, name: &[u8])
+pub(crate) fn remove_named(text: &[u8], spans: &mut Places, start: usize, name: &[u8])
     requires start { start ≤ length spans.old.items }
     requires fit { AllFit text.now spans.old.items }
     ensures lines { lines_of text.now spans.new.items
@@ -84,7 +92,7 @@ pub(crate) fn remove_named(text: &[u8], spans: &mut Vec<Span>, start: usize, nam
 {
     let mut at = start;
     while at < spans.len() {
-        if spans[at].is_named(text, name) {
+        if spans.as_slice()[at].is_named(text, name) {
             spans.remove(at);
         } else {
             at += 1;

@@ -131,6 +131,52 @@ fn connection_options_stand_in_any_line_and_case(rt: HostRuntime) -> Result<(), 
     Ok(())
 }
 
+#[test]
+fn lines_of_any_length_stand_beside_each_other(rt: HostRuntime) -> Result<(), Error> {
+    let text = [b'v'; 130];
+    for len in [0, 1, 30, 31, 62, 63, 64, 129] {
+        for room in [0, 1, 3, 4, 65] {
+            let mut fields = Fields::with_capacity(rt.alloc(), room)?;
+            for n in 0..6u8 {
+                fields.append(&[b'X', b'a' + n], &text[..len + n as usize % 2])?;
+            }
+            for n in 0..6u8 {
+                let value = fields.get(&[b'x', b'A' + n]);
+                assert_eq!(rt;
+                    value,
+                    Some(&text[..len + n as usize % 2]),
+                    "{len} {room} {n}"
+                );
+            }
+            assert_eq!(rt; fields.len(), 6);
+        }
+    }
+    Ok(())
+}
+
+#[test]
+fn a_name_is_found_in_any_case_and_no_other_is_taken_for_it(rt: HostRuntime) -> Result<(), Error> {
+    // X has the slot of Content-Length, and Rev that of Transfer-Encoding.
+    let cases: [(&[u8], &[u8], bool); 7] = [
+        (b"Content-Length", b"CONTENT-LENGTH", true),
+        (b"x-id", b"X-Id", true),
+        (b"X", b"Content-Length", false),
+        (b"Rev", b"Transfer-Encoding", false),
+        (b"Content-Lengths", b"Content-Length", false),
+        (b"", b"", true),
+        (b"", b"Host", false),
+    ];
+    for (name, asked, expected) in cases {
+        let mut fields = Fields::new(rt.alloc());
+        fields.append(name, b"5")?;
+        assert_eq!(rt; fields.contains(asked), expected, "{name:?} {asked:?}");
+        assert_eq!(rt; fields.get_all(asked).count(), expected as usize);
+        assert_eq!(rt; fields.count_named(asked), expected as usize);
+        assert!(rt; !fields.is_chunked_last());
+    }
+    Ok(())
+}
+
 // So many lines, each of a name of its own.
 fn numbered(alloc: Global, count: u8) -> Result<Fields, Error> {
     let mut fields = Fields::new(alloc);

@@ -10,7 +10,7 @@ invariant_of-self-in-Some c =
       short,
       ap length c.in_ok-insert-in-Shared.ensures.ok,
       ap length c.in-Some.ensures.value,
-      c.if-len-lt-FLAGS.true,
+      c.if-len-lt-MAX_SHARED_LINES.true,
       c.len.ensures,
       ap length c.deref.ensures,
     )

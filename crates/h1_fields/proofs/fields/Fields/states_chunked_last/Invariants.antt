@@ -1,6 +1,6 @@
 use Rattle.std.proofs.Common.{◌≡◌}
 use Rattle.h1_fields.specs.Codings.{ends_chunked, without_empty, is_chunked_last}
-use Rattle.h1_fields.proofs.fields.Fields.is_chunked_last.Given as goal
+use Rattle.h1_fields.proofs.fields.Fields.states_chunked_last.Given as goal
 
 abbrev pub invariant-loop-part : goal.invariant-loop-part
 invariant-loop-part l =

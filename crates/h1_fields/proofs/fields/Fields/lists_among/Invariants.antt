@@ -2,7 +2,7 @@ use Rattle.std.proofs.Common.{◌≡◌}
 use Rattle.std.specs.List.{list_any}
 use Rattle.h1_fields.specs.Names.{same_name}
 use Rattle.h1_fields.specs.ListParts.{lists_named}
-use Rattle.h1_fields.proofs.fields.Fields.lists_named.Given as goal
+use Rattle.h1_fields.proofs.fields.Fields.lists_among.Given as goal
 
 abbrev pub invariant-loop-part : goal.invariant-loop-part
 invariant-loop-part l =
