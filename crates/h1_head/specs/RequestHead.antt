@@ -4,6 +4,8 @@ use Rattle.h1_cut.specs.Limit.{CutsAt, HasNoCut}
 use Rattle.h1_error.specs.declared.head_fault.HeadFault.{HeadFault}
 use Rattle.h1_error.specs.declared.head_fault.HeadFault.TheVariants.{NotAHead, TooLong}
 use Rattle.h1_head.specs.declared.limits.TheConstants.{MAX_HEADER_SIZE}
+use Rattle.h1_head.specs.declared.request_head.HeadEnd.{HeadEnd}
+use Rattle.h1_head.specs.declared.request_head.HeadEnd.TheVariants as end
 use Rattle.h1_head.specs.declared.request_head.HeadStep.{HeadStep}
 use Rattle.h1_head.specs.declared.request_head.HeadStep.TheVariants.{Whole, NotYet, Refused}
 use Rattle.h1_head.specs.RequestFault.{first_fault, is_both, settled}
@@ -47,6 +49,12 @@ pub record RefusedAt (bytes : List ℕ) (fault : HeadFault) : Type 0 where
 pub record NotYetAt (bytes : List ℕ) : Type 0 where
   pub uncut : HasNoCut MAX_HEADER_SIZE bytes
   pub short : length bytes ≤ MAX_HEADER_SIZE
+
+-- where the head at the front of the bytes ends
+abbrev pub IsEndIn : List ℕ → HeadEnd → Type 0
+IsEndIn bytes (end.At n) = CutsAt MAX_HEADER_SIZE bytes n
+IsEndIn bytes end.NotYet = NotYetAt bytes
+IsEndIn bytes end.TooLong = HasNoCut MAX_HEADER_SIZE bytes × (MAX_HEADER_SIZE < length bytes)
 
 -- the answer for the bytes that are there
 abbrev pub IsStepOf : List ℕ → HeadStep → Type 0

@@ -1,9 +1,10 @@
 //! The value of a Date field (RFC 9110, section 6.6.1).
-ghost use Rattle.std.specs.Prelude.{◌<◌, ◌/◌};
+ghost use Rattle.std.specs.Prelude.{◌≡◌, ◌<◌, ◌/◌};
 ghost use Rattle.h1_error.specs.declared.moment.TheConstants.{YEAR_10000};
 ghost use Rattle.h1_head.specs.Date.{IsDateAt};
 
 use httpdate::HttpDate;
+use std::marker::Model;
 
 /// The IMF-fixdate of a moment, in milliseconds since 1970, up to the year 9999.
 pub fn get_cached_date(now: u64) -> [u8; 29]
@@ -13,5 +14,63 @@ pub fn get_cached_date(now: u64) -> [u8; 29]
     match HttpDate::from_unix_secs(now / 1000) {
         Ok(date) => date.to_bytes(),
         Err(_) => unreachable!(),
+    }
+}
+
+/// The date of the second that was asked for last, which is printed once for all its requests. A
+/// contract sees that second.
+#[derive(Debug, Drop)]
+pub struct DateCache {
+    second: u64,
+    text: [u8; 29],
+}
+
+impl Model for DateCache {
+    ghost use Rattle.std.specs.Prelude.{ℕ};
+    ghost use Rattle.h1_head.specs.Date.{IsDateAt};
+
+    ghost Value = { ℕ };
+
+    ghost view = { λ cache. cache.second };
+
+    ghost invariant = { λ cache. IsDateAt cache.second cache.text };
+}
+
+impl DateCache {
+    /// The date of the first second of 1970.
+    pub fn new() -> Self
+        ensures { result ≡ 0 }
+    {
+        DateCache {
+            second: 0,
+            text: get_cached_date(0),
+        }
+    }
+
+    /// The IMF-fixdate of a moment, in milliseconds since 1970, up to the year 9999.
+    #[inline(always)]
+    pub fn get(&mut self, now: u64) -> [u8; 29]
+        requires { now < YEAR_10000 }
+        ensures date { IsDateAt (now / 1000) result }
+        ensures second { self.new ≡ now / 1000 }
+    {
+        let text = self.text_of(now);
+        *self = DateCache {
+            second: now / 1000,
+            text,
+        };
+        text
+    }
+
+    #[inline(always)]
+    fn text_of(&self, now: u64) -> [u8; 29]
+        requires { now < YEAR_10000 }
+        ensures { IsDateAt (now / 1000) result }
+    {
+        if self.second == now / 1000 {
+            self.text
+        } else {
+            get_cached_date(now)
+        }
     }
 }

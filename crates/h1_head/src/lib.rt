@@ -14,13 +14,14 @@ mod request_checks;
 mod request_grammar;
 mod request_head;
 mod response;
+mod room;
 mod syntax;
 #[cfg(test)]
 mod tests;
 mod version;
 mod wire;
 
-pub use date::get_cached_date;
+pub use date::{DateCache, get_cached_date};
 pub use h1_authority::{
     RawTargetAuthority, has_ambiguous_port_suffix, is_http_family_scheme, raw_target_authority,
 };
@@ -33,9 +34,14 @@ pub use reading_laws::{
 };
 pub use request::RequestHeader;
 pub use request_checks::validate_request_authority;
-pub use request_head::{HeadStep, RequestHead, read_request_head, search_request_head};
+pub use request_head::{
+    HeadEnd, HeadStep, RequestHead, Verdict, find_head_end, judge_head, read_request_head,
+    search_request_head,
+};
 pub use response::ResponseHeader;
+pub use room::Room;
 pub use version::is_http_1;
 pub use wire::{
-    http_req_header_to_wire, push_response_head, reply_bytes, request_target_has_forbidden_byte,
+    http_req_header_to_wire, print_reply_head, push_response_head,
+    request_target_has_forbidden_byte,
 };

@@ -236,6 +236,7 @@ impl RequestHeader {
     }
 
     /// The same head again.
+    #[inline(always)]
     pub fn copy(&self) -> Result<Self, Error>
         ensures ok { IfOk result (λ copy. copy ≡ self.now) }
         ensures err { IsOkUnless result no_memory }

@@ -5,13 +5,13 @@
 ghost use Rattle.std.specs.Prelude.{IfOk, IsOkUnless};
 ghost use Rattle.h1_cut.specs.Search.{HasLooked};
 ghost use Rattle.h1_error.specs.Memory.{no_memory};
-ghost use Rattle.h1_head.specs.RequestHead.{IsStepOf};
+ghost use Rattle.h1_head.specs.RequestHead.{IsEndIn, IsStepOf};
 ghost use Rattle.h1_head.specs.RequestGrammar.{HasNoHead, IsHead, IsReadAs};
 ghost use Rattle.h1_head.specs.RequestVerdict.{IsVerdictOn};
 
-use crate::RequestHeader;
 use crate::limits::MAX_HEADER_SIZE;
 use crate::request_grammar::parse_head;
+use crate::{RequestHeader, Room};
 use bytes::Bytes;
 use h1_cut::HeadSearch;
 use h1_error::{Error, HeadFault};
@@ -40,6 +40,24 @@ pub enum HeadStep {
     Refused(HeadFault),
 }
 
+/// Where the head at the front of some bytes ends.
+#[derive(Clone, Copy, Debug, PartialEq, Eq)]
+pub enum HeadEnd {
+    /// After so many bytes.
+    At(usize),
+    /// Not in these bytes, and it may still end within the limit.
+    NotYet,
+    /// Not within the limit.
+    TooLong,
+}
+
+/// What becomes of a whole head.
+#[derive(Debug, Drop)]
+pub enum Verdict {
+    Accepted(RequestHead),
+    Refused(HeadFault),
+}
+
 /// Reads the head at the front of the bytes.
 pub fn read_request_head(alloc: Global, bytes: &[u8]) -> Result<HeadStep, Error>
     ensures ok { IfOk result (IsStepOf bytes.now) }
@@ -60,22 +78,39 @@ pub fn search_request_head(
     ensures err { IsOkUnless result no_memory }
     ensures looked { HasLooked MAX_HEADER_SIZE search.new bytes.now }
 {
-    let Some(len) = search.find_within(bytes, MAX_HEADER_SIZE) else {
-        if bytes.len() <= MAX_HEADER_SIZE {
-            return Ok(HeadStep::NotYet);
-        }
-        return Ok(HeadStep::Refused(HeadFault::TooLong));
-    };
-    judge(alloc, &bytes[..len])
+    match find_head_end(search, bytes) {
+        HeadEnd::NotYet => Ok(HeadStep::NotYet),
+        HeadEnd::TooLong => Ok(HeadStep::Refused(HeadFault::TooLong)),
+        HeadEnd::At(len) => match judge_head(alloc, &bytes[..len], &mut Room::new(alloc))? {
+            Verdict::Accepted(head) => Ok(HeadStep::Whole(head, len)),
+            Verdict::Refused(fault) => Ok(HeadStep::Refused(fault)),
+        },
+    }
 }
 
-/// Accepts or refuses a whole head, or else its escape.
+/// Looks for the end of the head at the front of the bytes, which grow from call to call: the
+/// search has looked at a front of them, and goes on from there.
 #[inline(always)]
-fn judge(alloc: Global, head: &[u8]) -> Result<HeadStep, Error>
+pub fn find_head_end(search: &mut HeadSearch, bytes: &[u8]) -> HeadEnd
+    requires { HasLooked MAX_HEADER_SIZE search.old bytes.now }
+    ensures end { IsEndIn bytes.now result }
+    ensures looked { HasLooked MAX_HEADER_SIZE search.new bytes.now }
+{
+    match search.find_within(bytes, MAX_HEADER_SIZE) {
+        Some(len) => HeadEnd::At(len),
+        None if bytes.len() <= MAX_HEADER_SIZE => HeadEnd::NotYet,
+        None => HeadEnd::TooLong,
+    }
+}
+
+/// Accepts or refuses a whole head of a request, or else its escape. The head's bytes are kept in
+/// the room.
+#[inline(always)]
+pub fn judge_head(alloc: Global, head: &[u8], room: &mut Room) -> Result<Verdict, Error>
     ensures ok { IfOk result (IsVerdictOn head.now) }
     ensures err { IsOkUnless result no_memory }
 {
-    let raw = Bytes::copy_from_slice(alloc, head)?;
+    let raw = room.copy(head)?;
     match parse_head(alloc, &raw)? {
         Some(header) => Ok(settle(header, raw, head)),
         None => judge_escape(alloc, head),
@@ -84,32 +119,32 @@ fn judge(alloc: Global, head: &[u8]) -> Result<HeadStep, Error>
 
 /// The same of the escape of a head that isn't one itself.
 #[inline(never)]
-fn judge_escape(alloc: Global, head: &[u8]) -> Result<HeadStep, Error>
+fn judge_escape(alloc: Global, head: &[u8]) -> Result<Verdict, Error>
     requires { HasNoHead head.now }
     ensures ok { IfOk result (IsVerdictOn head.now) }
     ensures err { IsOkUnless result no_memory }
 {
     let Some(escaped) = escape_head(alloc, head)? else {
-        return Ok(HeadStep::Refused(HeadFault::NotAHead));
+        return Ok(Verdict::Refused(HeadFault::NotAHead));
     };
     let raw = Bytes::from_vec(escaped)?;
     match parse_head(alloc, &raw)? {
         Some(header) => Ok(settle(header, raw, head)),
-        None => Ok(HeadStep::Refused(HeadFault::NotAHead)),
+        None => Ok(Verdict::Refused(HeadFault::NotAHead)),
     }
 }
 
 /// Drops Content-Length lines beside Transfer-Encoding, and judges what is left. The header is what
 /// `raw` says, which is read in the place of the head.
 #[inline(always)]
-fn settle(mut header: RequestHeader, raw: Bytes, head: &[u8]) -> HeadStep
+fn settle(mut header: RequestHeader, raw: Bytes, head: &[u8]) -> Verdict
     requires { IsReadAs head.now raw × IsHead raw header }
     ensures { IsVerdictOn head.now result }
 {
     let coded = header.fields().has_transfer_encoding();
     let both = header.settle_length(coded);
     match header.first_fault(coded) {
-        Some(fault) => HeadStep::Refused(fault),
-        None => HeadStep::Whole(RequestHead { header, both, raw }, head.len()),
+        Some(fault) => Verdict::Refused(fault),
+        None => Verdict::Accepted(RequestHead { header, both, raw }),
     }
 }

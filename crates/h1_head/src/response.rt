@@ -232,6 +232,7 @@ impl ResponseHeader {
     }
 
     /// The same head again.
+    #[inline(always)]
     pub fn copy(&self) -> Result<Self, Error>
         ensures ok { IfOk result (λ copy. copy ≡ self.now) }
         ensures err { IsOkUnless result no_memory }

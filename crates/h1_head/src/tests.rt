@@ -1,7 +1,7 @@
 //! Heads by example.
 use crate::{
-    RequestHeader, ResponseHeader, get_cached_date, http_req_header_to_wire, push_response_head,
-    reply_bytes,
+    DateCache, RequestHeader, ResponseHeader, get_cached_date, http_req_header_to_wire,
+    print_reply_head, push_response_head,
 };
 use bytes::BytesMut;
 use h1_error::{Error, ErrorType, HeadFault};
@@ -75,7 +75,8 @@ fn a_reply_gets_date_and_connection(rt: HostRuntime) -> Result<(), Error> {
     let mut head = ResponseHeader::build(rt.alloc(), 200, None)?;
     head.append_header(b"date", b"never")?;
     head.set_content_length(5)?;
-    let bytes = reply_bytes(&head, &date, true)?;
+    let mut bytes = vec![in rt.alloc(); b'!']?;
+    print_reply_head(&head, &date, true, &mut bytes)?;
     assert_eq!(rt;
         bytes.as_slice(),
         b"HTTP/1.1 200 OK\r\nDate: Sun, 06 Nov 1994 08:49:37 GMT\r\nContent-Length: 5\r\n\
@@ -95,6 +96,21 @@ fn a_reply_gets_date_and_connection(rt: HostRuntime) -> Result<(), Error> {
 }
 
 #[test]
+fn a_date_is_kept_for_its_second_alone(rt: HostRuntime) -> Result<(), Error> {
+    let mut cache = DateCache::new();
+    let dates = [
+        (784_111_777_999, b"Sun, 06 Nov 1994 08:49:37 GMT"),
+        (784_111_777_000, b"Sun, 06 Nov 1994 08:49:37 GMT"),
+        (784_111_778_000, b"Sun, 06 Nov 1994 08:49:38 GMT"),
+        (999, b"Thu, 01 Jan 1970 00:00:00 GMT"),
+    ];
+    for (now, date) in dates {
+        assert_eq!(rt; cache.get(now).as_slice(), date.as_slice());
+    }
+    Ok(())
+}
+
+#[test]
 fn date_and_connection_stand_once_in_the_first_places(rt: HostRuntime) -> Result<(), Error> {
     let date = get_cached_date(784_111_777_999);
     let mut head = ResponseHeader::build(rt.alloc(), 404, None)?;
@@ -104,7 +120,8 @@ fn date_and_connection_stand_once_in_the_first_places(rt: HostRuntime) -> Result
     head.append_header(b"date", b"never")?;
     head.append_header(b"Dates", b"2")?;
     head.append_header(b"Date", b"ever")?;
-    let bytes = reply_bytes(&head, &date, false)?;
+    let mut bytes = Vec::new(rt.alloc());
+    print_reply_head(&head, &date, false, &mut bytes)?;
     assert_eq!(rt;
         bytes.as_slice(),
         b"HTTP/1.1 404 Not Found\r\nConnection: close\r\nA: 1\r\n\

@@ -28,17 +28,46 @@ pub fn push_response_head(header: &ResponseHeader, out: &mut Vec<u8>) -> Result<
     Ok(())
 }
 
-/// The bytes of the head of a final reply: with Date, and after it Connection.
-pub fn reply_bytes(header: &ResponseHeader, date: &[u8; 29], keep: bool) -> Result<Vec<u8>, Error>
+/// Puts the bytes of the head of a final reply in place of what `out` holds: with Date, and after it
+/// Connection. With an error `out` is empty. Room that `out` has is used again.
+#[inline(always)]
+pub fn print_reply_head(
+    header: &ResponseHeader,
+    date: &[u8; 29],
+    keep: bool,
+    out: &mut Vec<u8>,
+) -> Result<(), Error>
     requires { IsTrue (is_http_1 header.now.version) }
-    ensures ok { IfOk result
-        (λ bytes. bytes.items ≡ head_bytes (reply_head header.now date.now keep)) }
+    ensures ok { OnOk result
+        (out.new.items ≡ head_bytes (reply_head header.now date.now keep)) }
+    ensures err { IsOkUnless result no_memory }
+    ensures none { OnErr result (out.new.items ≡ []) }
+{
+    out.clear();
+    let printed = push_final_head(out, header, date, keep);
+    if printed.is_err() {
+        out.clear();
+    }
+    printed
+}
+
+/// Appends the head of a final reply, with Date and Connection.
+#[inline(always)]
+fn push_final_head(
+    out: &mut Vec<u8>,
+    header: &ResponseHeader,
+    date: &[u8; 29],
+    keep: bool,
+) -> Result<(), Error>
+    requires { IsTrue (is_http_1 header.now.version) }
+    ensures ok { OnOk result (out.new.items
+        ≡ out.old.items ++ head_bytes (reply_head header.now date.now keep)) }
     ensures err { IsOkUnless result no_memory }
 {
-    let mut out = Vec::with_capacity(header.allocator(), REPLY_ROOM)?;
-    push_status_line(&mut out, header)?;
-    push_reply_lines(&mut out, header.fields(), date, keep)?;
-    Ok(out)
+    out.reserve(REPLY_ROOM)?;
+    push_status_line(out, header)?;
+    push_reply_lines(out, header.fields(), date, keep)?;
+    Ok(())
 }
 
 /// The option of Connection that says whether the connection is kept.
@@ -62,6 +91,7 @@ fn response_bytes(header: &ResponseHeader) -> Result<Vec<u8>, Error>
 }
 
 /// Appends version, status code and phrase.
+#[inline(always)]
 fn push_status_line(out: &mut Vec<u8>, header: &ResponseHeader) -> Result<(), Error>
     requires { IsTrue (is_http_1 header.now.version) }
     ensures ok { OnOk result (out.new.items ≡ out.old.items ++ print_status_line header.now) }
@@ -121,6 +151,7 @@ pub(crate) fn push_lines(out: &mut Vec<u8>, fields: &Fields) -> Result<(), Error
 
 /// Appends the lines of a reply, with Date and Connection in the places of the first lines of these
 /// names and without later ones, or at the end, and an empty line.
+#[inline(always)]
 fn push_reply_lines(
     out: &mut Vec<u8>,
     fields: &Fields,
@@ -150,6 +181,7 @@ fn push_reply_lines(
 }
 
 /// Appends Date and Connection, as far as they aren't written yet, and an empty line.
+#[inline(always)]
 fn push_end(
     out: &mut Vec<u8>,
     dated: bool,
@@ -200,6 +232,7 @@ fn push_once(out: &mut Vec<u8>, written: bool, name: &[u8], value: &[u8]) -> Res
 }
 
 /// Appends one line.
+#[inline(always)]
 fn push_line(out: &mut Vec<u8>, name: &[u8], value: &[u8]) -> Result<(), Error>
     ensures ok { OnOk result (out.new.items ≡ out.old.items ++ print_line (name.now, value.now)) }
     ensures err { IsOkUnless result no_memory }
