@@ -1,5 +1,5 @@
 -- The bytes that are left of a row of pieces, and the digits of a size.
-use Rattle.std.proofs.Common.{◌≡◌, ℕ, ◌+◌, ◌-◌, ◌/◌, ◌%◌, ◌<◌, ◌≤◌, ◌^◌, List, [], ◌∷◌, ◌++◌, length, take, drop, set, map, min, Some, ◌⊎◌, inl, inr, refl, sym, ap, ◌∙◌, append_assoc, arith}
+use Rattle.std.proofs.Common.{◌≡◌, ℕ, ◌+◌, ◌-◌, ◌/◌, ◌%◌, ◌<◌, ◌≤◌, ◌^◌, List, [], ◌∷◌, ◌++◌, length, take, drop, set, map, min, Some, ◌⊎◌, inl, inr, refl, sym, ap, ◌∙◌, append_assoc, arith, length-drop}
 use Rattle.std.proofs.lemmas.List.{map-append, drop-set, take_all}
 use Rattle.std.specs.Int.Digits.{digits_of}
 use Rattle.std.proofs.lemmas.Int.Digits.{digits_of_step, length-digits_of_step, length-digits_of-le}
@@ -12,9 +12,10 @@ use Rattle.h1_body.specs.Written.{size_digits, upper_digit}
 -- what is left of three pieces
 pub drop_pieces : (a b c : List ℕ) (n i j k : ℕ) → i ≡ min n (length a) → j ≡ min (n - i) (length b)
     → k ≡ n - i - j
-    → drop i a ++ drop j b ++ drop k c ≡ drop n (a ++ b ++ c)
+    → drop i a ++ drop j b ++ take (length c - k) (drop k c) ≡ drop n (a ++ b ++ c)
 drop_pieces a b c n i j k first second third =
     rw (
+      take_all (length c - k) (drop k c) (omega (arith, length-drop k c)),
       append_assoc a b c,
       append_assoc (drop i a) (drop j b) (drop k c),
       drop-append_min a (b ++ c) n,

@@ -1,5 +1,5 @@
 //! Bytes of a body that are kept.
-ghost use Rattle.std.specs.Prelude.{◌≡◌, ◌==◌, ◌++◌, [], length, nat_eq, OnOk, IfOk, IfErr};
+ghost use Rattle.std.specs.Prelude.{◌≡◌, ◌==◌, ◌++◌, [], length, take, nat_eq, OnOk, IfOk, IfErr};
 ghost use Rattle.h1_error.specs.Memory.{no_memory};
 ghost use Rattle.std.specs.Cmp.Lexicographic.{pointwise, nat_list_eq_equiv};
 ghost use Rattle.std.specs.Cmp.{partial_equiv_from_equiv};
@@ -116,6 +116,35 @@ impl BodyBytes {
                 self.held = Held::Own(own);
                 Ok(())
             }
+        }
+    }
+
+    /// Adds a piece at the end. Where there are no bytes yet the piece is held and not copied.
+    pub fn append_piece(&mut self, piece: Bytes) -> Result<(), Error>
+        ensures ok { OnOk result (self.new ≡ self.old ++ piece) }
+        ensures err { IfErr result (λ error. (error ≡ no_memory) × (self.new ≡ self.old)) }
+    {
+        if self.is_empty() {
+            *self = BodyBytes::from_shared(self.allocator(), piece);
+            return Ok(());
+        }
+        self.append(piece.as_slice())
+    }
+
+    fn allocator(&self) -> Global {
+        match &self.held {
+            Held::Own(own) => *own.allocator(),
+            Held::Shared(alloc, _) => *alloc,
+        }
+    }
+
+    /// Drops the bytes behind the first `len`.
+    pub fn truncate(&mut self, len: usize)
+        ensures { self.new ≡ take len self.old }
+    {
+        match &mut self.held {
+            Held::Own(own) => own.truncate(len),
+            Held::Shared(_, shared) => shared.truncate(len),
         }
     }
 

@@ -26,6 +26,7 @@ pub fn framing_of(head: &RequestHeader) -> Framing
 
 /// How the body of the reply to a request of this method ends: at once for HEAD and for a status
 /// that has none, by chunks, by its length, or where the link does.
+#[inline(always)]
 pub fn reply_framing(method: &Method, head: &ResponseHeader) -> Framing
     ensures { result ≡ out method.now head.now }
 {

@@ -12,7 +12,6 @@ use crate::chunking::{Chunking, state_of, step};
 use crate::{BodyBytes, Fed, FeedState, Framing, Taken};
 use bytes::{Bytes, BytesMut};
 use h1_error::Error;
-use std::alloc::Global;
 
 /// Reads the payload out of the bytes of one body.
 #[derive(Clone, Copy, Debug, PartialEq, Eq)]
@@ -59,6 +58,7 @@ impl BodyReader {
     }
 
     /// Takes the bytes of a piece through the end of the first run of payload in it.
+    #[inline(always)]
     pub fn feed(&mut self, piece: &[u8]) -> Fed
         ensures feeds { Feeds (reads self.old) (reads self.new) piece.now result }
         ensures closes { closes_with_link self.new ≡ closes_with_link self.old }
@@ -98,6 +98,7 @@ impl BodyReader {
     /// Takes the first run of payload out of the front of received bytes, with the bytes of the
     /// body before it. No byte is copied: the payload keeps the block alive that it was received
     /// in.
+    #[inline(always)]
     pub fn take(&mut self, buf: &mut BytesMut) -> Result<Taken, Error>
         ensures ok { IfOk result
             (λ taken. Takes self.old self.new buf.old.items buf.new.items taken) }
@@ -115,14 +116,9 @@ impl BodyReader {
         })
     }
 
-    /// Takes as `take` does, and adds the payload to what is kept. Payload behind what is kept
-    /// already is copied.
-    pub fn take_into(
-        &mut self,
-        alloc: Global,
-        buf: &mut BytesMut,
-        kept: &mut BodyBytes,
-    ) -> Result<Taken, Error>
+    /// Takes as `take` does, and adds a copy of the payload to what is kept.
+    #[inline(always)]
+    pub fn take_into(&mut self, buf: &mut BytesMut, kept: &mut BodyBytes) -> Result<Taken, Error>
         ensures ok { IfOk result
             (λ taken. Takes self.old self.new buf.old.items buf.new.items taken
             × (kept.new ≡ kept.old ++ payload_bytes taken.payload)) }
@@ -132,7 +128,7 @@ impl BodyReader {
     {
         let mut after = *self;
         let fed = after.feed(buf.as_slice());
-        let payload = keep(alloc, buf, fed.payload.start, fed.payload.end, kept)?;
+        let payload = keep(buf, fed.payload.start, fed.payload.end, kept)?;
         *self = after;
         Ok(Taken {
             payload,
@@ -156,6 +152,7 @@ impl BodyReader {
 }
 
 /// Takes the bytes through this end out of the buffer, and hands out those from the start on.
+#[inline(always)]
 fn cut(buf: &mut BytesMut, start: usize, end: usize) -> Result<Option<Bytes>, Error>
     requires ordered { start ≤ end }
     requires within { end ≤ length buf.old.items }
@@ -172,10 +169,9 @@ fn cut(buf: &mut BytesMut, start: usize, end: usize) -> Result<Option<Bytes>, Er
     Ok(Some(piece))
 }
 
-/// Cuts, and adds what is handed out to what is kept. All that may fail stands before the first
-/// change, and an empty store takes a block of its own, which is put in place last.
+/// Cuts, and adds a copy of what is handed out to what is kept.
+#[inline(always)]
 fn keep(
-    alloc: Global,
     buf: &mut BytesMut,
     start: usize,
     end: usize,
@@ -189,21 +185,13 @@ fn keep(
     ensures err { IfErr result (λ error. (error ≡ no_memory) × (buf.new ≡ buf.old)
         × (kept.new ≡ kept.old)) }
 {
-    if start == end {
-        buf.advance(end);
-        return Ok(None);
+    let len = kept.len();
+    kept.append(&buf.as_slice()[start..end])?;
+    let piece = cut(buf, start, end);
+    if piece.is_err() {
+        kept.truncate(len);
     }
-    let payload = &buf.as_slice()[start..end];
-    if kept.is_empty() {
-        let first = BodyBytes::from_slice(alloc, payload)?;
-        let piece = cut(buf, start, end)?;
-        *kept = first;
-        return Ok(piece);
-    }
-    let piece = Bytes::copy_from_slice(alloc, payload)?;
-    kept.append(payload)?;
-    buf.advance(end);
-    Ok(Some(piece))
+    piece
 }
 
 fn feed_counted(left: u64, piece: &[u8]) -> (u64, Fed)

@@ -198,7 +198,7 @@ fn all_payload_that_is_taken_is_kept(rt: HostRuntime) -> Result<(), Fail> {
         (None, b"abcde", FeedState::Done),
     ];
     for (piece, all, state) in expected {
-        let taken = reader.take_into(rt.alloc(), &mut buf, &mut kept)?;
+        let taken = reader.take_into(&mut buf, &mut kept)?;
         assert_eq!(rt; bytes_of(&taken.payload), piece);
         assert_eq!(rt; kept.as_slice(), all);
         assert_eq!(rt; taken.state, state);

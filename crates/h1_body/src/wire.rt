@@ -12,7 +12,7 @@ use std::marker::Model;
 pub struct Wire {
     size_line: SizeLine,
     payload: Bytes,
-    tail: Bytes,
+    tail: &'static [u8],
 }
 
 impl Model for Wire {
@@ -20,9 +20,9 @@ impl Model for Wire {
 
     ghost Value = { List ℕ };
 
-    ghost view = { λ wire. wire.size_line ++ wire.payload ++ wire.tail };
+    ghost view = { λ wire. wire.size_line ++ wire.payload ++ wire.tail.now };
 
-    ghost invariant = { λ wire. length wire.tail ≤ 2 };
+    ghost invariant = { λ wire. length wire.tail.now ≤ 2 };
 }
 
 impl Wire {
@@ -40,7 +40,7 @@ impl Wire {
         Wire {
             size_line: SizeLine::empty(),
             payload,
-            tail: Bytes::new(),
+            tail: b"",
         }
     }
 
@@ -54,7 +54,7 @@ impl Wire {
         Wire {
             size_line: SizeLine::of(payload.len() as u64),
             payload,
-            tail: Bytes::from_static(b"\r\n"),
+            tail: b"\r\n",
         }
     }
 
@@ -89,7 +89,7 @@ impl Wire {
         } else if !self.payload.is_empty() {
             self.payload.as_slice()
         } else {
-            self.tail.as_slice()
+            self.tail
         }
     }
 
@@ -103,6 +103,6 @@ impl Wire {
         let count = count - lines;
         let payload = count.min(self.payload.len());
         self.payload.advance(payload);
-        self.tail.advance(count - payload);
+        self.tail = &self.tail[count - payload..];
     }
 }
