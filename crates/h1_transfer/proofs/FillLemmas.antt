@@ -1,6 +1,6 @@
 -- Lemmas on a read into the room behind the received bytes.
-use Rattle.std.proofs.Common.{◌≡◌, ℕ, ◌+◌, ◌-◌, ◌≤◌, List, [], ◌++◌, length, take, drop, sym, ap, ◌∙◌, append_assoc, arith}
-use Rattle.std.proofs.lemmas.List.{length-take-le, take-append-le, take-take}
+use Rattle.std.proofs.Common.{◌≡◌, ℕ, ◌+◌, ◌-◌, ◌≤◌, List, [], ◌++◌, length, take, drop, refl, ap, ◌∙◌, append_assoc, arith}
+use Rattle.std.proofs.lemmas.List.{take-append-le, take-take}
 use borrow.Rule.Slice.PartMut.{put_mid, post_of}
 use Rattle.bytes.proofs.Ranges.{take-append_past}
 use Rattle.h1_transfer.specs.Words.{LinkState, Filled}
@@ -12,14 +12,11 @@ read_behind : (old room got rest : List ℕ) (k n : ℕ) → take (length old) r
     → take (length old + n) (take (length room) (put_mid (length old) k room got ++ rest))
     ≡ old ++ take n got
 read_behind old room got rest k n front few fits =
-    let behind = post_of (length old) k room ++ rest in
-    let long = length-take-le (length old) room (omega arith) in
+    let behind = post_of (length old) k room in
     take-take (length old + n) (length room) _ fits
-    ∙ ap (take (length old + n)) (append_assoc (take (length old) room) (got ++ post_of (length old) k room) rest)
-    ∙ take-append_past (take (length old) room) _ n (length old + n) (omega (arith, long))
-    ∙ ap (λ l. take (length old) room ++ take n l) (append_assoc got (post_of (length old) k room) rest)
-    ∙ ap (λ l. take (length old) room ++ l) (take-append-le n got behind few)
-    ∙ ap (λ l. l ++ take n got) front
+    ∙ rw (front, append_assoc old (got ++ behind) rest, append_assoc got behind rest)
+    (take-append_past old _ n (length old + n) refl
+    ∙ ap (λ bytes. old ++ bytes) (take-append-le n got (behind ++ rest) few))
 
 -- so where the room behind the received bytes was lent
 pub room_filled : (old room all got : List ℕ) (len n more : ℕ) → len ≡ length old → all ≡ room

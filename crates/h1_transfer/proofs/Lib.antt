@@ -4,7 +4,5 @@ pub mod FillLemmas
 pub mod TakeLemmas
 pub mod BodyLemmas
 pub mod OptionLemmas
-pub mod DeliveryLemmas
 pub mod WriteLemmas
-pub mod PayloadLemmas
 pub mod Words

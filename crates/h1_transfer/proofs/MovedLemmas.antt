@@ -52,9 +52,9 @@ sent_itself s owed budget = record {
   unread = refl;
 }
 
-pub sent_on : (a b c : LinkState) (x y z : List ℕ) (budget between left : ℕ)
+pub sent_on : {a b c : LinkState} {x y z : List ℕ} {budget between left : ℕ}
     → Sent a b x y budget between → Sent b c y z between left → Sent a c x z budget left
-sent_on a b c x y z budget between left first second = record {
+sent_on {z = z} {budget = budget} {between = between} {left = left} first second = record {
   piece = first.piece ++ second.piece;
   moved = let spent : budget - left ≡ (budget - between) + (between - left) = omega arith in
       rw spent (moved_on _ _ _ [] [] _ _ _ _ first.moved second.moved);
@@ -126,34 +126,54 @@ received_itself s bytes budget = record {
   flushed = refl;
 }
 
--- one read more, which takes its cost from the budget
+-- one read after another
+pub received_on : {a b c : LinkState} {x y z : List ℕ} {budget between left : ℕ}
+    → Received a b x y budget between → Received b c y z between left → Received a c x z budget left
+received_on {x = x} {budget = budget} {between = between} {left = left} first second = record {
+  piece = first.piece ++ second.piece;
+  moved = let spent : budget - left ≡ (budget - between) + (between - left) = omega arith in
+      rw spent (moved_on _ _ _ _ _ [] [] _ _ first.moved second.moved);
+  bytes = second.bytes ∙ ap (λ front. front ++ second.piece) first.bytes ∙ append_assoc x first.piece second.piece;
+  within = omega arith;
+  flushed = second.flushed ∙ first.flushed;
+}
+
+-- what comes behind some bytes comes behind more
+pub received_behind : (front : List ℕ) {a b : LinkState} {x y : List ℕ} {budget left : ℕ}
+    → Received a b x y budget left → Received a b (front ++ x) (front ++ y) budget left
+received_behind front {x = x} read = record {
+  piece = read.piece;
+  moved = read.moved;
+  bytes = ap (λ bytes. front ++ bytes) read.bytes ∙ sym (append_assoc front x read.piece);
+  within = read.within;
+  flushed = read.flushed;
+}
+
+-- one read of the link takes its cost from the budget
+pub received_filled : {a b : LinkState} {x y : List ℕ} {budget left : ℕ} {filled : Filled}
+    → FillsBy a b x y filled → cost filled + left ≡ budget → Received a b x y budget left
+received_filled {budget = budget} {left = left} {filled = filled} fills spends = record {
+  piece = fills.piece;
+  moved = let spent : budget - left ≡ cost filled = omega arith in rw spent fills.moved;
+  bytes = fills.bytes;
+  within = omega arith;
+  flushed = fills.flushed;
+}
+
+-- one read more
 pub received_fills : (a b c : LinkState) (x y z : List ℕ) (budget left : ℕ) (filled : Filled)
     → Received a b x y budget left → FillsBy b c y z filled → cost filled ≤ left
     → Received a c x z budget (left - cost filled)
-received_fills a b c x y z budget left filled before fills spend = record {
-  piece = before.piece ++ fills.piece;
-  moved = let spent : budget - (left - cost filled) ≡ (budget - left) + cost filled = omega (arith, before.within) in
-      rw spent (moved_on a b c before.piece fills.piece [] [] (budget - left) (cost filled) before.moved fills.moved);
-  bytes = fills.bytes ∙ ap (λ bytes. bytes ++ fills.piece) before.bytes ∙ append_assoc x before.piece fills.piece;
-  within = omega (arith, before.within);
-  flushed = fills.flushed ∙ before.flushed;
-}
+received_fills a b c x y z budget left filled before fills spend =
+    received_on before (received_filled fills (omega arith))
 
--- a read that costs nothing
-pub received_free : (a b c : LinkState) (x y z : List ℕ) (budget left : ℕ) (filled : Filled)
-    → cost filled ≡ 0 → Received a b x y budget left → FillsBy b c y z filled → Received a c x z budget left
-received_free a b c x y z budget left filled free before fills =
-    let spend : cost filled ≤ left = omega arith in
-    let same : left - cost filled ≡ left = omega arith in
-    rw same at (received_fills a b c x y z budget left filled before fills spend)
-
--- the same of a read of a head, of which no read was pending before
+-- one read more that costs nothing, of a head, of which no read was pending before
 pub receives_free : (lacks : List ℕ → Type 0) (a b c : LinkState) (x y z : List ℕ) (budget left : ℕ)
     (filled : Filled) → cost filled ≡ 0 → Received a b x y budget left
     → b.read_waits ≡ a.read_waits → (left < budget → lacks x) → FillsBy b c y z filled
     → ReceivesHead lacks a c x z budget left
 receives_free lacks a b c x y z budget left filled free before calm parsed fills = record {
-  received = received_free a b c x y z budget left filled free before fills;
+  received = received_on before (received_filled fills (omega arith));
   parsed = parsed;
   few = omega (arith, calm, fills.few);
 }

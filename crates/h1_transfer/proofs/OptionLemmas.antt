@@ -20,10 +20,3 @@ if_some (Some y) P x is holds = let same : x ≡ y = cc in subst P same holds
 pub if_none_on : {A : Type 0} (o : Option A) (P Q : Type 0) → (P → Q) → IfNone o P → IfNone o Q
 if_none_on None P Q on holds = on holds
 if_none_on (Some x) P Q on holds = tt
-
--- nothing is asked of what is not there
-pub if_some_not : {A : Type 0} (o : Option A) (P : A → Type 0) → o ≡ None → IfSome o P
-if_some_not None P none = tt
-if_some_not (Some x) P none = absurd (never none) where
-  never : Some x ≡ None → ⊥
-  never same = cc

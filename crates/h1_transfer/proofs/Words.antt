@@ -1,7 +1,6 @@
 -- The names of this crate's specs that its proofs speak in.
-pub use Rattle.h1_transfer.specs.Budget.{allowance}
 pub use Rattle.h1_transfer.specs.Calls.{Called, no_fault}
-pub use Rattle.h1_transfer.specs.Decoding.{BodyCause, IsUnfinished, ReadsBody, payload_of}
+pub use Rattle.h1_transfer.specs.Decoding.{IsUnfinished, ReadsBody, payload_of}
 pub use Rattle.h1_transfer.specs.Moved.{Received, Sent}
 pub use Rattle.h1_transfer.specs.PieceWrites.{PieceAnswer}
 pub use Rattle.h1_transfer.specs.Receiving.{FillsBy, cost}

@@ -1,45 +1,66 @@
 -- What a read of a body answers, and what is noted of it (RFC 9112, sections 6 and 8).
-use Rattle.std.specs.Prelude.{◌≡◌, ℕ, List, true, false, Option, Some, None, option_map, Result, Ok, Err}
-use Rattle.h1_transfer.specs.Words.{Poll, Ready, Pending, Error, ErrorType, BodyState, BodyRead, BodyStop}
+use Rattle.std.specs.Prelude.{◌≡◌, ℕ, ◌<◌, ◌⊎◌, List, [], length, Bool, true, false, Option, Some, None, option_map, Result, Ok, Err}
+use Rattle.h1_transfer.specs.Words.{Poll, Ready, Pending, Error, ErrorType, LinkState, Rose, whole, broken, reads, BodyReader, BodyState}
 use Rattle.h1_error.specs.declared.error.ErrorType.TheVariants as kind
-use Rattle.h1_transfer.specs.declared.reading_body.BodyRead.TheVariants as b
-use Rattle.h1_transfer.specs.declared.reading_body.BodyStop.TheVariants as s
+use Rattle.h1_transfer.specs.BodyErrors.{SaysOfBody}
+use Rattle.h1_transfer.specs.Decoding.{Lacks}
 
 -- the error of this kind, which isn't for a retry
 abbrev pub error_of : ErrorType → Error
 error_of kind = record { kind = kind; retry = false }
 
--- the body is refused for good
-abbrev pub RefusesBody : {T : Type 0} → BodyState → BodyState → ErrorType → Poll (Result T Error)
-    → Type 0
-RefusesBody old new kind result =
-    (new ≡ record old { refused = Some (error_of kind) }) × (result ≡ Ready (Err (error_of kind)))
+-- when each refusal of the body comes
+abbrev pub RefusesBody : LinkState → LinkState → BodyReader → List ℕ → ErrorType → Type 0
+RefusesBody before now reader received kind = SaysOfBody (reads reader [] ≡ broken [])
+    ((now.ended ≡ true) × Lacks reader received)
+    (Rose before.read_faults now.read_faults × Lacks reader received) kind
 
--- what a read of a part of the body answers that stopped
-abbrev pub IsPartStopped : BodyState → BodyState → BodyStop
+-- every refusal but out of memory is answered again
+abbrev pub refused_for_good : Error → Option Error
+refused_for_good error = kept_refusal error error.kind where
+  kept_refusal : Error → ErrorType → Option Error
+  kept_refusal error kind.NoMemory = None
+  kept_refusal error _ = Some error
+
+-- What each later read of the body answers after a refusal: this again. After out of memory that is
+-- so only where a caller keeps the payload, for whom the body has failed.
+abbrev pub refused_behind : Option (List ℕ) → Error → Option Error
+refused_behind kept error = by_kind error.kind where
+  by_kind : ErrorType → Option Error
+  by_kind kind.NoMemory = option_map (λ _. error) kept
+  by_kind _ = Some error
+
+-- no read of the link was pending
+pub record IsReadAtOnce (before now : LinkState) (was : Bool) (new : BodyState) : Type 0 where
+  pub waits : new.waits ≡ was
+  pub link_waits : now.read_waits ≡ before.read_waits
+
+-- when each answer of a read of a part comes; a read that was pending is noted
+abbrev pub PartAnswer : LinkState → LinkState → Bool → BodyState → List ℕ → List ℕ → ℕ
     → Poll (Result (Option (List ℕ)) Error) → Type 0
-IsPartStopped old new s.Done result = (new ≡ old) × (result ≡ Ready (Ok None))
-IsPartStopped old new s.Broken result = RefusesBody old new kind.InvalidBody result
-IsPartStopped old new s.Cut result = RefusesBody old new kind.ConnectionClosed result
-IsPartStopped old new s.NotReady result = (new ≡ record old { waits = true }) × (result ≡ Pending)
-IsPartStopped old new s.Spent result = (new ≡ record old { waits = true }) × (result ≡ Pending)
-IsPartStopped old new s.Failed result = RefusesBody old new kind.ReadError result
-IsPartStopped old new s.NoMemory result =
-    (new ≡ record old { refused = option_map (λ _. error_of kind.NoMemory) old.kept })
-    × (result ≡ Ready (Err (error_of kind.NoMemory)))
+PartAnswer before now was new received payload left (Ready (Ok (Some piece))) =
+    (payload ≡ piece) × (0 < length payload) × (new.refused ≡ None)
+    × IsReadAtOnce before now was new
+PartAnswer before now was new received payload left (Ready (Ok None)) =
+    (payload ≡ []) × (reads new.reader [] ≡ whole [] 0) × (new.refused ≡ None)
+    × IsReadAtOnce before now was new
+PartAnswer before now was new received payload left (Ready (Err error)) =
+    (payload ≡ []) × (new.refused ≡ refused_behind new.kept error)
+    × RefusesBody before now new.reader received error.kind × IsReadAtOnce before now was new
+    × (error.retry ≡ false)
+PartAnswer before now was new received payload left Pending =
+    (payload ≡ []) × Lacks new.reader received × (new.refused ≡ None) × (new.waits ≡ true)
+    × (Rose before.read_waits now.read_waits ⊎ (left ≡ 0))
 
--- what a read of a part of the body answers
-abbrev pub IsPartOf : BodyState → BodyState → BodyRead → Poll (Result (Option (List ℕ)) Error)
-    → Type 0
-IsPartOf old new (b.Piece bytes) result = (new ≡ old) × (result ≡ Ready (Ok (Some bytes)))
-IsPartOf old new (b.Stopped stop) result = IsPartStopped old new stop result
-
--- what a read of the rest of the body answers
-abbrev pub IsRestOf : BodyState → BodyState → BodyStop → Poll (Result (Unit {0}) Error) → Type 0
-IsRestOf old new s.Done result = (new ≡ old) × (result ≡ Ready (Ok tt))
-IsRestOf old new s.Broken result = RefusesBody old new kind.InvalidBody result
-IsRestOf old new s.Cut result = RefusesBody old new kind.ConnectionClosed result
-IsRestOf old new s.NotReady result = (new ≡ old) × (result ≡ Pending)
-IsRestOf old new s.Spent result = (new ≡ old) × (result ≡ Pending)
-IsRestOf old new s.Failed result = RefusesBody old new kind.ReadError result
-IsRestOf old new s.NoMemory result = (new ≡ old) × (result ≡ Ready (Err (error_of kind.NoMemory)))
+-- when each answer of a read of the rest comes
+abbrev pub RestAnswer : LinkState → LinkState → BodyState → List ℕ → ℕ
+    → Poll (Result (Unit {0}) Error) → Type 0
+RestAnswer before now new received left (Ready (Ok done)) =
+    (reads new.reader [] ≡ whole [] 0) × (new.refused ≡ None)
+    × (now.read_waits ≡ before.read_waits)
+RestAnswer before now new received left (Ready (Err error)) =
+    (new.refused ≡ refused_for_good error) × RefusesBody before now new.reader received error.kind
+    × (error.retry ≡ false)
+RestAnswer before now new received left Pending =
+    Lacks new.reader received × (new.refused ≡ None)
+    × (Rose before.read_waits now.read_waits ⊎ (left ≡ 0))

@@ -1,7 +1,7 @@
 -- Reading a part of a body (RFC 9112, sections 6 and 8).
-use Rattle.std.specs.Prelude.{◌≡◌, ℕ, ◌-◌, ◌≤◌, ◌<◌, List, [], ◌++◌, length, true, Option, option_map}
+use Rattle.std.specs.Prelude.{◌≡◌, ℕ, ◌<◌, List, [], ◌++◌, length, true, Option, option_map}
 use Rattle.h1_transfer.specs.Words.{LinkState, Rose, Body, whole, unfinished, broken, ahead, reads, BodyReader, BodyRead, BodyStop}
-use Rattle.h1_transfer.specs.Moved.{Moved}
+use Rattle.h1_transfer.specs.Moved.{Received}
 use Rattle.h1_transfer.specs.declared.reading_body.BodyRead.TheVariants as b
 use Rattle.h1_transfer.specs.declared.reading_body.BodyStop.TheVariants as s
 
@@ -43,16 +43,12 @@ BodyCause before now reader received left (b.Piece bytes) =
 BodyCause before now reader received left (b.Stopped stop) =
     StopCause before now reader received left stop
 
--- one read of a part of a body
+-- One read of a part of a body: what is used leaves the front of all bytes that came.
 pub record ReadsBody
     (before now : LinkState) (old new : List ℕ) (reader behind : BodyReader)
     (kept keeps : Option (List ℕ)) (budget left : ℕ) (payload : List ℕ) : Type 0 where
-  pub piece : List ℕ
   pub used : List ℕ
-  pub moved : Moved before now piece [] (budget - left)
-  pub within : left ≤ budget
-  pub flushed : now.flushed ≡ before.flushed
-  pub bytes : old ++ piece ≡ used ++ new
+  pub received : Received before now old (used ++ new) budget left
   pub decoded : Decoded reader behind used payload
   pub keeps_payload : keeps ≡ option_map (λ front. front ++ payload) kept
 

@@ -1,25 +1,25 @@
 -- Heads at the front of what is received, and what reading one comes to (RFC 9112, sections 2.2 and 8).
-use Rattle.std.specs.Prelude.{◌≡◌, ℕ, ◌<◌, ◌≤◌, ◌+◌, List, [], length, Bool, true, false, option_map}
+use Rattle.std.specs.Prelude.{◌≡◌, ℕ, ◌<◌, ◌≤◌, ◌+◌, List, [], length, Bool, true, false, Option, None, IsSomeAnd, option_map}
 use Rattle.h1_error.specs.declared.head_fault.HeadFault.{HeadFault}
 use Rattle.h1_transfer.specs.Words.{LinkState, Rose}
 use Rattle.h1_transfer.specs.Budget.{allowance}
 use Rattle.h1_transfer.specs.Calls.{Fault, no_fault, read_fault}
 use Rattle.h1_transfer.specs.Moved.{Received}
 use Rattle.h1_transfer.specs.TransferView.{TransferView}
-use Rattle.h1_transfer.specs.declared.head.Found.{Found}
-use Rattle.h1_transfer.specs.declared.head.Found.TheVariants as found
+use Rattle.h1_transfer.specs.declared.head.Look.{Look}
+use Rattle.h1_transfer.specs.declared.head.Look.TheVariants as look
 use Rattle.h1_transfer.specs.declared.reading_head.HeadRead.{HeadRead}
 use Rattle.h1_transfer.specs.declared.reading_head.HeadRead.TheVariants as h
 use Rattle.h1_transfer.specs.declared.reading_head.HeadStop.{HeadStop}
 use Rattle.h1_transfer.specs.declared.reading_head.HeadStop.TheVariants as s
 
--- what a search says of the bytes
+-- what a search says of the bytes, and what it found
 abbrev pub FoundIn : {H : Type 0} → (List ℕ → ℕ → H → Type 0) → (List ℕ → HeadFault → Type 0)
     → (List ℕ → Type 0)
-    → List ℕ → Found H → Type 0
-FoundIn is_at refuses lacks bytes (found.Whole head n) = is_at bytes n head
-FoundIn is_at refuses lacks bytes (found.Refused fault) = refuses bytes fault
-FoundIn is_at refuses lacks bytes found.NotYet = lacks bytes
+    → List ℕ → Option H → Look → Type 0
+FoundIn is_at refuses lacks bytes found (look.Whole n) = IsSomeAnd found (is_at bytes n)
+FoundIn is_at refuses lacks bytes found (look.Refused fault) = refuses bytes fault × (found ≡ None)
+FoundIn is_at refuses lacks bytes found look.NotYet = lacks bytes × (found ≡ None)
 
 -- when the reading of a head stops, with the bytes that are received and not used then
 abbrev pub StopCause : (List ℕ → HeadFault → Type 0) → (List ℕ → Type 0) → LinkState → LinkState
@@ -35,18 +35,18 @@ StopCause refuses lacks before now received left s.Failed =
     Rose before.read_faults now.read_faults × lacks received
 StopCause refuses lacks before now received left s.NoMemory = Unit {0}
 
--- when each answer of a head read comes
+-- when each answer of a head read comes, and what was found with it
 abbrev pub HeadCause : {H : Type 0} → (List ℕ → ℕ → H → Type 0) → (List ℕ → HeadFault → Type 0)
     → (List ℕ → Type 0)
-    → LinkState → LinkState → List ℕ → ℕ → HeadRead H → Type 0
-HeadCause is_at refuses lacks before now received left (h.Whole head n) =
-    is_at received n head × (now.read_waits ≡ before.read_waits)
-HeadCause is_at refuses lacks before now received left (h.Stopped stop) =
-    StopCause refuses lacks before now received left stop
+    → LinkState → LinkState → List ℕ → ℕ → Option H → HeadRead → Type 0
+HeadCause is_at refuses lacks before now received left found (h.Whole n) =
+    IsSomeAnd found (is_at received n) × (now.read_waits ≡ before.read_waits)
+HeadCause is_at refuses lacks before now received left found (h.Stopped stop) =
+    StopCause refuses lacks before now received left stop × (found ≡ None)
 
 -- a head is whole
-abbrev pub is_whole_head : {H : Type 0} → HeadRead H → Bool
-is_whole_head (h.Whole head n) = true
+abbrev pub is_whole_head : HeadRead → Bool
+is_whole_head (h.Whole n) = true
 is_whole_head (h.Stopped stop) = false
 
 -- the fault of the link that stopped the reading of a head
@@ -55,8 +55,8 @@ fault_of_stop s.Failed = read_fault
 fault_of_stop _ = no_fault
 
 -- the fault of the link that a read of a head met
-abbrev pub fault_of_head : {H : Type 0} → HeadRead H → Fault
-fault_of_head (h.Whole head n) = no_fault
+abbrev pub fault_of_head : HeadRead → Fault
+fault_of_head (h.Whole n) = no_fault
 fault_of_head (h.Stopped stop) = fault_of_stop stop
 
 -- what a read of a head took from its link
@@ -71,11 +71,12 @@ pub record ReceivesHead (lacks : List ℕ → Type 0) (before now : LinkState) (
 -- one read of a head, which stays among the received bytes
 pub record ReadsHead {L H : Type 0} (state : L → LinkState) (is_at : List ℕ → ℕ → H → Type 0)
     (refuses : List ℕ → HeadFault → Type 0) (lacks : List ℕ → Type 0) (old new : TransferView L)
-    (read : HeadRead H) : Type 0 where
+    (found : Option H) (read : HeadRead) : Type 0 where
   pub left : ℕ
   pub receives : ReceivesHead lacks (state old.link) (state new.link) old.received new.received
       (allowance old.budget) left
   pub budget : new.budget ≡ option_map (λ _. left) old.budget
   -- all else stays
   pub rest : new ≡ record old { link = new.link; received = new.received; budget = new.budget }
-  pub cause : HeadCause is_at refuses lacks (state old.link) (state new.link) new.received left read
+  pub cause : HeadCause is_at refuses lacks (state old.link) (state new.link) new.received left found
+      read

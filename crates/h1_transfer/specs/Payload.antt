@@ -1,57 +1,23 @@
 -- Reading a body (RFC 9112, sections 6 and 8).
-use Rattle.std.specs.Prelude.{◌≡◌, ℕ, ◌≤◌, ◌+◌, ◌<◌, ◌⊎◌, List, [], length, true, false, Option, Some, None, option_map, Result, Ok, Err}
-use Rattle.h1_transfer.specs.Words.{Poll, Ready, Pending, Error, ErrorType, LinkState, Rose, whole, unfinished, broken, reads}
-use Rattle.h1_error.specs.declared.error.ErrorType.TheVariants as kind
-use Rattle.h1_transfer.specs.BodyErrors.{SaysOfBody}
+use Rattle.std.specs.Prelude.{◌≡◌, ℕ, ◌≤◌, ◌+◌, ◌<◌, List, [], Option, option_map, Result}
+use Rattle.h1_transfer.specs.Words.{Poll, Error, ErrorType, LinkState, unfinished, reads}
 use Rattle.h1_transfer.specs.Budget.{allowance}
-use Rattle.h1_transfer.specs.Decoding.{ReadsBody, Lacks, IsUnfinished}
+use Rattle.h1_transfer.specs.Decoding.{ReadsBody, IsUnfinished}
 use Rattle.h1_transfer.specs.TransferView.{TransferView, Holds}
+use Rattle.h1_transfer.specs.BodyAnswers.{RefusesBody, PartAnswer, RestAnswer}
+pub use Rattle.h1_transfer.specs.BodyAnswers.{refused_for_good, refused_behind}
 
 -- when each refusal of the body comes
 abbrev pub BodyRefusal : {L : Type 0} → (L → LinkState) → TransferView L → TransferView L
     → ErrorType → Type 0
-BodyRefusal state old new kind = SaysOfBody (reads new.body.reader [] ≡ broken [])
-    (((state new.link).ended ≡ true) × Lacks new.body.reader new.received)
-    (Rose (state old.link).read_faults (state new.link).read_faults
-    × Lacks new.body.reader new.received) kind
+BodyRefusal state old new kind =
+    RefusesBody (state old.link) (state new.link) new.body.reader new.received kind
 
--- every refusal but out of memory is answered again
-abbrev pub refused_for_good : Error → Option Error
-refused_for_good error = kept_refusal error error.kind where
-  kept_refusal : Error → ErrorType → Option Error
-  kept_refusal error kind.NoMemory = None
-  kept_refusal error _ = Some error
-
--- What each later read of the body answers after a refusal: this again. After out of memory that is
--- so only where a caller keeps the payload, for whom the body has failed.
-abbrev pub refused_behind : Option (List ℕ) → Error → Option Error
-refused_behind kept error = by_kind error.kind where
-  by_kind : ErrorType → Option Error
-  by_kind kind.NoMemory = option_map (λ _. error) kept
-  by_kind _ = Some error
-
--- no read of the link was pending
-pub record IsReadAtOnce {L : Type 0} (state : L → LinkState)
-    (old new : TransferView L) : Type 0 where
-  pub waits : new.body.waits ≡ old.body.waits
-  pub link_waits : (state new.link).read_waits ≡ (state old.link).read_waits
-
--- a read that was pending is noted
+-- when each answer of a read of a part of the body comes
 abbrev pub PayloadAnswer : {L : Type 0} → (L → LinkState) → TransferView L → TransferView L → List ℕ
     → ℕ → Poll (Result (Option (List ℕ)) Error) → Type 0
-PayloadAnswer state old new payload left (Ready (Ok (Some piece))) =
-    (payload ≡ piece) × (0 < length payload) × (new.body.refused ≡ None)
-    × IsReadAtOnce state old new
-PayloadAnswer state old new payload left (Ready (Ok None)) =
-    (payload ≡ []) × (reads new.body.reader [] ≡ whole [] 0) × (new.body.refused ≡ None)
-    × IsReadAtOnce state old new
-PayloadAnswer state old new payload left (Ready (Err error)) =
-    (payload ≡ []) × (new.body.refused ≡ refused_behind new.body.kept error)
-    × BodyRefusal state old new error.kind × IsReadAtOnce state old new × (error.retry ≡ false)
-PayloadAnswer state old new payload left Pending =
-    (payload ≡ []) × Lacks new.body.reader new.received
-    × (new.body.refused ≡ None) × (new.body.waits ≡ true)
-    × (Rose (state old.link).read_waits (state new.link).read_waits ⊎ (left ≡ 0))
+PayloadAnswer state old new payload left outcome = PartAnswer (state old.link) (state new.link)
+    old.body.waits new.body new.received payload left outcome
 
 -- one call that reads a part of the body
 pub record ReadsPayload {L S : Type 0} (state : L → LinkState) (holds : Holds L S) (old new : S)
@@ -82,15 +48,8 @@ pub record ReadsPayload {L S : Type 0} (state : L → LinkState) (holds : Holds 
 -- when each answer of a drain comes
 abbrev pub DrainAnswer : {L : Type 0} → (L → LinkState) → TransferView L → TransferView L → ℕ
     → Poll (Result (Unit {0}) Error) → Type 0
-DrainAnswer state old new left (Ready (Ok done)) =
-    (reads new.body.reader [] ≡ whole [] 0) × (new.body.refused ≡ None)
-    × ((state new.link).read_waits ≡ (state old.link).read_waits)
-DrainAnswer state old new left (Ready (Err error)) =
-    (new.body.refused ≡ refused_for_good error) × BodyRefusal state old new error.kind
-    × (error.retry ≡ false)
-DrainAnswer state old new left Pending =
-    Lacks new.body.reader new.received × (new.body.refused ≡ None)
-    × (Rose (state old.link).read_waits (state new.link).read_waits ⊎ (left ≡ 0))
+DrainAnswer state old new left outcome =
+    RestAnswer (state old.link) (state new.link) new.body new.received left outcome
 
 -- one call that reads the rest of the body
 pub record DrainsBody {L S : Type 0} (state : L → LinkState) (holds : Holds L S) (old new : S)

@@ -45,7 +45,8 @@ TakeCause reader received t.Done = reads reader [] ≡ whole [] 0
 TakeCause reader received t.Broken = reads reader [] ≡ broken []
 TakeCause reader received t.Lacks = Lacks reader received
 
--- payload is taken up to the end of a run of it, or nothing changes where memory ran out
+-- received bytes are used for what the step says and for its cause, or nothing changes where memory
+-- ran out
 abbrev pub TakesBody : List ℕ → List ℕ → BodyReader → BodyReader → Option (List ℕ) → Option (List ℕ)
     → Result TakeStep Error → Type 0
 TakesBody old new reader behind kept keeps (Ok taken) =

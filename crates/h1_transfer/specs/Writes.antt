@@ -1,10 +1,9 @@
 -- What each call that writes a part of a message comes to (RFC 9112, sections 4 to 7).
-use Rattle.std.specs.Prelude.{◌≡◌, ℕ, ◌+◌, ◌^◌, min, ◌-◌, ◌<◌, ◌⊎◌, List, [], ◌++◌, length, Some, None, option_map, Result}
-use Rattle.h1_transfer.specs.Words.{Poll, Error, ErrorType, LinkState, Rose, Delivery, Outgoing, Step, Free}
-use Rattle.h1_error.specs.declared.error.ErrorType.TheVariants as kind
+use Rattle.std.specs.Prelude.{◌≡◌, ℕ, ◌+◌, ◌^◌, min, ◌-◌, List, ◌++◌, length, None, option_map, Result}
+use Rattle.h1_transfer.specs.Words.{Poll, Error, ErrorType, LinkState, Delivery, Outgoing, Step}
 use Rattle.h1_transfer.specs.Moved.{Sent}
 use Rattle.h1_transfer.specs.Budget.{allowance}
-use Rattle.h1_transfer.specs.Writing.{DeliveryAnswer}
+use Rattle.h1_transfer.specs.Writing.{IsDone, Waits, RefusesWrite, DeliveryAnswer, sent_after}
 use Rattle.h1_transfer.specs.TransferView.{TransferView, Holds}
 
 -- one call that writes: what was owed and what it takes up now is written in front
@@ -30,26 +29,16 @@ pub record IsSameMessage (old new : Outgoing) : Type 0 where
   pub writer : new.writer ≡ old.writer
 
 -- no write is in progress, nothing is owed, and no write was refused
-pub record IsFree (outgoing : Outgoing) : Type 0 where
-  pub owed : outgoing.owed ≡ []
-  pub free : outgoing.step ≡ Free
-  pub refused : outgoing.refused ≡ None
+abbrev pub IsFree : Outgoing → Type 0
+IsFree outgoing = IsDone None outgoing
 
--- a write that waits: bytes or a flush are owed, and the same call goes on with this step
-pub record IsWaiting (before now : LinkState) (outgoing : Outgoing) (step : Step)
-    (left : ℕ) : Type 0 where
-  pub at_step : outgoing.step ≡ step
-  pub refused : outgoing.refused ≡ None
-  pub why : Rose before.write_waits now.write_waits ⊎ (left ≡ 0)
+-- a write that waits, where none was refused
+abbrev pub IsWaiting : LinkState → LinkState → Outgoing → Step → ℕ → Type 0
+IsWaiting before now outgoing step left = Waits None before now outgoing step left
 
--- When a write that was taken up is refused. A fault of the link leaves no write in progress, and is
--- answered by every later one; out of memory leaves this one in progress.
+-- when a write that was taken up is refused, where none was before
 abbrev pub IsRefused : LinkState → LinkState → Outgoing → Step → Error → ErrorType → Type 0
-IsRefused before now new step error kind.WriteError =
-    Rose before.write_faults now.write_faults × (new.step ≡ Free) × (new.refused ≡ Some error)
-IsRefused before now new step error kind.NoMemory =
-    (new.step ≡ step) × (new.refused ≡ None) × (0 < length new.owed)
-IsRefused before now new step error _ = ⊥
+IsRefused before now new step error kind = RefusesWrite None before now new step error kind
 
 -- one call that goes on with the write in progress
 pub record Delivers {L : Type 0} (state : L → LinkState) (how : Delivery) (old new : TransferView L)
@@ -60,5 +49,8 @@ pub record Delivers {L : Type 0} (state : L → LinkState) (how : Delivery) (old
   pub budget : new.budget ≡ option_map (λ _. left) old.budget
   -- all else stays
   pub rest : new ≡ record old { link = new.link; outgoing = new.outgoing; budget = new.budget }
-  pub answer : DeliveryAnswer how (state old.link)
-      (state new.link) old.outgoing new.outgoing left outcome
+  pub same : IsSameMessage old.outgoing new.outgoing
+  pub counted : new.outgoing.sent
+      ≡ sent_after old.outgoing.sent old.outgoing.owed new.outgoing.owed
+  pub answer : DeliveryAnswer how old.outgoing.refused (state old.link) (state new.link)
+      new.outgoing old.outgoing.step left outcome

@@ -1,6 +1,6 @@
 -- What sending the bytes that are owed comes to (RFC 9112, sections 4 to 7).
 use Rattle.std.specs.Prelude.{◌≡◌, ℕ, ◌+◌, ◌-◌, ◌^◌, min, ◌≤◌, ◌<◌, ◌⊎◌, List, [], length, Option, Some, Result, Ok, Err, false}
-use Rattle.h1_transfer.specs.Words.{Poll, Ready, Pending, Error, ErrorType, LinkState, Rose, FlushStep, Outgoing, Free, Sending, Delivery}
+use Rattle.h1_transfer.specs.Words.{Poll, Ready, Pending, Error, ErrorType, LinkState, Rose, FlushStep, Outgoing, Step, Free, Sending, Delivery}
 use Rattle.h1_error.specs.declared.error.ErrorType.TheVariants as kind
 use Rattle.h1_link.specs.declared.link.FlushStep.TheVariants as flush
 use Rattle.h1_transfer.specs.declared.sending.Sending.TheVariants as s
@@ -35,35 +35,38 @@ FlushCause how before now flush.Failed = Rose before.write_faults now.write_faul
 abbrev pub sent_after : ℕ → List ℕ → List ℕ → ℕ
 sent_after sent before owed = min (sent + (length before - length owed)) (2 ^ 64 - 1)
 
--- A fault of the link ends the write, and is answered by every later one. Out of memory leaves the
--- write in progress.
-abbrev pub DeliveryRefusal : LinkState → LinkState → Outgoing → Outgoing → Error → ErrorType
-    → Type 0
-DeliveryRefusal before now old new error kind.WriteError =
-    Rose before.write_faults now.write_faults
-    × (new ≡ record old {
-      owed = new.owed;
-      sent = sent_after old.sent old.owed new.owed;
-      step = Free;
-      refused = Some error;
-    })
-DeliveryRefusal before now old new error kind.NoMemory =
-    (new ≡ record old { owed = new.owed; sent = sent_after old.sent old.owed new.owed })
-    × (0 < length new.owed)
-DeliveryRefusal before now old new error _ = ⊥
+-- Nothing is owed, and no write is in progress. The refusal from before, where there is one, stays.
+pub record IsDone (was : Option Error) (outgoing : Outgoing) : Type 0 where
+  pub owed : outgoing.owed ≡ []
+  pub free : outgoing.step ≡ Free
+  pub refused : outgoing.refused ≡ was
 
--- what delivering the write in progress came to
-abbrev pub DeliveryAnswer : Delivery → LinkState → LinkState → Outgoing → Outgoing → ℕ
+-- a write that waits: bytes or a flush are owed, and the same call goes on with this step
+pub record Waits (was : Option Error) (before now : LinkState) (outgoing : Outgoing) (step : Step)
+    (left : ℕ) : Type 0 where
+  pub at_step : outgoing.step ≡ step
+  pub refused : outgoing.refused ≡ was
+  pub why : Rose before.write_waits now.write_waits ⊎ (left ≡ 0)
+
+-- When a write that was taken up is refused. A fault of the link leaves no write in progress, and
+-- is answered by every later one; out of memory leaves this one in progress.
+abbrev pub RefusesWrite : Option Error → LinkState → LinkState → Outgoing → Step → Error
+    → ErrorType → Type 0
+RefusesWrite was before now new step error kind.WriteError =
+    Rose before.write_faults now.write_faults × (new.step ≡ Free) × (new.refused ≡ Some error)
+RefusesWrite was before now new step error kind.NoMemory =
+    (new.step ≡ step) × (new.refused ≡ was) × (0 < length new.owed)
+RefusesWrite was before now new step error _ = ⊥
+
+-- what delivering the write in progress, which is at this step, came to
+abbrev pub DeliveryAnswer : Delivery → Option Error → LinkState → LinkState → Outgoing → Step → ℕ
     → Poll (Result (Unit {0}) Error) → Type 0
-DeliveryAnswer how before now old new left (Ready (Ok done)) =
-    (new ≡ record old { owed = []; sent = sent_after old.sent old.owed []; step = Free })
-    × IsDelivered how now
-DeliveryAnswer how before now old new left Pending =
-    (new ≡ record old { owed = new.owed; sent = sent_after old.sent old.owed new.owed })
-    × Owes how new.owed
-    × (Rose before.write_waits now.write_waits ⊎ (left ≡ 0))
-DeliveryAnswer how before now old new left (Ready (Err error)) =
-    DeliveryRefusal before now old new error error.kind × (error.retry ≡ false)
+DeliveryAnswer how was before now new step left (Ready (Ok done)) =
+    IsDone was new × IsDelivered how now
+DeliveryAnswer how was before now new step left Pending =
+    Waits was before now new step left × Owes how new.owed
+DeliveryAnswer how was before now new step left (Ready (Err error)) =
+    RefusesWrite was before now new step error error.kind × (error.retry ≡ false)
 
 -- the answer of a write that says a count once it is delivered
 abbrev pub with_count : Poll (Result (Unit {0}) Error) → Option ℕ → Poll (Result (Option ℕ) Error)

@@ -1,7 +1,13 @@
 //! What a read of a body answers, and what is noted of it (RFC 9112, sections 6 and 8).
-ghost use Rattle.std.specs.Prelude.{◌≡◌, Some, None, Err};
+ghost use Rattle.std.specs.Prelude.{◌≡◌, ℕ, List, Some, None, Err};
 ghost use Rattle.futures.specs.declared.task.Poll.TheVariants.{Ready};
-ghost use Rattle.h1_transfer.specs.BodyAnswers.{IsPartOf, IsRestOf, error_of};
+ghost use Rattle.h1_link.specs.LinkState.{LinkState};
+ghost use Rattle.h1_transfer.specs.BodyAnswers.{PartAnswer, RestAnswer, error_of};
+ghost use Rattle.h1_transfer.specs.Calls.{Called, is_part, is_done, succeeds, fault_of_read, fault_of_stop, read_fault_of};
+ghost use Rattle.h1_error.specs.declared.error.ErrorType.TheVariants as kind;
+ghost use Rattle.h1_transfer.specs.declared.reading_body.BodyRead.TheVariants.{Stopped};
+ghost use Rattle.h1_transfer.specs.declared.reading_body.BodyStop.TheVariants as why;
+ghost use Rattle.h1_transfer.specs.Decoding.{BodyCause, StopCause, payload_of};
 
 use crate::{BodyRead, BodyState, BodyStop};
 use bytes::Bytes;
@@ -23,7 +29,12 @@ pub fn refuse<T>(refused: &mut Option<Error>, kind: ErrorType) -> Poll<Result<T,
 pub(crate) fn part(body: &mut BodyState, read: BodyRead) -> Poll<Result<Option<Bytes>, Error>>
     requires { body.old.refused ≡ None }
     ensures notes { (body.new.reader ≡ body.old.reader) × (body.new.kept ≡ body.old.kept) }
-    ensures answer { IsPartOf body.old body.new read result }
+    ensures answer { (before now : LinkState) (received : List ℕ) (left : ℕ)
+        → BodyCause before now body.old.reader received left read
+        → PartAnswer before now body.old.waits body.new received (payload_of read) left result }
+    ensures starved { result ≡ Ready (Err (error_of kind.NoMemory)) → read ≡ Stopped why.NoMemory }
+    ensures calls { (before now : LinkState) → Called before now (is_part read) (fault_of_read read)
+        → Called before now (succeeds result) (read_fault_of result) }
 {
     let stop = match read {
         BodyRead::Piece(bytes) => return Poll::Ready(Ok(Some(bytes))),
@@ -50,8 +61,14 @@ pub(crate) fn part(body: &mut BodyState, read: BodyRead) -> Poll<Result<Option<B
 
 /// What a read of the rest of the body answers.
 pub(crate) fn rest(body: &mut BodyState, stop: BodyStop) -> Poll<Result<(), Error>>
+    requires { body.old.refused ≡ None }
     ensures notes { body.new ≡ record body.old { refused = body.new.refused } }
-    ensures answer { IsRestOf body.old body.new stop result }
+    ensures answer { (before now : LinkState) (received : List ℕ) (left : ℕ)
+        → StopCause before now body.old.reader received left stop
+        → RestAnswer before now body.new received left result }
+    ensures starved { result ≡ Ready (Err (error_of kind.NoMemory)) → stop ≡ why.NoMemory }
+    ensures calls { (before now : LinkState) → Called before now (is_done stop) (fault_of_stop stop)
+        → Called before now (succeeds result) (read_fault_of result) }
 {
     match stop {
         BodyStop::Done => Poll::Ready(Ok(())),

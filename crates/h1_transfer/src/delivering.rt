@@ -1,7 +1,8 @@
 //! Delivering the write that is in progress: sending what is owed, and flushing it.
 ghost use Rattle.std.specs.Prelude.{◌≡◌, ◌&&◌, [], Some, false};
 ghost use Rattle.h1_transfer.specs.Moved.{Moved, Sent};
-ghost use Rattle.h1_transfer.specs.Writing.{DeliveryAnswer, FlushCause, with_count};
+ghost use Rattle.h1_transfer.specs.Writes.{IsSameMessage};
+ghost use Rattle.h1_transfer.specs.Writing.{DeliveryAnswer, FlushCause, sent_after, with_count};
 ghost use Rattle.h1_transfer.specs.Calls.{Called, is_unflushed, succeeds, write_fault_of, fault_of_flush};
 ghost use Rattle.h1_transfer.specs.declared.outgoing.Step.TheVariants.{Free};
 ghost use Rattle.h1_error.specs.declared.error.ErrorType.TheVariants.{WriteError};
@@ -22,6 +23,7 @@ pub enum Delivery {
 }
 
 /// Goes on with the write that is in progress, and ends it where all of it is delivered.
+#[inline(always)]
 pub fn deliver<L: Link>(
     link: &mut L,
     outgoing: &mut Outgoing,
@@ -30,8 +32,11 @@ pub fn deliver<L: Link>(
 ) -> Poll<Result<(), Error>>
     ensures sent { Sent (L.state link.old)
         (L.state link.new) outgoing.old.owed outgoing.new.owed budget.old budget.new }
-    ensures answer { DeliveryAnswer how (L.state link.old)
-        (L.state link.new) outgoing.old outgoing.new budget.new result }
+    ensures same { IsSameMessage outgoing.old outgoing.new }
+    ensures counted { outgoing.new.sent
+        ≡ sent_after outgoing.old.sent outgoing.old.owed outgoing.new.owed }
+    ensures answer { DeliveryAnswer how outgoing.old.refused (L.state link.old)
+        (L.state link.new) outgoing.new outgoing.old.step budget.new result }
     ensures calls { Called (L.state link.old) (L.state link.new)
         (is_unflushed how && succeeds result) (write_fault_of result) }
     ensures plan { L.same_plan link.old link.new }

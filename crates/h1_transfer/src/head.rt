@@ -1,19 +1,21 @@
 //! Heads of messages, as they are found at the front of received bytes (RFC 9112, section 2.2).
-ghost use Rattle.std.specs.Prelude.{ℕ, List, IfOk};
+ghost use Rattle.std.specs.Prelude.{◌≡◌, ℕ, List, IfOk, OnErr, IsOkUnless, None};
 ghost use Rattle.h1_cut.specs.Search.{HasLooked};
+ghost use Rattle.h1_error.specs.Memory.{no_memory};
 ghost use Rattle.h1_error.specs.declared.head_fault.HeadFault.{HeadFault};
 ghost use Rattle.h1_head.specs.declared.limits.TheConstants.{MAX_HEADER_SIZE};
 ghost use Rattle.h1_transfer.specs.Heads.{FoundIn};
 
 use h1_cut::HeadSearch;
 use h1_error::{Error, HeadFault};
+use h1_head::Room;
 use std::alloc::Global;
 
 /// What is known of the head at the front of a stream.
-#[derive(Drop)]
-pub enum Found<H> {
+#[derive(Clone, Copy, Debug, PartialEq, Eq)]
+pub enum Look {
     /// A head is there and accepted. It takes so many of the bytes that came.
-    Whole(H, usize),
+    Whole(usize),
     Refused(HeadFault),
     /// No head ends in the bytes yet.
     NotYet,
@@ -28,10 +30,21 @@ pub trait Head: Sized + Drop {
     /// No head ends in the bytes, and one may still end.
     ghost lacks: { List ℕ → Type 0 };
 
-    /// Looks for the head at the front of the bytes. They grow from call to call, and the search
-    /// goes on from the front that it has looked at.
-    fn search(alloc: Global, search: &mut HeadSearch, bytes: &[u8]) -> Result<Found<Self>, Error>
-        requires { HasLooked MAX_HEADER_SIZE search.old bytes.now }
-        ensures ok { IfOk result (FoundIn is_at refuses lacks bytes.now) }
+    /// Looks for the head at the front of the bytes, and puts one that is accepted in the place of
+    /// none. The bytes grow from call to call, and the search goes on from the front that it has
+    /// looked at. What is kept of the bytes is copied into the room. Out of memory is the one error,
+    /// and then nothing is put.
+    fn search(
+        alloc: Global,
+        search: &mut HeadSearch,
+        bytes: &[u8],
+        room: &mut Room,
+        found: &mut Option<Self>,
+    ) -> Result<Look, Error>
+        requires looked { HasLooked MAX_HEADER_SIZE search.old bytes.now }
+        requires none { found.old ≡ None }
+        ensures ok { IfOk result (FoundIn is_at refuses lacks bytes.now found.new) }
+        ensures err { IsOkUnless result no_memory }
+        ensures none { OnErr result (found.new ≡ None) }
         ensures looked { HasLooked MAX_HEADER_SIZE search.new bytes.now };
 }

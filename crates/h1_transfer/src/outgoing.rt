@@ -2,8 +2,10 @@
 ghost use Rattle.std.specs.Prelude.{◌≡◌};
 ghost use Rattle.h1_transfer.specs.Fresh.{no_reply};
 
-use h1_body::{BodyWriter, Wire};
+use crate::Owed;
+use h1_body::BodyWriter;
 use h1_error::Error;
+use std::alloc::Global;
 
 /// The write that is in progress: bytes are owed, or after them a flush.
 #[derive(Clone, Copy, Debug, PartialEq, Eq)]
@@ -20,7 +22,7 @@ pub enum Step {
 pub struct Outgoing {
     pub step: Step,
     /// What was taken up and isn't written yet.
-    pub owed: Wire,
+    pub owed: Owed,
     pub writer: BodyWriter,
     /// A head was taken up that is not an interim one.
     pub headed: bool,
@@ -32,16 +34,28 @@ pub struct Outgoing {
 
 impl Outgoing {
     /// Before a message.
-    pub fn new() -> Self
+    pub fn new(alloc: Global) -> Self
         ensures { result ≡ no_reply }
     {
         Outgoing {
             step: Step::Free,
-            owed: Wire::empty(),
+            owed: Owed::new(alloc),
             writer: BodyWriter::new(),
             headed: false,
             refused: None,
             sent: 0,
         }
+    }
+
+    /// Begins with the next message.
+    pub fn start_over(&mut self)
+        ensures { self.new ≡ no_reply }
+    {
+        self.step = Step::Free;
+        self.owed.clear();
+        self.writer = BodyWriter::new();
+        self.headed = false;
+        self.refused = None;
+        self.sent = 0;
     }
 }

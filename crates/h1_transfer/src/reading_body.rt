@@ -10,7 +10,6 @@ use crate::taking::{TakeStep, take};
 use bytes::{Bytes, BytesMut};
 use h1_body::{BodyBytes, BodyReader};
 use h1_link::Link;
-use std::alloc::Global;
 
 /// Why the reading of a body goes no further.
 #[derive(Clone, Copy, Debug, PartialEq, Eq)]
@@ -38,9 +37,9 @@ pub enum BodyRead {
 
 /// Reads until payload is there, the body ends or reading can't go on. What is received already
 /// is used before the first read.
-#[tactic(auto, using(crate::proofs::BodyLemmas::reads_body_took))]
+#[tactic(auto, using(crate::proofs::BodyLemmas::body_took, crate::proofs::BodyLemmas::body_filled))]
+#[inline(always)]
 pub fn read_body<L: Link>(
-    alloc: Global,
     link: &mut L,
     received: &mut BytesMut,
     reader: &mut BodyReader,
@@ -59,7 +58,7 @@ pub fn read_body<L: Link>(
     ensures plan { L.same_plan link.old link.new }
 {
     'reads: loop {
-        match take(alloc, received, reader, kept) {
+        match take(received, reader, kept) {
             Ok(TakeStep::Piece(bytes)) => return BodyRead::Piece(bytes),
             Ok(TakeStep::Done) => return BodyRead::Stopped(BodyStop::Done),
             Ok(TakeStep::Broken) => return BodyRead::Stopped(BodyStop::Broken),
@@ -81,7 +80,6 @@ pub fn read_body<L: Link>(
 
 /// Reads on until the body ends or can't be read on.
 pub fn drain_body<L: Link>(
-    alloc: Global,
     link: &mut L,
     received: &mut BytesMut,
     reader: &mut BodyReader,
@@ -101,7 +99,7 @@ pub fn drain_body<L: Link>(
     ensures plan { L.same_plan link.old link.new }
 {
     'drains: loop {
-        let read = read_body(alloc, link, received, reader, kept, budget);
+        let read = read_body(link, received, reader, kept, budget);
         // What is received is bounded by its buffer before the next read.
         let _left_over = received.len();
         match read {

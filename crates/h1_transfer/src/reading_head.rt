@@ -1,14 +1,16 @@
 //! Reading a head off the link (RFC 9112, section 2.2).
+ghost use Rattle.std.specs.Prelude.{◌≡◌, None};
 ghost use Rattle.h1_cut.specs.Search.{HasLooked};
 ghost use Rattle.h1_head.specs.declared.limits.TheConstants.{MAX_HEADER_SIZE};
 ghost use Rattle.h1_transfer.specs.Heads.{ReceivesHead, HeadCause, is_whole_head, fault_of_head};
 ghost use Rattle.h1_transfer.specs.Calls.{Called};
 
-use crate::head::{Found, Head};
+use crate::head::{Head, Look};
 use crate::receiving::{Filled, fill};
 use bytes::BytesMut;
 use h1_cut::HeadSearch;
 use h1_error::HeadFault;
+use h1_head::Room;
 use h1_link::Link;
 use std::alloc::Global;
 
@@ -28,37 +30,40 @@ pub enum HeadStop {
 }
 
 /// What reading a head came to.
-#[derive(Drop)]
-pub enum HeadRead<H> {
-    /// The head, and how many of the received bytes it takes.
-    Whole(H, usize),
+#[derive(Clone, Copy, Debug, PartialEq, Eq)]
+pub enum HeadRead {
+    /// A head, which takes so many of the received bytes.
+    Whole(usize),
     Stopped(HeadStop),
 }
 
-/// Reads until a head is whole, is refused or can't go on. What is received already is judged
-/// before the first read.
+/// Reads until a head is whole, is refused or can't go on, and puts a whole one in the place of none.
+/// What is received already is judged before the first read.
 pub fn read_head<H: Head, L: Link>(
     alloc: Global,
     link: &mut L,
     received: &mut BytesMut,
     search: &mut HeadSearch,
+    room: &mut Room,
     budget: &mut u32,
-) -> HeadRead<H>
-    requires { HasLooked MAX_HEADER_SIZE search.old received.old.items }
+    found: &mut Option<H>,
+) -> HeadRead
+    requires looked { HasLooked MAX_HEADER_SIZE search.old received.old.items }
+    requires none { found.old ≡ None }
     ensures receives { ReceivesHead H.lacks (L.state link.old)
         (L.state link.new) received.old.items received.new.items budget.old budget.new }
     ensures cause { HeadCause H.is_at H.refuses H.lacks (L.state link.old)
-        (L.state link.new) received.new.items budget.new result }
+        (L.state link.new) received.new.items budget.new found.new result }
     ensures looked { HasLooked MAX_HEADER_SIZE search.new received.new.items }
     ensures calls { Called (L.state link.old) (L.state link.new) (is_whole_head result)
         (fault_of_head result) }
     ensures plan { L.same_plan link.old link.new }
 {
     'reads: loop {
-        match H::search(alloc, search, received.as_slice()) {
-            Ok(Found::Whole(head, used)) => return HeadRead::Whole(head, used),
-            Ok(Found::Refused(fault)) => return HeadRead::Stopped(HeadStop::Refused(fault)),
-            Ok(Found::NotYet) => {}
+        match H::search(alloc, search, received.as_slice(), room, found) {
+            Ok(Look::Whole(used)) => return HeadRead::Whole(used),
+            Ok(Look::Refused(fault)) => return HeadRead::Stopped(HeadStop::Refused(fault)),
+            Ok(Look::NotYet) => {}
             Err(_) => return HeadRead::Stopped(HeadStop::NoMemory),
         }
         if *budget == 0 {

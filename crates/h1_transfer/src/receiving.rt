@@ -1,5 +1,5 @@
 //! One read of the link into the received bytes.
-ghost use Rattle.std.specs.Prelude.{◌≡◌, ◌<◌, ◌≤◌, ◌-◌, [], length, take};
+ghost use Rattle.std.specs.Prelude.{◌<◌, ◌≤◌, [], length, take};
 ghost use Rattle.h1_transfer.specs.Receiving.{FillsBy};
 ghost use Rattle.h1_transfer.specs.Calls.{Called, is_got, fault_of_fill};
 

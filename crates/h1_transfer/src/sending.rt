@@ -4,7 +4,7 @@ ghost use Rattle.h1_transfer.specs.Moved.{Sent};
 ghost use Rattle.h1_transfer.specs.Writing.{SendCause, sent_after};
 ghost use Rattle.h1_transfer.specs.Calls.{Called, is_all, fault_of_send};
 
-use h1_body::Wire;
+use crate::Owed;
 use h1_link::{Link, WriteStep};
 
 /// What sending came to.
@@ -21,7 +21,8 @@ pub enum Sending {
 
 /// Writes what is owed, from its front, until all of it is written or the link takes no more. Counts
 /// the bytes that were written in `sent`.
-pub fn send<L: Link>(link: &mut L, owed: &mut Wire, sent: &mut u64, budget: &mut u32) -> Sending
+#[inline(always)]
+pub fn send<L: Link>(link: &mut L, owed: &mut Owed, sent: &mut u64, budget: &mut u32) -> Sending
     ensures sent { Sent (L.state link.old)
         (L.state link.new) owed.old owed.new budget.old budget.new }
     ensures cause { SendCause (L.state link.old) (L.state link.new) owed.new budget.new result }

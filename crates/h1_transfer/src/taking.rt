@@ -5,7 +5,6 @@ ghost use Rattle.h1_transfer.specs.Taking.{TakesBody, TakesPayload, IsJudged};
 use bytes::{Bytes, BytesMut};
 use h1_body::{BodyBytes, BodyReader, FeedState, Taken};
 use h1_error::Error;
-use std::alloc::Global;
 
 /// What the bytes that are received give of a body.
 #[derive(Drop)]
@@ -24,8 +23,8 @@ pub enum TakeStep {
 /// Uses received bytes up to the end of a run of payload, the end of the body or the end of the
 /// bytes.
 #[tactic(auto, using(crate::proofs::BodyLemmas::uses_nothing))]
+#[inline(always)]
 pub fn take(
-    alloc: Global,
     received: &mut BytesMut,
     reader: &mut BodyReader,
     kept: &mut Option<BodyBytes>,
@@ -39,13 +38,13 @@ pub fn take(
         FeedState::Done => return Ok(TakeStep::Done),
         FeedState::Broken => return Ok(TakeStep::Broken),
     }
-    let taken = take_payload(alloc, received, reader, kept)?;
+    let taken = take_payload(received, reader, kept)?;
     Ok(judge(taken))
 }
 
 /// Takes payload, and keeps it after what is kept, where payload is kept.
+#[inline(always)]
 fn take_payload(
-    alloc: Global,
     received: &mut BytesMut,
     reader: &mut BodyReader,
     kept: &mut Option<BodyBytes>,
@@ -54,12 +53,13 @@ fn take_payload(
         kept.new result }
 {
     match kept {
-        Some(bytes) => reader.take_into(alloc, received, bytes),
+        Some(bytes) => reader.take_into(received, bytes),
         None => reader.take(received),
     }
 }
 
 /// What came of what was taken.
+#[inline(always)]
 fn judge(taken: Taken) -> TakeStep
     ensures { IsJudged taken.state taken.payload result }
 {
@@ -70,6 +70,7 @@ fn judge(taken: Taken) -> TakeStep
 }
 
 /// What came of a state where no payload came.
+#[inline(always)]
 fn stopped(state: FeedState) -> TakeStep
     ensures { IsJudged state None result }
 {

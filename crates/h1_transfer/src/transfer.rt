@@ -8,6 +8,7 @@ ghost use Rattle.h1_link.specs.Later.{KeepsBytes};
 use crate::{BodyState, Outgoing};
 use bytes::BytesMut;
 use h1_body::{BodyBytes, BodyReader, Framing};
+use h1_head::Room;
 use h1_link::Link;
 use std::alloc::Global;
 use std::marker::Model;
@@ -25,6 +26,8 @@ pub struct Transfer<L: Link + Drop> {
     body: BodyState,
     outgoing: Outgoing,
     budget: Option<u32>,
+    /// Memory for small pieces of bytes, which no contract sees.
+    room: Room,
 }
 
 impl<L: Link + Drop> Model for Transfer<L> {
@@ -56,8 +59,9 @@ impl<L: Link + Drop> Transfer<L> {
             link,
             received: BytesMut::new(alloc),
             body: BodyState::new(),
-            outgoing: Outgoing::new(),
+            outgoing: Outgoing::new(alloc),
             budget: None,
+            room: Room::new(alloc),
         }
     }
 
@@ -66,7 +70,25 @@ impl<L: Link + Drop> Transfer<L> {
         ensures { StartsOver self.old self.new }
     {
         self.body = BodyState::new();
-        self.outgoing = Outgoing::new();
+        self.outgoing.start_over();
+    }
+
+    /// Lends the room for small pieces of bytes, with nothing in it. Until it is given back another
+    /// stands in.
+    pub fn take_room(&mut self) -> Room
+        ensures empty { result ≡ [] }
+        ensures same { self.new ≡ self.old }
+    {
+        let mut room = mem::replace(&mut self.room, Room::new(self.alloc));
+        room.clear();
+        room
+    }
+
+    /// Gives the room back.
+    pub fn put_room(&mut self, room: Room)
+        ensures { self.new ≡ self.old }
+    {
+        self.room = room;
     }
 
     /// The bytes that are received and not used.

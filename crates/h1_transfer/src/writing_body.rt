@@ -10,6 +10,7 @@ use h1_error::Error;
 
 /// Takes up the piece that is handed in, and says how much of it is taken, or None where none is
 /// admitted any more.
+#[inline(always)]
 pub fn take_piece(outgoing: &mut Outgoing, buf: &mut Option<Bytes>) -> Option<usize>
     ensures out { buf.new ≡ None }
     ensures count { result ≡ piece_count outgoing.old buf.old }
@@ -22,7 +23,7 @@ pub fn take_piece(outgoing: &mut Outgoing, buf: &mut Option<Bytes>) -> Option<us
     let Ok(owed) = outgoing.writer.piece(payload) else {
         unreachable!()
     };
-    outgoing.owed = owed;
+    outgoing.owed.put(owed);
     outgoing.step = Step::Piece(count);
     count
 }
@@ -63,6 +64,7 @@ pub enum EndTaken {
 }
 
 /// Takes up the end of the body. A body that is short of its length is refused and ended.
+#[inline(always)]
 pub fn take_end(outgoing: &mut Outgoing) -> Result<EndTaken, Error>
     requires { IsEndStep outgoing.old.step }
     ensures { TakesUpEnd outgoing.old outgoing.new result }
@@ -74,7 +76,7 @@ pub fn take_end(outgoing: &mut Outgoing) -> Result<EndTaken, Error>
         return Ok(EndTaken::Nothing);
     }
     let owed = outgoing.writer.finish()?;
-    outgoing.owed = owed;
+    outgoing.owed.put(owed);
     outgoing.step = Step::Finish;
     Ok(EndTaken::Starts)
 }

@@ -1,5 +1,5 @@
 //! Reading a message: its head and its body.
-ghost use Rattle.std.specs.Prelude.{◌≡◌, ◌<◌, ◌^◌, length, IfSome, IfNone, Err};
+ghost use Rattle.std.specs.Prelude.{◌≡◌, ◌<◌, ◌^◌, length, IfSome, IfNone, None, Err};
 ghost use Rattle.futures.specs.declared.task.Poll.TheVariants.{Ready};
 
 use super::Transfer;
@@ -39,11 +39,14 @@ impl<L: Link + Drop> Transfer<L> {
         fill(&mut self.link, &mut self.received)
     }
 
-    /// Reads until a head is whole, is refused or can't go on. The head stays among the received
-    /// bytes.
-    pub fn read_head<H: Head>(&mut self, search: &mut HeadSearch) -> HeadRead<H>
-        requires { HasLooked MAX_HEADER_SIZE search.old self.old.received }
-        ensures reads { ReadsHead L.state H.is_at H.refuses H.lacks self.old self.new result }
+    /// Reads until a head is whole, is refused or can't go on, and puts a whole one in the place of
+    /// none. Its bytes stay among those received.
+    #[inline(always)]
+    pub fn read_head<H: Head>(&mut self, search: &mut HeadSearch, found: &mut Option<H>) -> HeadRead
+        requires looked { HasLooked MAX_HEADER_SIZE search.old self.old.received }
+        requires none { found.old ≡ None }
+        ensures reads { ReadsHead L.state H.is_at H.refuses H.lacks self.old self.new found.new
+            result }
         ensures looked { HasLooked MAX_HEADER_SIZE search.new self.new.received }
         ensures calls { Called (L.state self.old.link) (L.state self.new.link)
             (is_whole_head result) (fault_of_head result) }
@@ -55,7 +58,9 @@ impl<L: Link + Drop> Transfer<L> {
             &mut self.link,
             &mut self.received,
             search,
+            &mut self.room,
             &mut left,
+            found,
         );
         self.budget = budget_left(self.budget, left);
         read
@@ -64,6 +69,7 @@ impl<L: Link + Drop> Transfer<L> {
     /// Reads payload of the body; None is its end (RFC 9112, section 6). A refusal is answered
     /// again; out of memory only while payload is kept. A piece may keep the block alive that it
     /// was received in.
+    #[inline(always)]
     pub fn poll_read_body_bytes(&mut self) -> Poll<Result<Option<Bytes>, Error>>
         ensures again { IfSome self.old.body.refused (λ error. (result ≡ Ready (Err error))
             × (self.new ≡ self.old)) }
@@ -81,7 +87,6 @@ impl<L: Link + Drop> Transfer<L> {
         }
         let mut left = allowance_of(self.budget);
         let read = read_body(
-            self.alloc,
             &mut self.link,
             &mut self.received,
             &mut self.body.reader,
@@ -94,6 +99,7 @@ impl<L: Link + Drop> Transfer<L> {
     }
 
     /// Reads the rest of the body.
+    #[inline(always)]
     pub fn poll_drain(&mut self) -> Poll<Result<(), Error>>
         ensures again { IfSome self.old.body.refused (λ error. (result ≡ Ready (Err error))
             × (self.new ≡ self.old)) }
@@ -108,7 +114,6 @@ impl<L: Link + Drop> Transfer<L> {
         }
         let mut left = allowance_of(self.budget);
         let stop = drain_body(
-            self.alloc,
             &mut self.link,
             &mut self.received,
             &mut self.body.reader,

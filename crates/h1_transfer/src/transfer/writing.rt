@@ -9,7 +9,7 @@ use crate::delivering::{Delivery, deliver, with_count};
 use crate::writing_body::{EndTaken, take_end, take_piece};
 use bytes::Bytes;
 use futures::task::Poll;
-use h1_body::{Framing, Wire};
+use h1_body::Framing;
 use h1_error::Error;
 use h1_link::Link;
 
@@ -24,14 +24,24 @@ impl<L: Link + Drop> Transfer<L> {
     ghost use Rattle.h1_transfer.specs.declared.outgoing.Step.TheVariants.{Free, Head};
     ghost use Rattle.std.specs.Prelude.{◌&&◌};
 
+    /// Room for the bytes of a head: that of the head before.
+    pub fn head_room(&mut self) -> Vec<u8>
+        requires free { self.old.outgoing.step ≡ Free }
+        requires unrefused { self.old.outgoing.refused ≡ None }
+        ensures { self.new ≡ self.old }
+    {
+        self.outgoing.owed.take_room()
+    }
+
     /// Takes up a head, whose body has this framing.
-    pub fn take_up_head(&mut self, head: Wire, framing: Framing)
+    #[inline(always)]
+    pub fn take_up_head(&mut self, head: Vec<u8>, framing: Framing)
         requires free { self.old.outgoing.step ≡ Free }
         requires unrefused { self.old.outgoing.refused ≡ None }
         ensures takes { self.new
             ≡ record self.old {
               outgoing = record self.old.outgoing {
-                owed = head;
+                owed = head.items;
                 writer = begun framing;
                 headed = true;
                 step = Head;
@@ -39,13 +49,14 @@ impl<L: Link + Drop> Transfer<L> {
             } }
         ensures settled { self.old.outgoing.owed ≡ [] }
     {
-        self.outgoing.owed = head;
+        self.outgoing.owed.put_head(head);
         self.outgoing.writer.begin(framing);
         self.outgoing.headed = true;
         self.outgoing.step = Step::Head;
     }
 
     /// Goes on with the write that is in progress.
+    #[inline(always)]
     pub fn poll_deliver(&mut self, how: Delivery) -> Poll<Result<(), Error>>
         ensures delivers { Delivers L.state how self.old self.new result }
         ensures calls { Called (L.state self.old.link) (L.state self.new.link)
@@ -60,6 +71,7 @@ impl<L: Link + Drop> Transfer<L> {
 
     /// Writes a piece of the body (RFC 9112, section 6), and says how much of it was taken, or None
     /// where none is admitted any more.
+    #[inline(always)]
     pub fn poll_write_body(&mut self, buf: &mut Option<Bytes>) -> Poll<Result<Option<usize>, Error>>
         requires free { IsPieceStep buf.old self.old.outgoing.step }
         ensures again { IfSome self.old.outgoing.refused (λ error. (result ≡ Ready (Err error))
@@ -74,19 +86,12 @@ impl<L: Link + Drop> Transfer<L> {
             return Poll::Ready(Err(error));
         }
         let count = take_piece(&mut self.outgoing, buf);
-        let mut left = allowance_of(self.budget);
-        let answer = deliver(
-            &mut self.link,
-            &mut self.outgoing,
-            Delivery::Sent,
-            &mut left,
-        );
-        self.budget = budget_left(self.budget, left);
-        with_count(answer, count)
+        with_count(self.poll_deliver(Delivery::Sent), count)
     }
 
     /// Writes the end of the body and flushes it, and says how much payload was taken in all, or
     /// None where no body was begun or it was finished before.
+    #[inline(always)]
     pub fn poll_finish_body(&mut self) -> Poll<Result<Option<usize>, Error>>
         requires free { IsEndStep self.old.outgoing.step }
         ensures again { IfSome self.old.outgoing.refused (λ error. (result ≡ Ready (Err error))
@@ -104,18 +109,10 @@ impl<L: Link + Drop> Transfer<L> {
             Ok(end) => end,
             Err(error) => return Poll::Ready(Err(error)),
         };
-        if end == EndTaken::Nothing {
+        if let EndTaken::Nothing = end {
             return Poll::Ready(Ok(None));
         }
         let written = self.outgoing.writer.written() as usize;
-        let mut left = allowance_of(self.budget);
-        let answer = deliver(
-            &mut self.link,
-            &mut self.outgoing,
-            Delivery::Flushed,
-            &mut left,
-        );
-        self.budget = budget_left(self.budget, left);
-        with_count(answer, Some(written))
+        with_count(self.poll_deliver(Delivery::Flushed), Some(written))
     }
 }

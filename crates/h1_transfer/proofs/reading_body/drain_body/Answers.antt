@@ -14,32 +14,27 @@ drains-init g c = record {
 }
 
 pub drains-preserved : goal.drains-preserved
-drains-preserved g c = record {
-  moved = (
-    c.drains.invariant.moved.0 ++ c.in-Piece.payload,
-    reads_body_on _ _ _ _ _ _ _ _ _ _ _ _ _ _ _ _ _ c.drains.invariant.moved.1
-        c.in-Piece.ensures.reads,
-  );
-  waits = c.in-Piece.ensures.cause.1 ∙ c.drains.invariant.waits;
-  parsed = λ less. parsed_behind _ _ _ _ _ _ _ _ _ _ _ _ c.drains.invariant.moved.1
-      c.drains.invariant.parsed c.in-Piece.ensures.parsed less;
-  calls = called_on _ _ _ _ _ c.drains.invariant.calls c.in-Piece.ensures.calls;
-  plan = g.met.L.Link.plan_on _ _ _ c.drains.invariant.plan c.in-Piece.ensures.plan;
-}
+drains-preserved g c =
+    let before = c.drains.invariant in
+    let read = c.in-Piece.ensures in
+    record {
+      moved = (before.moved.0 ++ c.in-Piece.payload, reads_body_on before.moved.1 read.reads);
+      waits = read.cause.1 ∙ before.waits;
+      parsed = parsed_behind before.moved.1 before.parsed read.parsed;
+      calls = called_on _ _ _ _ _ before.calls read.calls;
+      plan = g.met.L.Link.plan_on _ _ _ before.plan read.plan;
+    }
 
 pub drains-smaller : goal.drains-smaller
-drains-smaller g c = drains_less _ _ _ _ _ _ _ _ _ _ _ c.in-Piece.ensures.reads
-    c.in-Piece.ensures.cause.0
+drains-smaller g c = drains_less c.in-Piece.ensures.reads c.in-Piece.ensures.cause.0
     (omega (arith, c.len-left_over.ensures.bound, c.len-left_over.ensures.value))
 
 pub returns-in-Stopped-clause-parsed : goal.returns-in-Stopped-clause-parsed
-returns-in-Stopped-clause-parsed g c = λ less.
-    parsed_behind _ _ _ _ _ _ _ _ _ _ _ _ c.drains.invariant.moved.1 c.drains.invariant.parsed
-    c.in-Stopped.ensures.parsed less
+returns-in-Stopped-clause-parsed g c =
+    parsed_behind c.drains.invariant.moved.1 c.drains.invariant.parsed c.in-Stopped.ensures.parsed
 
 pub returns-in-Stopped-clause-reads : goal.returns-in-Stopped-clause-reads
 returns-in-Stopped-clause-reads g c = (
   c.drains.invariant.moved.0 ++ [],
-  reads_body_on _ _ _ _ _ _ _ _ _ _ _ _ _ _ _ _ _ c.drains.invariant.moved.1
-      c.in-Stopped.ensures.reads,
+  reads_body_on c.drains.invariant.moved.1 c.in-Stopped.ensures.reads,
 )

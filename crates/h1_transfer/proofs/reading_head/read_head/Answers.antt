@@ -13,23 +13,25 @@ reads-init g c = record {
   waits = refl;
   parsed = λ less. absurd (omega (arith, less));
   calls = called_itself _;
-  looked = c.requires;
+  looked = c.requires.looked;
+  none = c.requires.none;
   plan = g.met.L.Link.plan_itself _;
 }
 
 pub reads-preserved : goal.reads-preserved
 reads-preserved g c =
     let looked = rw c.as_slice.ensures at c.in-Ok-NotYet.ensures.looked in
+    let lacks = rw (c.as_slice.ensures, c.in-Ok-NotYet.field-0-is) at c.in-Ok-NotYet.ensures.ok in
     let spend : 1 ≤ c.reads.budget = omega arith in
     record {
       moved = received_fills _ _ _ _ _ _ _ _ Got c.reads.invariant.moved c.in-Got.ensures.fills spend;
       waits = c.in-Got.ensures.fills.cause.1 ∙ c.reads.invariant.waits;
       parsed = λ _. elim (cases_lt c.reads.budget c.args.budget.now) [
         | inl less ↦ c.reads.invariant.parsed less
-        | inr first ↦ read_nothing _ _ _ _ _ _ g.H.Head.lacks c.reads.invariant.moved first
-            (rw (c.as_slice.ensures, c.in-Ok-NotYet.field-0-is) at c.in-Ok-NotYet.ensures.ok)
+        | inr first ↦ read_nothing _ _ _ _ _ _ g.H.Head.lacks c.reads.invariant.moved first lacks.0
       ];
       calls = called_on _ _ _ _ _ c.reads.invariant.calls c.in-Got.ensures.calls;
+      none = lacks.1;
       looked = rw c.in-Got.ensures.fills.bytes (HasLooked-append _ _ _ _ looked);
       plan = g.met.L.Link.plan_on _ _ _ c.reads.invariant.plan c.fill.ensures.plan;
     }

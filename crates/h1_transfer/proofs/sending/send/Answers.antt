@@ -19,8 +19,8 @@ sends-preserved g c =
     let within : c.in-Took.count ≤ length c.front.result.now = c.in-Took.ensures.fits in
     let before = c.sends.invariant.moved in
     record {
-      moved = rw c.in-Took.ensures.state (rw c.advance.ensures (sent_on _ _ _ _ _ _ _ _ _ before
-          (sent_one _ _ _ _ _ c.front.ensures.front some within spend)));
+      moved = rw c.in-Took.ensures.state (rw c.advance.ensures
+          (sent_on before (sent_one _ _ _ _ _ c.front.ensures.front some within spend)));
       counted = c.saturating_add.ensures
           ∙ ap (λ n. min (n + c.in-Took.count) (2 ^ 64 - 1)) c.sends.invariant.counted
           ∙ sent_after_on _ _ before.piece _ _ before.bytes (front_len _ _ _ c.front.ensures.front within)

@@ -1,0 +1,114 @@
+//! The bytes that are owed to the link.
+ghost use Rattle.std.specs.Prelude.{◌≡◌, ◌<◌, ◌≤◌, ◌==◌, [], drop, take, length};
+
+use h1_body::Wire;
+use std::alloc::Global;
+use std::marker::Model;
+use std::mem;
+
+/// What was taken up and isn't written yet: the bytes of a head, or those of a part of a body.
+/// Contracts see the bytes that are left. The room of a head that was sent is kept for the next.
+#[derive(Drop)]
+pub struct Owed {
+    alloc: Global,
+    head: Vec<u8>,
+    /// How many bytes of the head were sent.
+    sent: usize,
+    wire: Wire,
+}
+
+impl Model for Owed {
+    ghost use Rattle.std.specs.Prelude.{ℕ, List, ◌++◌, ◌≤◌, drop, length};
+
+    ghost Value = { List ℕ };
+
+    ghost view = { λ owed. drop owed.sent owed.head.items ++ owed.wire };
+
+    ghost invariant = { λ owed. owed.sent ≤ length owed.head.items };
+}
+
+impl Owed {
+    /// Nothing is owed. It takes no memory.
+    pub fn new(alloc: Global) -> Self
+        ensures { result ≡ [] }
+    {
+        Owed {
+            alloc,
+            head: Vec::new(alloc),
+            sent: 0,
+            wire: Wire::empty(),
+        }
+    }
+
+    /// Hands out the room of the last head, where nothing is owed.
+    pub fn take_room(&mut self) -> Vec<u8>
+        requires { self.old ≡ [] }
+        ensures { self.new ≡ [] }
+    {
+        self.sent = 0;
+        mem::replace(&mut self.head, Vec::new(self.alloc))
+    }
+
+    /// Owes a head, where nothing is owed.
+    pub fn put_head(&mut self, head: Vec<u8>)
+        requires { self.old ≡ [] }
+        ensures { self.new ≡ head.items }
+    {
+        self.head = head;
+        self.sent = 0;
+    }
+
+    /// Owes these bytes in place of those that are left.
+    #[inline(always)]
+    pub fn put(&mut self, wire: Wire)
+        ensures { self.new ≡ wire }
+    {
+        self.sent = self.head.len();
+        // Most bodies end with no bytes.
+        if !wire.is_empty() || !self.wire.is_empty() {
+            self.wire = wire;
+        }
+    }
+
+    /// Owes nothing any more.
+    pub fn clear(&mut self)
+        ensures { self.new ≡ [] }
+    {
+        if !self.is_empty() {
+            self.put(Wire::empty());
+        }
+    }
+
+    pub fn is_empty(&self) -> bool
+        ensures { result ≡ (length self.now == 0) }
+    {
+        self.sent == self.head.len() && self.wire.is_empty()
+    }
+
+    /// The bytes of the first piece that isn't empty.
+    pub fn front(&self) -> &[u8]
+        ensures front { result.now ≡ take (length result.now) self.now }
+        ensures within { length result.now ≤ length self.now }
+        ensures some { 0 < length self.now → 0 < length result.now }
+    {
+        if self.sent < self.head.len() {
+            &self.head[self.sent..]
+        } else {
+            self.wire.front()
+        }
+    }
+
+    /// Leaves out this many bytes in front.
+    pub fn advance(&mut self, count: usize)
+        requires { count ≤ length self.old }
+        ensures { self.new ≡ drop count self.old }
+    {
+        let left = self.head.len() - self.sent;
+        if count <= left {
+            self.sent += count;
+        } else {
+            self.sent += left;
+            self.wire.advance(count - left);
+        }
+    }
+}
