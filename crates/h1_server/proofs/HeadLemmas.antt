@@ -34,13 +34,13 @@ stop_answer state old new s.NoMemory left result none begins is cause = rw is.1
 
 -- a call that read no head
 pub head_stopped : {L C : Type 0} (state : L → LinkState) (old : SessionView L C)
-    (new : TransferView L)
+    (new : TransferView L) (found : Option Request)
     (refused : Option Error) (stop : HeadStop) (result : Poll (Result ReadRequest Error))
-    → old.request ≡ None → old.refused ≡ None → StopsFor old.refused refused stop result
-    → ReadsHead state IsRequestOf RefusedAt NotYetAt (session.transfer old) new (h.Stopped stop)
-    → ReadsRequest state old (record (session.put old new) { refused = refused }) result
-head_stopped {L} {C} state old new refused stop result unread none is reads =
-    let behind : SessionView L C = record (session.put old new) { refused = refused } in
+    → old.refused ≡ None → StopsFor old.refused refused stop result
+    → ReadsHead state IsRequestOf RefusedAt NotYetAt (session.transfer old) new found (h.Stopped stop)
+    → ReadsRequest state old (record (session.put old new) { request = found; refused = refused }) result
+head_stopped {L} {C} state old new found refused stop result none is reads =
+    let behind : SessionView L C = record (session.put old new) { request = found; refused = refused } in
     record {
       bytes = new.received;
       left = reads.left;
@@ -48,10 +48,15 @@ head_stopped {L} {C} state old new refused stop result unread none is reads =
       received = reads.receives.received;
       budget = reads.budget;
       rest = ap (λ (t : TransferView L). let s : SessionView L C =
-          record (session.put old new) { refused = refused; reply = t.outgoing } in s) reads.rest;
+          record (session.put old new) { request = found; refused = refused; reply = t.outgoing } in s) reads.rest;
       few = reads.receives.few;
       answer = stop_answer state old behind stop reads.left result none
-          (record { request = unread; received = refl; body = ap (λ (t : TransferView L). t.body) reads.rest; settings = refl }) is reads.cause;
+          (record {
+            request = reads.cause.1;
+            received = refl;
+            body = ap (λ (t : TransferView L). t.body) reads.rest;
+            settings = refl;
+          }) is reads.cause.0;
     }
 
 -- until a head is read, its search has looked at a front of what is received
@@ -61,17 +66,18 @@ unread_searched request search received none looked = rw none looked
 
 -- a call that read a head: it is passed over, and its body begins
 pub head_read : {L C : Type 0} (state : L → LinkState) (old : SessionView L C)
-    (mid after new : TransferView L) (request : Request) (used n : ℕ)
+    (mid after new : TransferView L) (found : Option Request) (request : Request) (used n : ℕ)
     (settings : Settings)
-    → old.refused ≡ None
-    → ReadsHead state IsRequestOf RefusedAt NotYetAt (session.transfer old) mid (h.Whole request used)
+    → old.refused ≡ None → found ≡ Some request
+    → ReadsHead state IsRequestOf RefusedAt NotYetAt (session.transfer old) mid found (h.Whole used)
     → after ≡ record mid { received = drop used mid.received }
     → ((rest : List ℕ) → reads new.body.reader rest ≡ body request.framing rest)
     → new ≡ record after { body = record after.body { reader = new.body.reader; refused = None } }
     → n ≡ length request.raw → settings ≡ keepalive_set old.settings (wished request.wish)
-    → ReadsRequest state old (record (session.put old new) { request = Some request; settings = settings })
+    → ReadsRequest state old (record (session.put old new) { request = found; settings = settings })
     (Ready (Ok (read.Head n)))
-head_read {L} {C} state old mid after new request used n settings none told skips begins rest n_is settings_is =
+head_read {L} {C} state old mid after new found request used n settings none found_is told skips begins rest n_is
+    settings_is =
     let is = rest
     ∙ ap (λ (t : TransferView L). record t { body = record t.body { reader = new.body.reader; refused = None } })
     (skips ∙ ap (λ (t : TransferView L). record t { received = drop used mid.received }) told.rest) in
@@ -83,14 +89,14 @@ head_read {L} {C} state old mid after new request used n settings none told skip
       received = rw link told.receives.received;
       budget = ap (λ (t : TransferView L). t.budget) is ∙ told.budget;
       rest = ap (λ (t : TransferView L). let s : SessionView L C =
-          record (session.put old new) { request = Some request; settings = settings; reply = t.outgoing } in s) is;
+          record (session.put old new) { request = found; settings = settings; reply = t.outgoing } in s) is;
       few = rw link told.receives.few;
       answer = (
         request,
-        refl,
+        found_is,
         record {
           used = used;
-          is = told.cause.0;
+          is = rw found_is at told.cause.0;
           received = ap (λ (t : TransferView L). t.received) is;
           raw = n_is;
           reader = begins;

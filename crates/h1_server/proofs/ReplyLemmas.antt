@@ -1,12 +1,12 @@
 -- Lemmas on the call that writes the head of a reply.
-use Rattle.std.proofs.Common.{◌≡◌, ℕ, ◌≤◌, ◌<◌, List, [], ◌++◌, length, Bool, true, false, cond, IsTrue, Option, Some, None, IfNone, IfSome, Result, Ok, Err, refl, sym, ap, ◌∙◌, subst, append-nil}
+use Rattle.std.proofs.Common.{◌≡◌, ℕ, ◌≤◌, ◌<◌, List, [], ◌++◌, length, Bool, true, false, cond, IsTrue, Option, Some, None, IfNone, IfSome, Result, Ok, Err, refl, sym, ap, ◌∙◌, append-nil}
 use Rattle.h1_server.specs.Words.{Poll, Ready, Pending, Error, LinkState, ResponseView, flushes_head, TransferView, Outgoing, Head, Request}
-use Rattle.h1_transfer.specs.Writes.{Delivers}
+use Rattle.h1_transfer.specs.BodyWrites.{IsTakenUp}
+use Rattle.h1_transfer.specs.Writes.{Delivers, IsSameMessage}
 use Rattle.h1_transfer.specs.Writing.{DeliveryAnswer, IsDelivered, Owes}
 use Rattle.h1_transfer.specs.declared.delivering.Delivery.TheVariants as delivery
-use Rattle.h1_transfer.proofs.DeliveryLemmas.{Delivered, delivered, succeeds, refused_at}
-use Rattle.h1_transfer.proofs.WriteLemmas.{writes, same_reply, written_by}
-use Rattle.h1_server.specs.HeaderWrites.{HeaderCall, HeaderAnswer, TakesHeader, IsHeaderStep, keep_after, is_passed_over}
+use Rattle.h1_transfer.proofs.WriteLemmas.{written}
+use Rattle.h1_server.specs.HeaderWrites.{HeaderWrite, HeaderAnswer, HeaderTaking, IsHeaderStep, keep_after}
 use Rattle.h1_server.specs.Persistence.{keep_flag}
 use Rattle.h1_server.proofs.Words.{SessionView, session}
 use Rattle.h1_server.specs.TakingUp.{TakesUpHeader, head_delivery}
@@ -24,114 +24,88 @@ owes_unless true owed owes not_asked = absurd (cc)
 owes_unless false owed owes not_asked = owes
 
 header_answer : (before now : LinkState) (old new : Outgoing) (left : ℕ) (outcome : Poll (Result (Unit {0}) Error))
-    → old.step ≡ Head → old.refused ≡ None
-    → DeliveryAnswer (head_delivery old.writer.framing) before now old new left outcome
+    → new.writer ≡ old.writer → DeliveryAnswer (head_delivery old.writer.framing) None before now new Head left outcome
     → HeaderAnswer before now new left outcome
-header_answer before now old new left (Ready (Ok done)) at none h = (
-  succeeds old new _ none h.0,
-  rw (ap (λ (r : Outgoing). r.writer) h.0) (flushed_if (flushes_head old.writer.framing) now h.1),
-)
-header_answer before now old new left Pending at none h = (
-  record {
-    at_step = ap (λ (r : Outgoing). r.step) h.0 ∙ at;
-    refused = ap (λ (r : Outgoing). r.refused) h.0 ∙ none;
-    why = h.2;
-  },
-  rw (ap (λ (r : Outgoing). r.writer) h.0) (owes_unless (flushes_head old.writer.framing) new.owed h.1),
-)
-header_answer before now old new left (Ready (Err error)) at none h =
-    (refused_at before now old new Head error error.kind at none h.0, h.1)
+header_answer before now old new left (Ready (Ok done)) same h =
+    (h.0, rw same (flushed_if (flushes_head old.writer.framing) now h.1))
+header_answer before now old new left Pending same h =
+    (h.0, rw same (owes_unless (flushes_head old.writer.framing) new.owed h.1))
+header_answer before now old new left (Ready (Err error)) same h = h
 
 -- a header that can't be written stays
 pub header_kept : {L C : Type 0} (state : L → LinkState) (old : SessionView L C)
     (mid : TransferView L) (request : Request) (flag : Bool) (now : ℕ) (error : Error)
     (header kept : Option ResponseView)
-    → is_passed_over header old.reply.headed ≡ false
     → IfNone header ((Err error ≡ Ok (tt {0})) × (mid ≡ session.transfer old) × (kept ≡ None))
     → IfSome header (λ view. TakesUpHeader (session.transfer old) mid request flag view kept now (Err error))
-    → HeaderCall state old (session.put old mid) request header kept now (Ready (Err error))
-    (is_passed_over header old.reply.headed)
-header_kept state old mid request flag now error None kept unpassed goes takes = absurd (never goes.0) where
+    → HeaderWrite state old (session.put old mid) request header kept now (Ready (Err error))
+header_kept state old mid request flag now error None kept goes takes = absurd (never goes.0) where
   never : Err error ≡ Ok (tt {0}) → ⊥
   never same = cc
-header_kept {L} {C} state old mid request flag now error (Some view) kept unpassed goes takes =
-    subst (λ (b : Bool). HeaderCall state old (session.put old mid) request (Some view) kept now (Ready (Err error)) b)
-    (sym unpassed)
-    (rw takes.0 (record {
-      same = ap (λ (t : TransferView L). session.put old t) takes.1;
-      back = refl;
-      error = error;
-      answer = refl;
-      cause = takes.2;
-      retry = takes.3;
-    }))
+header_kept {L} state old mid request flag now error (Some view) kept goes takes = rw takes.0 (record {
+  same = ap (λ (t : TransferView L). session.put old t) takes.1;
+  back = refl;
+  error = error;
+  answer = refl;
+  cause = takes.2;
+  retry = takes.3;
+})
 
-takes_header : (old taken new : Outgoing) (request : Request) (flag given : Bool)
-    (header : ResponseView) (now : ℕ) (taking : List ℕ)
-    → given ≡ flag → TakesHeader old taken request given header now taking → Delivered taken new
-    → TakesHeader old new request flag header now taking
-takes_header old taken new request flag given header now taking same takes done = record {
-  version = takes.version;
-  date = takes.date;
-  is_date = takes.is_date;
-  bytes = rw (← same) takes.bytes;
-  headed = done.headed ∙ takes.headed;
-  writer = done.writer ∙ takes.writer;
-}
+-- what a header call takes up before it delivers
+header_taken : {L : Type 0} (old mid : TransferView L) (new : Outgoing) (request : Request) (was flag noted : Bool)
+    (now : ℕ) (header kept : Option ResponseView)
+    → noted ≡ keep_after header was flag → IsHeaderStep header old.outgoing.step
+    → IfNone header (◌≡◌ {A = Result (Unit {0}) Error} (Ok tt) (Ok tt) × (mid ≡ old) × (kept ≡ None))
+    → IfSome header (λ view. TakesUpHeader old mid request noted view kept now (Ok tt))
+    → IsSameMessage mid.outgoing new
+    → (taking : List ℕ) × HeaderTaking old.outgoing new request flag now taking header
+    × (mid.outgoing.owed ≡ old.outgoing.owed ++ taking) × IsTakenUp old.outgoing mid.outgoing Head
+    × (mid ≡ record old { outgoing = mid.outgoing }) × (kept ≡ None)
+header_taken old mid new request was flag noted now None kept noted_is free goes takes same = (
+  [],
+  (refl, rw goes.1 at same),
+  rw goes.1 (sym (append-nil old.outgoing.owed)),
+  rw goes.1 (record { step = free; refused = refl; sent = refl }),
+  rw goes.1 refl,
+  goes.2,
+)
+header_taken old mid new request was flag noted now (Some view) kept noted_is free goes takes same = (
+  mid.outgoing.owed,
+  record {
+    version = takes.1.version;
+    date = takes.1.date;
+    is_date = takes.1.is_date;
+    bytes = rw (← noted_is) takes.1.bytes;
+    headed = same.headed ∙ takes.1.headed;
+    writer = same.writer ∙ takes.1.writer;
+  },
+  rw takes.4 refl,
+  takes.2,
+  takes.3,
+  takes.0,
+)
 
 -- a header call that wrote
-pub header_written : {L C : Type 0} (state : L → LinkState) (old : SessionView L C)
-    (mid new : TransferView L) (request : Request) (flag : Bool) (now : ℕ)
-    (result : Result (Unit {0}) Error) (outcome : Poll (Result (Unit {0}) Error))
+pub header_written : {L C : Type 0} (state : L → LinkState) (old : SessionView L C) (mid new : TransferView L)
+    (request : Request) (noted : Bool) (now : ℕ) (outcome : Poll (Result (Unit {0}) Error))
     (header kept : Option ResponseView)
-    → is_passed_over header old.reply.headed ≡ false → flag ≡ keep_after header old.keep
-    (keep_flag request.wish old.settings old.body)
+    → noted ≡ keep_after header old.keep (keep_flag request.wish old.settings old.body)
     → IsHeaderStep header old.reply.step → old.reply.refused ≡ None
-    → IfNone header ((result ≡ Ok (tt {0})) × (mid ≡ session.transfer old) × (kept ≡ None))
-    → IfSome header (λ view. TakesUpHeader (session.transfer old) mid request flag view kept now
-    result)
-    → result ≡ Ok (tt {0}) → Delivers state (head_delivery mid.outgoing.writer.framing) mid new
-    outcome
-    → HeaderCall state old (record (session.put old new) { keep = flag }) request header kept now
-    outcome (is_passed_over header old.reply.headed)
-header_written {L} {C} state old mid new request flag now result outcome None
-    kept unpassed flag_is free unrefused goes takes ok d =
+    → IfNone header (◌≡◌ {A = Result (Unit {0}) Error} (Ok tt) (Ok tt) × (mid ≡ session.transfer old) × (kept ≡ None))
+    → IfSome header (λ view. TakesUpHeader (session.transfer old) mid request noted view kept now (Ok tt))
+    → Delivers state (head_delivery mid.outgoing.writer.framing) mid new outcome
+    → HeaderWrite state old (record (session.put old new) { keep = noted }) request header kept now outcome
+header_written state old mid new request noted now outcome header kept noted_is free unrefused goes takes delivers =
     let before = session.transfer old in
-    let same = goes.1 in
-    let taken_is = ap (λ (m : TransferView L). m.outgoing) same in
-    let frame = same ∙ ap (λ (o : Outgoing). record (session.transfer old) { outgoing = o }) (sym taken_is) in
-    let told = written_by state _ before mid new outcome frame d in
-    let done = delivered _ (state old.link) (state new.link) mid.outgoing new.outgoing d.left outcome told.1 in
-    rw (goes.2, flag_is) (record {
-      taking = [];
+    let flag = keep_flag request.wish old.settings old.body in
+    let up = header_taken before mid new.outgoing request old.keep flag noted now header kept noted_is free goes takes
+    delivers.same in
+    let d = rw up.4 at delivers in
+    let wrote = written state _ before new mid.outgoing up.0 Head outcome up.2 up.3 unrefused d in
+    rw (up.5, noted_is) (record {
+      taking = up.0;
       left = d.left;
-      writes = writes_in state old new [] d.left (writes state before new mid.outgoing d.left [] told.0
-          (ap (λ (r : Outgoing). r.owed) taken_is ∙ sym (append-nil old.reply.owed))
-          (ap (λ (r : Outgoing). r.sent) taken_is) done);
-      takes = (refl, same_reply old.reply mid.outgoing new.outgoing taken_is done);
-      answer = header_answer (state old.link) (state new.link) mid.outgoing new.outgoing d.left outcome
-          (ap (λ (r : Outgoing). r.step) taken_is ∙ free)
-          (ap (λ (r : Outgoing). r.refused) taken_is ∙ unrefused) told.1;
+      writes = writes_in state (record old { keep = keep_after header old.keep flag }) new up.0 d.left wrote.0;
+      takes = up.1;
+      answer = header_answer _ _ mid.outgoing new.outgoing _ outcome d.same.writer wrote.1;
     })
-header_written {L} {C} state old mid new request flag now result outcome (Some view)
-    kept unpassed flag_is free unrefused goes takes_any ok d =
-    let before = session.transfer old in
-    let takes =
-    subst (λ (r : Result (Unit {0}) Error). TakesUpHeader (session.transfer old) mid request flag view kept now r)
-    ok takes_any in
-    let told = written_by state _ before mid new outcome takes.3 d in
-    let done = delivered _ (state old.link) (state new.link) mid.outgoing new.outgoing d.left outcome told.1 in
-    subst (λ (b : Bool). HeaderCall state old (record (session.put old new) { keep = flag }) request
-    (Some view) kept now outcome b) (sym unpassed)
-    (rw (takes.0, flag_is) (record {
-      taking = mid.outgoing.owed;
-      left = d.left;
-      writes = writes_in state (record old { keep = keep_flag request.wish old.settings old.body })
-          new mid.outgoing.owed d.left (writes state before new mid.outgoing d.left
-          mid.outgoing.owed told.0
-          (ap (λ bytes. bytes ++ mid.outgoing.owed) (sym takes.4)) takes.2.sent done);
-      takes = takes_header old.reply mid.outgoing new.outgoing request _ flag view
-          now mid.outgoing.owed flag_is takes.1 done;
-      answer = header_answer (state old.link) (state new.link) mid.outgoing new.outgoing d.left outcome takes.2.step
-          (takes.2.refused ∙ unrefused) told.1;
-    }))

@@ -37,6 +37,7 @@ pub enum NoRequest {
 }
 
 /// The request that a head begins.
+#[inline(always)]
 pub(crate) fn request_of(head: RequestHead) -> Request
     ensures { IsMadeOf head result }
 {

@@ -11,7 +11,7 @@ use crate::settings::with_keepalive;
 use crate::{Request, Settings, Step};
 use h1_body::BodyBytes;
 use h1_error::Error;
-use h1_head::RequestHeader;
+use h1_head::{DateCache, RequestHeader, Room};
 use h1_link::Link;
 use h1_transfer::Transfer;
 use std::alloc::Global;
@@ -32,6 +32,8 @@ pub struct HttpSession<L: Link + Drop, C: Drop> {
     pub(crate) keep: bool,
     reusable: bool,
     context: Option<C>,
+    /// Stays from one request to the next.
+    dates: DateCache,
 }
 
 impl<L: Link + Drop, C: Drop> Model for HttpSession<L, C> {
@@ -73,6 +75,7 @@ impl<L: Link + Drop, C: Drop> HttpSession<L, C> {
             keep: false,
             reusable: false,
             context: None,
+            dates: DateCache::new(),
         })
     }
 
@@ -171,6 +174,23 @@ impl<L: Link + Drop, C: Drop> HttpSession<L, C> {
         ensures rest { self.new ≡ record self.old { body = record self.old.body { kept = None } } }
     {
         self.transfer.take_payload()
+    }
+
+    /// Lends a room for the body of a reply, with nothing in it. Bodies that are made in it share
+    /// blocks of memory with one another and with the heads of requests. Until it is given back
+    /// another stands in.
+    pub fn take_room(&mut self) -> Room
+        ensures empty { result ≡ [] }
+        ensures same { self.new ≡ self.old }
+    {
+        self.transfer.take_room()
+    }
+
+    /// Gives the room back.
+    pub fn put_room(&mut self, room: Room)
+        ensures { self.new ≡ self.old }
+    {
+        self.transfer.put_room(room);
     }
 
     /// Whether a read of the body was pending since this was last asked.

@@ -6,10 +6,9 @@ ghost use Rattle.h1_server.specs.HeadBytes.{IsHeadOf};
 ghost use Rattle.h1_server.specs.TakingUp.{TakesUpHeader, head_delivery};
 
 use crate::Request;
-use bytes::Bytes;
-use h1_body::{BodyWriter, Framing, Wire, reply_framing};
+use h1_body::{BodyWriter, Framing, reply_framing};
 use h1_error::{Error, ErrorType, HeadFault};
-use h1_head::{ResponseHeader, get_cached_date, is_http_1, reply_bytes};
+use h1_head::{DateCache, ResponseHeader, is_http_1, print_reply_head};
 use h1_link::Link;
 use h1_transfer::{Delivery, Transfer};
 
@@ -34,13 +33,15 @@ pub(crate) fn keep_after(header: &Option<ResponseHeader>, keep: bool, flag: bool
 }
 
 /// Takes up the header that is handed in, with the date of this moment and this flag. Where it can't
-/// be written it stays.
+/// be written it stays. Its bytes take the room of the head before.
+#[inline(always)]
 pub(crate) fn take_header<L: Link + Drop>(
     transfer: &mut Transfer<L>,
     request: &Request,
     keep: bool,
     header: &mut Option<ResponseHeader>,
     now: u64,
+    dates: &mut DateCache,
 ) -> Result<(), Error>
     requires free { IsHeaderStep header.old transfer.old.outgoing.step }
     requires unrefused { transfer.old.outgoing.refused ≡ None }
@@ -54,27 +55,35 @@ pub(crate) fn take_header<L: Link + Drop>(
     let Some(head) = header else {
         return Ok(());
     };
-    let wire = head_wire(head, keep, now)?;
+    let mut bytes = transfer.head_room();
+    print_head(head, keep, now, dates, &mut bytes)?;
     let framing = reply_framing(request.header.method(), head);
-    transfer.take_up_head(wire, framing);
+    transfer.take_up_head(bytes, framing);
     *header = None;
     Ok(())
 }
 
-/// The bytes of a final head, with its date and this flag.
-fn head_wire(head: &ResponseHeader, keep: bool, now: u64) -> Result<Wire, Error>
+/// Puts a final head, with its date and this flag, in place of what `out` holds.
+#[inline(always)]
+fn print_head(
+    head: &ResponseHeader,
+    keep: bool,
+    now: u64,
+    dates: &mut DateCache,
+    out: &mut Vec<u8>,
+) -> Result<(), Error>
     requires { now < YEAR_10000 }
-    ensures { IsHeadOf head.now keep now result }
+    ensures { IsHeadOf head.now keep now out.new.items result }
 {
     if !is_http_1(head.version()) {
         return Err(Error::from(ErrorType::InvalidHTTPHeader(HeadFault::UnsupportedVersion)));
     }
-    let date = get_cached_date(now);
-    let bytes = reply_bytes(head, &date, keep)?;
-    Ok(Wire::plain(Bytes::from_vec(bytes)?))
+    let date = dates.get(now);
+    print_reply_head(head, &date, keep, out)
 }
 
 /// What the head that was taken up asks for.
+#[inline(always)]
 pub(crate) fn head_delivery(writer: &BodyWriter) -> Delivery
     ensures { result ≡ head_delivery writer.now.framing }
 {

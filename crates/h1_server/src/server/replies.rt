@@ -1,7 +1,8 @@
 //! Writing a reply: its head, its body and its end.
-ghost use Rattle.std.specs.Prelude.{◌≡◌, ◌<◌, ◌≤◌, ◌⊎◌, IsSome, IfSome, IfNone, None, Some, true, false};
+ghost use Rattle.std.specs.Prelude.{◌≡◌, ◌<◌, ◌≤◌, ◌/◌, ◌⊎◌, IsSome, IfSome, IfNone, None, Some, true, false};
 ghost use Rattle.h1_error.specs.declared.moment.TheConstants.{YEAR_10000};
 ghost use Rattle.futures.specs.declared.task.Poll.TheVariants.{Ready};
+ghost use Rattle.h1_head.specs.Date.{IsDateAt};
 
 use super::HttpSession;
 use crate::persistence::keep_flag;
@@ -17,8 +18,18 @@ impl<L: Link + Drop, C: Drop> HttpSession<L, C> {
     ghost use Rattle.h1_server.specs.Replies.{HeaderCall, is_passed_over, WritesPiece, EndCall, stage_of, IsHeaderStep};
     ghost use Rattle.h1_transfer.specs.BodyWrites.{IsPieceStep, IsEndStep};
 
+    /// The value of Date at a moment, in milliseconds since 1970. It is printed once for a second.
+    pub fn date(&mut self, now: u64) -> [u8; 29]
+        requires { now < YEAR_10000 }
+        ensures date { IsDateAt (now / 1000) result }
+        ensures same { self.new ≡ self.old }
+    {
+        self.dates.get(now)
+    }
+
     /// Writes a final header, with its date and whether the connection is kept (RFC 9112,
     /// sections 4 and 9). After a final header nothing is written.
+    #[inline(always)]
     pub fn poll_write_response_header(
         &mut self,
         header: &mut Option<ResponseHeader>,
@@ -50,7 +61,8 @@ impl<L: Link + Drop, C: Drop> HttpSession<L, C> {
         };
         let flag = keep_flag(request.wish, self.settings, self.transfer.body());
         let keep = keep_after(header, self.keep, flag);
-        if let Err(error) = take_header(&mut self.transfer, request, keep, header, now) {
+        let dates = &mut self.dates;
+        if let Err(error) = take_header(&mut self.transfer, request, keep, header, now, dates) {
             return Poll::Ready(Err(error));
         }
         self.keep = keep;
@@ -60,6 +72,7 @@ impl<L: Link + Drop, C: Drop> HttpSession<L, C> {
 
     /// Writes a piece of the reply's body (RFC 9112, section 6), and says how much of it was
     /// taken, or None where none is admitted any more.
+    #[inline(always)]
     pub fn poll_write_body(
         &mut self,
         buf: &mut Option<Bytes>,
@@ -80,6 +93,7 @@ impl<L: Link + Drop, C: Drop> HttpSession<L, C> {
 
     /// Writes the end of the reply's body and flushes it, and says how much payload was taken in
     /// all, or None where no body was begun or it was finished before.
+    #[inline(always)]
     pub fn poll_finish_body(&mut self, now: u64) -> Poll<Result<Option<usize>, Error>>
         requires free { IsEndStep self.old.reply.step }
         ensures again { IfSome self.old.reply.refused (λ error. (result ≡ Ready (Err error))

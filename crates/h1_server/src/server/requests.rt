@@ -8,7 +8,7 @@ ghost use Rattle.h1_server.specs.Requests.{StopsFor};
 
 use super::HttpSession;
 use crate::settings::{wished, with_keepalive};
-use crate::{NoRequest, ReadRequest, Request};
+use crate::{NoRequest, ReadRequest};
 use bytes::Bytes;
 use futures::task::Poll;
 use h1_error::{Error, ErrorType};
@@ -38,6 +38,7 @@ impl<L: Link + Drop, C: Drop> HttpSession<L, C> {
 
     /// Reads the head of the request (RFC 9112, sections 2.2 and 3). Bytes that were received
     /// before are parsed before any read.
+    #[inline(always)]
     pub fn poll_read_request(&mut self, now: u64) -> Poll<Result<ReadRequest, Error>>
         requires { self.old.request ≡ None }
         ensures again { IfSome self.old.refused (λ error. (result ≡ Ready (Err error))
@@ -50,15 +51,19 @@ impl<L: Link + Drop, C: Drop> HttpSession<L, C> {
         if let Some(error) = self.asked.refused {
             return Poll::Ready(Err(error));
         }
-        let read: HeadRead<Request> = self.transfer.read_head(&mut self.asked.search);
+        let asked = &mut self.asked;
+        let read = self
+            .transfer
+            .read_head(&mut asked.search, &mut asked.request);
         match read {
-            HeadRead::Whole(request, used) => {
-                let len = request.raw.len();
+            HeadRead::Whole(used) => {
+                let Some(request) = &self.asked.request else {
+                    unreachable!()
+                };
                 self.transfer.skip(used);
                 self.transfer.begin_body(request.framing);
                 self.settings = with_keepalive(self.settings, wished(request.wish));
-                self.asked.request = Some(request);
-                Poll::Ready(Ok(ReadRequest::Head(len)))
+                Poll::Ready(Ok(ReadRequest::Head(request.raw.len())))
             }
             HeadRead::Stopped(stop) => stop_for(&mut self.asked.refused, stop),
         }

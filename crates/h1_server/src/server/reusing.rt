@@ -23,6 +23,7 @@ impl<L: Link + Drop, C: Drop> HttpSession<L, C> {
     ghost use Rattle.h1_transfer.specs.Calls.{Called, succeeds, read_fault_of};
 
     /// Reads the rest of the request's body (RFC 9112, section 9.3).
+    #[inline(always)]
     pub fn poll_drain_request_body(&mut self, now: u64) -> Poll<Result<(), Error>>
         requires { IsSome self.old.request }
         ensures again { IfSome self.old.body.refused (λ error. (result ≡ Ready (Err error))
@@ -38,6 +39,7 @@ impl<L: Link + Drop, C: Drop> HttpSession<L, C> {
 
     /// Whether the link may serve the next request: the rest of this one's body is read first. A
     /// link that isn't kept is shut, and so is one whose reply isn't whole.
+    #[inline(always)]
     pub fn poll_reuse(&mut self, now: u64) -> Poll<Result<bool, Error>>
         requires request { IsSome self.old.request }
         requires free { self.old.reply.step ≡ Free }
@@ -52,7 +54,7 @@ impl<L: Link + Drop, C: Drop> HttpSession<L, C> {
             self.transfer.shutdown();
             return Poll::Ready(Ok(false));
         }
-        match self.poll_drain_request_body(now) {
+        match self.transfer.poll_drain() {
             Poll::Pending => Poll::Pending,
             Poll::Ready(Err(error)) => Poll::Ready(Err(error)),
             Poll::Ready(Ok(())) => {
@@ -72,6 +74,7 @@ impl<L: Link + Drop, C: Drop> HttpSession<L, C> {
     /// Begins the next request on the same link: what was received and not used is parsed before
     /// any read. Keep-alive, pipelining, the budget and the context stay, and one request fewer may
     /// follow.
+    #[inline(always)]
     pub fn next_request(&mut self)
         requires { self.old.reusable ≡ true }
         ensures { AwaitsNext self.old self.new }

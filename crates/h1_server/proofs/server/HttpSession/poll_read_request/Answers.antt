@@ -5,25 +5,24 @@ use Rattle.h1_server.proofs.Words.{keepalive_set}
 use Rattle.h1_server.proofs.HeadLemmas.{head_read, head_stopped}
 use Rattle.h1_server.proofs.server.HttpSession.poll_read_request.Goals as goal
 
-pub returns-in-Whole-clause-reads : goal.returns-in-Whole-clause-reads
-returns-in-Whole-clause-reads g c =
+pub returns-in-Some-request-clause-reads : goal.returns-in-Some-request-clause-reads
+returns-in-Some-request-clause-reads g c =
     let unrefused = is_nothing c.self.inside.asked.refused c.in_default.not-Some in
     let settings = c.with_keepalive-self-inside.ensures ∙ ap (keepalive_set c.self.inside.settings) c.wished.ensures in
     rw (← c.self.view_is) (if_none c.self.inside.asked.refused _
     (head_read {C = g.row.C.Denot} g.L.Link.state _ c.read_head-read.new.self c.skip.new.self c.begin_body.new.self
-    c.in-Whole.request c.in-Whole.used
-    c.len-len.result c.with_keepalive-self-inside.result unrefused c.in-Whole.ensures.reads
+    c.read_head-read.new.found _ c.in-Whole.used
+    c.len.result c.with_keepalive-self-inside.result unrefused c.in-Some-request.is c.in-Whole.ensures.reads
     c.skip.ensures c.begin_body.ensures.begins
-    c.begin_body.ensures.rest c.len-len.ensures.value settings))
+    c.begin_body.ensures.rest c.len.ensures.value settings))
 
 pub returns-in-Stopped-clause-reads : goal.returns-in-Stopped-clause-reads
 returns-in-Stopped-clause-reads g c =
     let unrefused = is_nothing c.self.inside.asked.refused c.in_default.not-Some in
-    let unread = rw (← c.self.view_is) at c.requires in
     rw (← c.self.view_is) (if_none c.self.inside.asked.refused _
-    (head_stopped {C = g.row.C.Denot} g.L.Link.state _ c.read_head-read.new.self
+    (head_stopped {C = g.row.C.Denot} g.L.Link.state _ c.read_head-read.new.self c.read_head-read.new.found
     c.stop_for.new.refused c.in-Stopped.stop c.stop_for.result
-    unread unrefused c.stop_for.ensures.answer c.in-Stopped.ensures.reads))
+    unrefused c.stop_for.ensures.answer c.in-Stopped.ensures.reads))
 
 pub returns-in-Stopped-clause-calls : goal.returns-in-Stopped-clause-calls
 returns-in-Stopped-clause-calls g c =

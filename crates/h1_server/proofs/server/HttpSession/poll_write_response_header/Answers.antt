@@ -1,5 +1,5 @@
 -- A header is written, or stays where it is.
-use Rattle.std.proofs.Common.{◌∙◌, sym, ap, refl}
+use Rattle.std.proofs.Common.{◌∙◌, sym, ap}
 use Rattle.h1_transfer.proofs.OptionLemmas.{if_none, if_some, is_nothing}
 use Rattle.h1_server.specs.HeaderWrites.{keep_after}
 use Rattle.h1_server.proofs.ReplyLemmas.{header_kept, header_written}
@@ -10,9 +10,8 @@ returns-in-Err-clause-writes g c =
     let unpassed = sym (rw c.outgoing-2.ensures at c.is_passed_over.ensures) ∙ c.if-is_passed_over.false in
     rw (← c.self.view_is) (if_none c.self.inside.transfer.outgoing.refused _
     (if_some c.self.inside.asked.request _ c.in-Some-request.request c.in-Some-request.is
-    (header_kept {C = g.row.C.Denot} g.L.Link.state _ c.take_header.new.transfer _
-    c.keep_after-keep.result _ c.in-Err.error c.args.header.now _
-    unpassed c.in-Err.ensures.goes_on c.in-Err.ensures.takes)))
+    (rw unpassed (header_kept {C = g.row.C.Denot} g.L.Link.state _ c.take_header.new.transfer _
+    c.keep_after-keep.result _ c.in-Err.error c.args.header.now _ c.in-Err.ensures.goes_on c.in-Err.ensures.takes))))
 
 pub returns-clause-writes : goal.returns-clause-writes
 returns-clause-writes g c =
@@ -22,9 +21,9 @@ returns-clause-writes g c =
     let flag = c.keep_after-keep.ensures ∙ ap (λ flag. keep_after c.args.header.now
     c.self.inside.keep flag) (rw c.body.ensures at c.keep_flag-flag.ensures) in
     let delivers = rw (c.head_delivery-how.ensures, c.outgoing-3.ensures) at c.poll_deliver.ensures.delivers in
+    let took = c.in_default-take_header.ensures in
     rw (← c.self.view_is) (if_none c.self.inside.transfer.outgoing.refused _
     (if_some c.self.inside.asked.request _ c.in-Some-request.request c.in-Some-request.is
-    (header_written {C = g.row.C.Denot} g.L.Link.state _ c.take_header.new.transfer
-    c.poll_deliver.new.self _ c.keep_after-keep.result _ _ c.poll_deliver.result
-    c.args.header.now _ unpassed flag free unrefused c.in_default-take_header.ensures.goes_on
-    c.in_default-take_header.ensures.takes refl delivers)))
+    (rw unpassed (header_written {C = g.row.C.Denot} g.L.Link.state _ c.take_header.new.transfer
+    c.poll_deliver.new.self _ c.keep_after-keep.result _ c.poll_deliver.result c.args.header.now _ flag free unrefused
+    took.goes_on took.takes delivers))))
