@@ -21,7 +21,7 @@ pub budget_itself : (budget : Option ℕ) → budget ≡ option_map (λ left. le
 budget_itself None = refl
 budget_itself (Some left) = ap Some (omega arith)
 
-budget_on : (a b c : Option ℕ) (spent more : ℕ) → b ≡ option_map (λ left. left - spent) a
+pub budget_on : (a b c : Option ℕ) (spent more : ℕ) → b ≡ option_map (λ left. left - spent) a
     → c ≡ option_map (λ left. left - more) b
     → c ≡ option_map (λ left. left - (spent + more)) a
 budget_on a b c spent more first second = second ∙ ap (option_map (λ left. left - more)) first ∙ twice a
@@ -36,7 +36,7 @@ pub within_itself : (budget : Option ℕ) → IfSome budget (λ left. 0 ≤ left
 within_itself None = tt
 within_itself (Some left) = omega arith
 
-within_on : (a b : Option ℕ) (spent more : ℕ) → b ≡ option_map (λ left. left - spent) a
+pub within_on : (a b : Option ℕ) (spent more : ℕ) → b ≡ option_map (λ left. left - spent) a
     → IfSome a (λ left. spent ≤ left) → IfSome b (λ left. more ≤ left)
     → IfSome a (λ left. spent + more ≤ left)
 within_on None b spent more step first second = tt
@@ -254,15 +254,15 @@ pub reads_payload : {L C : Type 0} (state : L → LinkState) (old new : SessionV
     → Called (state old.link) (state new.link) (succeeds outcome) (read_fault_of outcome)
     → ReadsOnly state old new
 reads_payload state old new outcome there none call calls = record {
-  piece = call.reads.piece;
+  piece = call.reads.received.piece;
   used = call.reads.used;
   payload = call.payload;
   spent = allowance old.budget - call.left;
-  moved = call.reads.moved;
-  budget = budget_spent old.budget new.budget call.left call.reads.within call.budget;
+  moved = call.reads.received.moved;
+  budget = budget_spent old.budget new.budget call.left call.reads.received.within call.budget;
   within = within_spent old.budget call.left;
-  flushed = call.reads.flushed;
-  bytes = call.reads.bytes;
+  flushed = call.reads.received.flushed;
+  bytes = sym call.reads.received.bytes;
   decoded = call.reads.decoded;
   kept = call.reads.keeps_payload;
   request = ap (λ s. s.request) call.rest;

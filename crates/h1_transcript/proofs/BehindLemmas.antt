@@ -3,7 +3,7 @@ use Rattle.std.proofs.Common.{◌≡◌, ℕ, ◌+◌, ◌≤◌, inl, inr, List
 use Rattle.std.proofs.lemmas.Bool.{cases_lt}
 use Rattle.std.proofs.lemmas.List.{drop-append-le}
 use Rattle.std.specs.Io.KnownBytes.{append_known}
-use Rattle.h1_transcript.specs.Words.{LinkState, whole, unfinished, GrowsTo, framing, body, Framing, Counted, Chunked, UntilClose, Entry}
+use Rattle.h1_transcript.specs.Words.{LinkState, whole, unfinished, broken, GrowsTo, framing, body, Framing, Counted, Chunked, UntilClose, Entry}
 use Rattle.h1_head.proofs.RequestHeadLemmas.{HeadAt-append}
 use Rattle.h1_body.proofs.CountedLemmas.{counted_has, counted_lacks}
 use Rattle.h1_body.proofs.LawLemmas.{bodies_grow, only_bodies}
@@ -15,27 +15,32 @@ use Rattle.h1_transcript.specs.Exchange.{render}
 pub whole_within : (f : Framing) (bytes payload : List ℕ) (k : ℕ) → body f bytes ≡ whole payload k
     → k ≤ length bytes
 whole_within (Counted n) bytes payload k is = elim (cases_lt (length bytes) n) [
-  | inl lacks ↦ absurd (never (sym (counted_lacks n bytes lacks) ∙ is))
-  | inr has ↦ let same : n ≡ k = same_use (sym (counted_has n bytes has) ∙ is) in omega (arith, same, has)
-] where
-  never : unfinished bytes ≡ whole payload k → ⊥
-  never e = cc
-
-  same_use : whole (take n bytes) n ≡ whole payload k → n ≡ k
-  same_use e = cc
+  | inl lacks ↦
+      let clash : unfinished bytes ≡ whole payload k = sym (counted_lacks n bytes lacks) ∙ is in absurd cc
+  | inr has ↦
+      let told : whole (take n bytes) n ≡ whole payload k = sym (counted_has n bytes has) ∙ is in
+      let same : n ≡ k = cc in omega (arith, same, has)
+]
 whole_within Chunked bytes payload k is =
     let read = only_bodies bytes payload k is in
     let front : length (take k bytes) ≡ k = ap length read.2 ∙ sym read.3 in
     omega (arith, front, length-take k bytes)
-whole_within UntilClose bytes payload k is = absurd (never is) where
-  never : unfinished bytes ≡ whole payload k → ⊥
-  never e = cc
+whole_within UntilClose bytes payload k is =
+    let clash : unfinished bytes ≡ whole payload k = is in absurd cc
 
 -- and stays so with more bytes after them
 pub whole_stays : (f : Framing) (bytes more payload : List ℕ) (k : ℕ)
     → body f bytes ≡ whole payload k → body f (bytes ++ more) ≡ whole payload k
 whole_stays f bytes more payload k is =
     let grown : GrowsTo (whole payload k) (body f (bytes ++ more)) =
+    subst (λ b. GrowsTo b (body f (bytes ++ more))) is (bodies_grow f bytes more) in
+    grown
+
+-- as a broken one does
+pub broken_stays : (f : Framing) (bytes more payload : List ℕ) → body f bytes ≡ broken payload
+    → body f (bytes ++ more) ≡ broken payload
+broken_stays f bytes more payload is =
+    let grown : GrowsTo (broken payload) (body f (bytes ++ more)) =
     subst (λ b. GrowsTo b (body f (bytes ++ more))) is (bodies_grow f bytes more) in
     grown
 
@@ -107,12 +112,6 @@ pub read_map : (done : List Entry) (before now : Option (List ℕ)) (P Q : List 
     → IfTold before now (AfterRead done Q)
 read_map done before now P Q step h =
     told_map before now (AfterRead done P) (AfterRead done Q) (λ since p. (p.0, p.1, step p.0 p.2)) h
-
-pub wrote_map : (done : List Entry) (before now : Option (List ℕ)) (P Q : List ℕ → Type 0)
-    → ((rest : List ℕ) → P rest → Q rest) → IfTold before now (AfterWrote done P)
-    → IfTold before now (AfterWrote done Q)
-wrote_map done before now P Q step h =
-    told_map before now (AfterWrote done P) (AfterWrote done Q) (λ since p. (p.0, p.1, step p.0 p.2)) h
 
 -- nothing more is told
 pub read_same : (done : List Entry) (before now later : Option (List ℕ)) (P Q : List ℕ → Type 0)

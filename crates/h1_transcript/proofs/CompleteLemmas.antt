@@ -1,12 +1,11 @@
 -- Bytes that are whole requests alone: what is read of them, and what is left.
 use Rattle.std.proofs.Common.{◌≡◌, ℕ, ◌<◌, ◌≤◌, List, [], ◌∷◌, ◌++◌, length, drop, Bool, true, Option, Some, refl, sym, ◌∙◌, ap, subst, append-nil, length-append, arith}
-use Rattle.h1_transcript.specs.Words.{AllByRecursion, HeadFault, LinkState, RequestView, HeadAt, RefusedAt, wish, Body, whole, unfinished, broken, payload_of, GrowsTo, framing, body, Framing, Entry}
+use Rattle.h1_transcript.specs.Words.{AllByRecursion, HeadFault, LinkState, RequestView, HeadAt, RefusedAt, wish, Body, whole, unfinished, broken, payload_of, framing, body, Entry}
 use Rattle.std.proofs.lemmas.List.{append_cancel_left, drop-append-le}
 use Rattle.h1_head.proofs.RequestHeadLemmas.{HeadAt-append, HeadAt-unique, HeadAt-not_refused, HeadAt-not_begun, RefusedAt-append, RefusedAt-some}
-use Rattle.h1_body.proofs.LawLemmas.{bodies_grow}
 use Rattle.h1_transcript.proofs.Words.{AreOf, ReadBehind, LastStands, AreServed, IfTold, Message, Begins, EndsAs, Parses, empty, begun}
 use Rattle.h1_transcript.specs.Complete.{IsWished}
-use Rattle.h1_transcript.proofs.BehindLemmas.{whole_within, whole_stays}
+use Rattle.h1_transcript.proofs.BehindLemmas.{broken_stays, whole_within, whole_stays}
 use Rattle.h1_transcript.specs.Stream.{BehindBody, stuck}
 
 -- what is told of bytes holds of those that came
@@ -16,13 +15,6 @@ told_of before now front since P first last h =
     let told : IfTold (Some front) (Some (front ++ since)) P =
     subst (λ x. IfTold x (Some (front ++ since)) P) first (subst (λ x. IfTold before x P) last h) in
     subst P (sym (append_cancel_left front since told.0 told.1)) told.2
-
-broken_grown : (f : Framing) (bytes more payload : List ℕ) → body f bytes ≡ broken payload
-    → body f (bytes ++ more) ≡ broken payload
-broken_grown f bytes more payload is =
-    let grown : GrowsTo (broken payload) (body f (bytes ++ more)) =
-    subst (λ b. GrowsTo b (body f (bytes ++ more))) is (bodies_grow f bytes more) in
-    grown
 
 -- no head begins no bytes
 pub no_head : (bytes : List ℕ) (n : ℕ) (head : RequestView) (both : Bool) → bytes ≡ []
@@ -36,12 +28,8 @@ whole_of : (b : Body) (more : List Message) (Q : ℕ → Type 0)
     → BehindBody b Q ((more ≡ []) × (empty ≡ stuck))
     → (payload : List ℕ) × (k : ℕ) × (b ≡ whole payload k) × Q k
 whole_of (whole payload k) more Q h = (payload, k, refl, h)
-whole_of (unfinished payload) more Q h = absurd (never h.1) where
-  never : empty ≡ stuck → ⊥
-  never e = cc
-whole_of (broken payload) more Q h = absurd (never h.1) where
-  never : empty ≡ stuck → ⊥
-  never e = cc
+whole_of (unfinished payload) more Q h = let clash : empty ≡ stuck = h.1 in absurd cc
+whole_of (broken payload) more Q h = let clash : empty ≡ stuck = h.1 in absurd cc
 
 -- the first request has this head, a whole body, and only whole requests after it
 record First (bytes rest : List ℕ) (n : ℕ) (head : RequestView) (both : Bool) (requests : List Message) : Type 0 where
@@ -103,8 +91,9 @@ next_of bytes rest n head both payload k requests h is p =
     let one : whole f.payload f.k ≡ whole payload k =
     sym f.body_at ∙ whole_stays (framing head) (drop n bytes) rest payload k is in
     let within : k ≤ length (drop n bytes) = whole_within (framing head) (drop n bytes) payload k is in
+    let same : f.k ≡ k = cc in
     let behind : drop f.k (drop n bytes ++ rest) ≡ drop k (drop n bytes) ++ rest =
-    ap (λ i. drop i (drop n bytes ++ rest)) (same_use one) ∙ drop-append-le k (drop n bytes) rest within in
+    ap (λ i. drop i (drop n bytes ++ rest)) same ∙ drop-append-le k (drop n bytes) rest within in
     record {
       m = f.m;
       more = f.more;
@@ -114,15 +103,10 @@ next_of bytes rest n head both payload k requests h is p =
       payload_is = sym (ap payload_of (f.body_is ∙ one));
       parses = subst (λ xs. Parses xs f.more empty) behind f.parses;
     }
-  where
-    same_use : {front : List ℕ} {i : ℕ} → whole front i ≡ whole payload k → i ≡ k
-    same_use e = cc
 
 none_served : (requests : List Message) → requests ≡ [] → AreServed [] requests
 none_served [] none = tt
-none_served (m ∷ more) none = absurd (never none) where
-  never : m ∷ more ≡ [] → ⊥
-  never e = cc
+none_served (m ∷ more) none = absurd cc
 
 -- after the exchanges that ended the bytes are the requests that are left; where none is left, all
 -- were served
@@ -165,22 +149,19 @@ not_begun behind (m ∷ more) p x = HeadAt-not_begun behind p.0 m.head m.both p.
 pub not_cut : (behind : List ℕ) (left : List Message) (e : Entry) → Parses behind left empty
     → LastStands behind e (unfinished e.body) → ⊥
 not_cut behind left e p x =
-    let f =
-    first_of behind [] x.n e.head e.both left x.head (subst (λ xs. Parses xs left empty) (sym (append-nil behind)) p) in
-    never (sym x.body ∙ ap (body (framing e.head)) (sym (append-nil (drop x.n behind))) ∙ f.body_at)
-  where
-    never : {payload : List ℕ} {k : ℕ} → unfinished e.body ≡ whole payload k → ⊥
-    never e = cc
+    let f = first_of behind [] x.n e.head e.both left x.head
+    (subst (λ xs. Parses xs left empty) (sym (append-nil behind)) p) in
+    let clash : unfinished e.body ≡ whole f.payload f.k =
+    sym x.body ∙ ap (body (framing e.head)) (sym (append-nil (drop x.n behind))) ∙ f.body_at in
+    absurd cc
 
 -- and no body of a front of them is broken
 pub not_broken : (behind rest : List ℕ) (left : List Message) (e : Entry)
     → Parses (behind ++ rest) left empty → LastStands behind e (broken e.body) → ⊥
 not_broken behind rest left e p x =
     let f = first_of behind rest x.n e.head e.both left x.head p in
-    never (sym (broken_grown (framing e.head) (drop x.n behind) rest e.body x.body) ∙ f.body_at)
-  where
-    never : {payload : List ℕ} {k : ℕ} → broken e.body ≡ whole payload k → ⊥
-    never e = cc
+    let clash : broken e.body ≡ whole f.payload f.k =
+    sym (broken_stays (framing e.head) (drop x.n behind) rest e.body x.body) ∙ f.body_at in absurd cc
 
 -- the first of several exchanges is that of the first request, which is whole
 record Front (now : LinkState) (d : Entry) (behind : List Entry) (requests : List Message) : Type 0 where

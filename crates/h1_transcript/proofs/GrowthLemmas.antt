@@ -6,18 +6,23 @@ use Rattle.h1_link.proofs.Laters.{later_itself, rose_read_faults}
 use Rattle.h1_transcript.specs.Growth.{Extends, Grows, Stays, DatedAt, RepliedOn, RefusedIn, IsBegun, ExtendsLast}
 use Rattle.h1_transcript.specs.Entries.{replies}
 
-stays_same : {T : Type 0} (a : Option T) → Stays a a
-stays_same None = tt
-stays_same (Some value) = refl
+-- what is there stays
+pub stays_itself : {T : Type 0} (o : Option T) → Stays o o
+stays_itself None = tt
+stays_itself (Some value) = refl
 
-dated_same : (now : ℕ) (sent : Option ResponseView) (e : Entry) → e.sent_head ≡ sent
-    → DatedAt now sent e e
-dated_same now None e is = rw is tt
-dated_same now (Some header) e is = (refl, refl, refl)
+-- a header that stays keeps its date and its flag
+pub dated_same : (now : ℕ) (head : Option ResponseView) (old new : Entry) → old.sent_head ≡ head
+    → new.sent_head ≡ old.sent_head
+    → new.date ≡ old.date → new.date_text ≡ old.date_text → new.keep ≡ old.keep
+    → DatedAt now head old new
+dated_same now None old new is head date text keep = rw (head ∙ is) tt
+dated_same now (Some header) old new is head date text keep = (date, text, keep)
 
-replied_same : (reply : Option Reply) (e : Entry) → RepliedOn reply e e
-replied_same None e = tt
-replied_same (Some reply) e = (refl, refl, refl)
+pub replied_same : (reply : Option Reply) (old new : Entry) → new.how ≡ old.how
+    → new.left ≡ old.left → new.handed ≡ old.handed → RepliedOn reply old new
+replied_same None old new how left handed = tt
+replied_same (Some reply) old new how left handed = (how, left, handed)
 
 pub refused_same : (before behind : LinkState) (refused : Option Error)
     → RefusedIn before behind refused refused
@@ -29,16 +34,16 @@ pub grows_same : (now : ℕ) (before behind : LinkState) (e : Entry) → Grows n
 grows_same now before behind e = record {
   head = refl;
   both = refl;
-  filtered = stays_same e.filtered;
+  filtered = stays_itself e.filtered;
   body = ([], sym (append-nil e.body));
   handed = omega arith;
-  body_error = stays_same e.body_error;
+  body_error = stays_itself e.body_error;
   refused = refused_same before behind e.body_error;
-  reply = stays_same e.reply;
-  replied = replied_same e.reply e;
-  sent_head = stays_same e.sent_head;
-  dated = dated_same now e.sent_head e refl;
-  sent_body = stays_same e.sent_body;
+  reply = stays_itself e.reply;
+  replied = replied_same e.reply e e refl refl refl;
+  sent_head = stays_itself e.sent_head;
+  dated = dated_same now e.sent_head e e refl refl refl refl refl;
+  sent_body = stays_itself e.sent_body;
   written = omega arith;
   began = refl;
 }
@@ -74,143 +79,96 @@ replied_on (Some reply) a b c first x y =
     let same = rw first at y in
     (same.0 ∙ x.0, same.1 ∙ x.1, same.2 ∙ x.2)
 
--- a read that failed in a part failed in the whole
-refused_front : (first second third : LinkState) → Later second third → (refused : Option Error)
-    → RefusedIn first second None refused → RefusedIn first third None refused
-refused_front first second third later None x = tt
-refused_front first second third later (Some error) x = λ is.
-    rose_read_faults 1 first first second third (later_itself first) (x is) later
+module _ (now : ℕ) (shutdown : Bool) (first second third : LinkState)
+    (before : Later first second) (behind : Later second third) where
+  -- a read that failed in a part failed in the whole
+  refused_front : (refused : Option Error) → RefusedIn first second None refused
+      → RefusedIn first third None refused
+  refused_front None x = tt
+  refused_front (Some error) x = λ is.
+      rose_read_faults 1 first first second third (later_itself first) (x is) behind
 
-refused_back : (first second third : LinkState) → Later first second → (refused : Option Error)
-    → RefusedIn second third None refused → RefusedIn first third None refused
-refused_back first second third later None x = tt
-refused_back first second third later (Some error) x = λ is.
-    rose_read_faults 1 first second third third later (x is) (later_itself third)
+  refused_back : (refused : Option Error) → RefusedIn second third None refused
+      → RefusedIn first third None refused
+  refused_back None x = tt
+  refused_back (Some error) x = λ is.
+      rose_read_faults 1 first second third third before (x is) (later_itself third)
 
-refused_on : (first second third : LinkState) → Later first second → Later second third
-    → (a b c : Option Error)
-    → Stays a b → Stays b c → RefusedIn first second a b → RefusedIn second third b c
-    → RefusedIn first third a c
-refused_on first second third before behind (Some error) b c stays still x y = tt
-refused_on first second third before behind None None c stays still x y = refused_back first second third before c y
-refused_on first second third before behind None (Some error) c stays still x y =
-    rw still (refused_front first second third behind (Some error) x)
+  refused_on : (a b c : Option Error) → Stays a b → Stays b c → RefusedIn first second a b
+      → RefusedIn second third b c → RefusedIn first third a c
+  refused_on (Some error) b c stays still x y = tt
+  refused_on None None c stays still x y = refused_back c y
+  refused_on None (Some error) c stays still x y = rw still (refused_front (Some error) x)
 
-grows_on : (now : ℕ) (first second third : LinkState) → Later first second → Later second third
-    → (a b c : Entry)
-    → Grows now first second a b → Grows now second third b c → Grows now first third a c
-grows_on now first second third before behind a b c x y = record {
-  head = y.head ∙ x.head;
-  both = y.both ∙ x.both;
-  filtered = stays_on _ _ _ x.filtered y.filtered;
-  body = (x.body.0 ++ y.body.0, y.body.1 ∙ ap (λ xs. xs ++ y.body.0) x.body.1 ∙ append_assoc a.body x.body.0 y.body.0);
-  handed = omega arith;
-  body_error = stays_on _ _ _ x.body_error y.body_error;
-  refused = refused_on first second third before behind
-      a.body_error b.body_error c.body_error x.body_error y.body_error x.refused y.refused;
-  reply = stays_on _ _ _ x.reply y.reply;
-  replied = replied_on a.reply a b c x.reply x.replied y.replied;
-  sent_head = stays_on _ _ _ x.sent_head y.sent_head;
-  dated = dated_on now a.sent_head a b c refl x.sent_head x.dated y.sent_head y.dated;
-  sent_body = stays_on _ _ _ x.sent_body y.sent_body;
-  written = omega arith;
-  began = y.began ∙ x.began;
-}
+  grows_on : (a b c : Entry) → Grows now first second a b → Grows now second third b c
+      → Grows now first third a c
+  grows_on a b c x y = record {
+    head = y.head ∙ x.head;
+    both = y.both ∙ x.both;
+    filtered = stays_on _ _ _ x.filtered y.filtered;
+    body = (
+      x.body.0 ++ y.body.0,
+      y.body.1 ∙ ap (λ xs. xs ++ y.body.0) x.body.1 ∙ append_assoc a.body x.body.0 y.body.0,
+    );
+    handed = omega arith;
+    body_error = stays_on _ _ _ x.body_error y.body_error;
+    refused = refused_on a.body_error b.body_error c.body_error x.body_error y.body_error x.refused y.refused;
+    reply = stays_on _ _ _ x.reply y.reply;
+    replied = replied_on a.reply a b c x.reply x.replied y.replied;
+    sent_head = stays_on _ _ _ x.sent_head y.sent_head;
+    dated = dated_on now a.sent_head a b c refl x.sent_head x.dated y.sent_head y.dated;
+    sent_body = stays_on _ _ _ x.sent_body y.sent_body;
+    written = omega arith;
+    began = y.began ∙ x.began;
+  }
 
--- an exchange that began goes on
-begun_on : (now : ℕ) (shutdown : Bool) (first second third : LinkState) → Later first second
-    → Later second third → (b c : Entry)
-    → IsBegun now shutdown first second b → Grows now second third b c
-    → IsBegun now shutdown first third c
-begun_on now shutdown first second third before behind b c x y = record {
-  keep_off = rw y.began x.keep_off;
-  dated = date_on now b.sent_head b c refl x.dated y.sent_head y.dated;
-  refused = refused_on first second third before behind
-      None b.body_error c.body_error tt y.body_error x.refused y.refused;
-}
+  -- an exchange that began goes on
+  begun_on : (b c : Entry) → IsBegun now shutdown first second b → Grows now second third b c
+      → IsBegun now shutdown first third c
+  begun_on b c x y = record {
+    keep_off = rw y.began x.keep_off;
+    dated = date_on now b.sent_head b c refl x.dated y.sent_head y.dated;
+    refused = refused_on None b.body_error c.body_error tt y.body_error x.refused y.refused;
+  }
 
-begun_back : (now : ℕ) (shutdown : Bool) (first second third : LinkState) → Later first second
-    → (c : Entry) → IsBegun now shutdown second third c → IsBegun now shutdown first third c
-begun_back now shutdown first second third before c y = record {
-  keep_off = y.keep_off;
-  dated = y.dated;
-  refused = refused_back first second third before c.body_error y.refused;
-}
+  -- exchanges that began in a part began in the whole
+  all_back : (c : List Entry) → AllByRecursion (IsBegun now shutdown second third) c
+      → AllByRecursion (IsBegun now shutdown first third) c
+  all_back [] h = tt
+  all_back (e ∷ more) h = (
+    record { keep_off = h.0.keep_off; dated = h.0.dated; refused = refused_back e.body_error h.0.refused },
+    all_back more h.1,
+  )
 
--- exchanges that began in a part began in the whole
-all_back : (now : ℕ) (shutdown : Bool) (first second third : LinkState) → Later first second
-    → (c : List Entry) → AllByRecursion (IsBegun now shutdown second third) c
-    → AllByRecursion (IsBegun now shutdown first third) c
-all_back now shutdown first second third before [] h = tt
-all_back now shutdown first second third before (e ∷ more) h =
-    (begun_back now shutdown first second third before e h.0, all_back now shutdown first second third before more h.1)
+  all_on : (b c : List Entry) → AllByRecursion (IsBegun now shutdown first second) b
+      → Extends now shutdown second third b c → AllByRecursion (IsBegun now shutdown first third) c
+  all_on [] c x y = all_back c y
+  all_on (e ∷ []) [] x y = absurd y
+  all_on (e ∷ []) (n ∷ more) x y = (begun_on e n x.0 y.0, all_back more y.1)
+  all_on (e ∷ f ∷ later) [] x y = absurd y
+  all_on (e ∷ f ∷ later) (n ∷ more) x y =
+      (rw y.0 (begun_on e e x.0 (grows_same now second third e)), all_on (f ∷ later) more x.1 y.1)
 
-all_on : (now : ℕ) (shutdown : Bool) (first second third : LinkState) → Later first second
-    → Later second third → (b c : List Entry)
-    → AllByRecursion (IsBegun now shutdown first second) b → Extends now shutdown second third b c
-    → AllByRecursion (IsBegun now shutdown first third) c
-all_on now shutdown first second third before behind [] c x y = all_back now shutdown first second third before c y
-all_on now shutdown first second third before behind (e ∷ []) [] x y = absurd y
-all_on now shutdown first second third before behind (e ∷ []) (n ∷ more) x y =
-    (begun_on now shutdown first second third before behind e n x.0 y.0, all_back now shutdown first second third before more y.1)
-all_on now shutdown first second third before behind (e ∷ f ∷ later) [] x y = absurd y
-all_on now shutdown first second third before behind (e ∷ f ∷ later) (n ∷ more) x y = (
-  rw y.0 (begun_on now shutdown first second third before behind e e x.0 (grows_same now second third e)),
-  all_on now shutdown first second third before behind (f ∷ later) more x.1 y.1,
-)
+  none_behind : (f : Entry) (later : List Entry)
+      → Extends now shutdown first second (f ∷ later) [] → ⊥
+  none_behind f [] h = h
+  none_behind f (g ∷ more) h = h
 
-none_behind : (now : ℕ) (shutdown : Bool) (before behind : LinkState) (f : Entry)
-    (later : List Entry)
-    → Extends now shutdown before behind (f ∷ later) [] → ⊥
-none_behind now shutdown before behind f [] h = h
-none_behind now shutdown before behind f (g ∷ more) h = h
-
--- a transcript that grew twice grew
-pub extends_on : (now : ℕ) (shutdown : Bool) (first second third : LinkState) → Later first second
-    → Later second third → (a b c : List Entry)
-    → Extends now shutdown first second a b → Extends now shutdown second third b c
-    → Extends now shutdown first third a c
-extends_on now shutdown first second third before behind [] b c x y =
-    all_on now shutdown first second third before behind b c x y
-extends_on now shutdown first second third before behind (e ∷ []) [] c x y = absurd x
-extends_on now shutdown first second third before behind (e ∷ []) (n ∷ []) [] x y = absurd y
-extends_on now shutdown first second third before behind (e ∷ []) (n ∷ []) (m ∷ rest) x y =
-    (grows_on now first second third before behind e n m x.0 y.0, all_back now shutdown first second third before rest y.1)
-extends_on now shutdown first second third before behind (e ∷ []) (n ∷ g ∷ more) [] x y = absurd y
-extends_on now shutdown first second third before behind (e ∷ []) (n ∷ g ∷ more) (m ∷ rest) x y = (
-  rw y.0 (grows_on now first second third before behind e n n x.0 (grows_same now second third n)),
-  all_on now shutdown first second third before behind (g ∷ more) rest x.1 y.1,
-)
-extends_on now shutdown first second third before behind (e ∷ f ∷ later) [] c x y = absurd x
-extends_on now shutdown first second third before behind (e ∷ f ∷ later) (n ∷ []) c x y =
-    absurd (none_behind now shutdown first second f later x.1)
-extends_on now shutdown first second third before behind (e ∷ f ∷ later) (n ∷ g ∷ more) [] x y = absurd y
-extends_on now shutdown first second third before behind (e ∷ f ∷ later) (n ∷ g ∷ more) (m ∷ rest) x y =
-    (y.0 ∙ x.0, extends_on now shutdown first second third before behind (f ∷ later) (g ∷ more) rest x.1 y.1)
-
-pub extends_itself : (now : ℕ) (shutdown : Bool) (before behind : LinkState) (a : List Entry)
-    → Extends now shutdown before behind a a
-extends_itself now shutdown before behind [] = tt
-extends_itself now shutdown before behind (e ∷ []) = (grows_same now before behind e, tt)
-extends_itself now shutdown before behind (e ∷ f ∷ later) =
-    (refl, extends_itself now shutdown before behind (f ∷ later))
-
--- the last exchange extends the transcript, after those that ended
-pub extends_last : (now : ℕ) (shutdown : Bool) (first second : LinkState) (done : List Entry)
-    (old new : Option Entry)
-    → ExtendsLast now shutdown first second old new
-    → Extends now shutdown first second (done ++ option_to_list old) (done ++ option_to_list new)
-extends_last now shutdown first second [] None None h = tt
-extends_last now shutdown first second [] None (Some b) h = (h, tt)
-extends_last now shutdown first second [] (Some a) None h = absurd h
-extends_last now shutdown first second [] (Some a) (Some b) h = (h, tt)
-extends_last now shutdown first second (e ∷ []) None None h = (grows_same now first second e, tt)
-extends_last now shutdown first second (e ∷ []) None (Some b) h = (grows_same now first second e, (h, tt))
-extends_last now shutdown first second (e ∷ []) (Some a) None h = absurd h
-extends_last now shutdown first second (e ∷ []) (Some a) (Some b) h =
-    (refl, extends_last now shutdown first second [] (Some a) (Some b) h)
-extends_last now shutdown first second (e ∷ f ∷ more) old new h =
-    (refl, extends_last now shutdown first second (f ∷ more) old new h)
+  -- a transcript that grew twice grew
+  pub extends_on : (a b c : List Entry) → Extends now shutdown first second a b
+      → Extends now shutdown second third b c → Extends now shutdown first third a c
+  extends_on [] b c x y = all_on b c x y
+  extends_on (e ∷ []) [] c x y = absurd x
+  extends_on (e ∷ []) (n ∷ []) [] x y = absurd y
+  extends_on (e ∷ []) (n ∷ []) (m ∷ rest) x y = (grows_on e n m x.0 y.0, all_back rest y.1)
+  extends_on (e ∷ []) (n ∷ g ∷ more) [] x y = absurd y
+  extends_on (e ∷ []) (n ∷ g ∷ more) (m ∷ rest) x y =
+      (rw y.0 (grows_on e n n x.0 (grows_same now second third n)), all_on (g ∷ more) rest x.1 y.1)
+  extends_on (e ∷ f ∷ later) [] c x y = absurd x
+  extends_on (e ∷ f ∷ later) (n ∷ []) c x y = absurd (none_behind f later x.1)
+  extends_on (e ∷ f ∷ later) (n ∷ g ∷ more) [] x y = absurd y
+  extends_on (e ∷ f ∷ later) (n ∷ g ∷ more) (m ∷ rest) x y =
+      (y.0 ∙ x.0, extends_on (f ∷ later) (g ∷ more) rest x.1 y.1)
 
 -- replies add up
 pub replies_append : (xs ys : List Entry) → replies (xs ++ ys) ≡ replies xs + replies ys
@@ -225,14 +183,32 @@ reply_stays e n h = by e.reply refl h where
   by None is stays = rw is (omega arith)
   by (Some reply) is stays = rw (is, stays) (omega arith)
 
--- and so they only become more
-pub replies_grow : (now : ℕ) (shutdown : Bool) (before behind : LinkState) (a b : List Entry)
-    → Extends now shutdown before behind a b → replies a ≤ replies b
-replies_grow now shutdown before behind [] b h = omega arith
-replies_grow now shutdown before behind (e ∷ []) [] h = absurd h
-replies_grow now shutdown before behind (e ∷ []) (n ∷ more) h =
-    let one = reply_stays e n h.0.reply in omega (arith, one)
-replies_grow now shutdown before behind (e ∷ f ∷ later) [] h = absurd h
-replies_grow now shutdown before behind (e ∷ f ∷ later) (n ∷ more) h =
-    let rest = replies_grow now shutdown before behind (f ∷ later) more h.1 in
-    rw h.0 (omega (arith, rest))
+module _ (now : ℕ) (shutdown : Bool) (first second : LinkState) where
+  pub extends_itself : (a : List Entry) → Extends now shutdown first second a a
+  extends_itself [] = tt
+  extends_itself (e ∷ []) = (grows_same now first second e, tt)
+  extends_itself (e ∷ f ∷ later) = (refl, extends_itself (f ∷ later))
+
+  -- the last exchange extends the transcript, after those that ended
+  pub extends_last : (done : List Entry) (old new : Option Entry)
+      → ExtendsLast now shutdown first second old new
+      → Extends now shutdown first second (done ++ option_to_list old) (done ++ option_to_list new)
+  extends_last [] None None h = tt
+  extends_last [] None (Some b) h = (h, tt)
+  extends_last [] (Some a) None h = absurd h
+  extends_last [] (Some a) (Some b) h = (h, tt)
+  extends_last (e ∷ []) None None h = (grows_same now first second e, tt)
+  extends_last (e ∷ []) None (Some b) h = (grows_same now first second e, (h, tt))
+  extends_last (e ∷ []) (Some a) None h = absurd h
+  extends_last (e ∷ []) (Some a) (Some b) h = (refl, extends_last [] (Some a) (Some b) h)
+  extends_last (e ∷ f ∷ more) old new h = (refl, extends_last (f ∷ more) old new h)
+
+  -- and so replies only become more
+  pub replies_grow : (a b : List Entry) → Extends now shutdown first second a b
+      → replies a ≤ replies b
+  replies_grow [] b h = omega arith
+  replies_grow (e ∷ []) [] h = absurd h
+  replies_grow (e ∷ []) (n ∷ more) h = let one = reply_stays e n h.0.reply in omega (arith, one)
+  replies_grow (e ∷ f ∷ later) [] h = absurd h
+  replies_grow (e ∷ f ∷ later) (n ∷ more) h =
+      let rest = replies_grow (f ∷ later) more h.1 in rw h.0 (omega (arith, rest))

@@ -1,6 +1,6 @@
 -- Every end of a connection with valid input is that of one that served it all, or being out of memory.
 use Rattle.std.proofs.Common.{◌≡◌, ◌≢◌, ℕ, ◌+◌, ◌-◌, ◌<◌, ◌⊎◌, inl, inr, List, [], ◌∷◌, ◌++◌, length, option_to_list, Bool, true, false, not, ◌&&◌, Option, Some, None, IfSome, refl, sym, ◌∙◌, ap, subst, append-nil, arith}
-use Rattle.h1_transcript.specs.Words.{AllByRecursion, Error, ErrorType, End, LinkState, Rose, ResponseView, wish, unfinished, broken, has_reuses, Reply, Entry, Whole}
+use Rattle.h1_transcript.specs.Words.{AllByRecursion, Error, ErrorType, End, LinkState, ResponseView, wish, unfinished, broken, has_reuses, Reply, Entry, Whole}
 use Rattle.std.proofs.lemmas.Bool.{false≢true}
 use Rattle.h1_error.specs.declared.error.ErrorType.TheVariants as kind
 use Rattle.h1_error.specs.declared.progress.End.TheVariants as end
@@ -10,23 +10,11 @@ use Rattle.h1_transcript.specs.Agrees.{Agrees}
 use Rattle.h1_transcript.specs.Given.{Given}
 use Rattle.h1_transcript.specs.Lawful.{IsLawful}
 use Rattle.h1_transcript.specs.Begun.{AreBegun, reuses_at}
-use Rattle.h1_transcript.specs.Behind.{is_until_close}
 use Rattle.h1_transcript.specs.Ends.{EndCause, FailureCause, AreAllDone, StopsLast, OfLast, LastAfter, ReadAll}
 use Rattle.h1_transcript.specs.Complete.{IsValid, GaveOf, AreWithin, NoFault, KeepsOn, ServesAll}
 use Rattle.h1_transcript.specs.Exchange.{IsAllowed, IsDated, may_keep}
 use Rattle.h1_transcript.specs.Stream.{refused}
 use Rattle.h1_transcript.proofs.CompleteLemmas.{told_of, left_of, none_left, not_refused, not_begun, not_cut, not_broken, last_wished}
-
--- the premises: valid input, of which the link gave a front, and exchanges that keep the connection
-record Serving (gives : Given → Reply → Type 0) (limit : Option ℕ)
-    (before old now : LinkState) (input : List ℕ) (requests : List Message)
-    (transcript : List Entry) : Type 0 where
-  valid : IsValid input requests
-  gave : GaveOf input before now
-  within : AreWithin limit (length requests)
-  faultless : NoFault old now
-  agrees : Agrees gives limit before now transcript
-  keeps : AllByRecursion KeepsOn transcript
 
 all_last : (P : Entry → Type 0) (done : List Entry) (e : Entry) → AllByRecursion P (done ++ e ∷ [])
     → P e
@@ -34,7 +22,7 @@ all_last P [] e h = h.0
 all_last P (d ∷ later) e h = all_last P later e h.1
 
 -- so many requests are left after the last exchange
-begun_last : (limit : Option ℕ) (i : ℕ) (pipelining : Bool) (done : List Entry) (e : Entry)
+pub begun_last : (limit : Option ℕ) (i : ℕ) (pipelining : Bool) (done : List Entry) (e : Entry)
     → AreBegun limit i pipelining (done ++ e ∷ [])
     → e.began.reuses ≡ reuses_at limit (i + length done)
 begun_last limit i pipelining [] e h =
@@ -70,194 +58,155 @@ flag_true : (e : Entry) → wish e.head e.both ≡ true → e.left.keep_off ≡ 
 flag_true e wished off left whole =
     rw whole (all_true (wish e.head e.both) e.left.keep_off (has_reuses e.left.reuses) true wished off left refl)
 
-parses_since : {gives : Given → Reply → Type 0} {limit : Option ℕ} {before old now : LinkState}
-    {input : List ℕ} {requests : List Message} {transcript : List Entry}
-    → (s : Serving gives limit before old now input requests transcript)
-    → Parses (s.gave.since ++ s.gave.rest) requests empty
-parses_since {requests = requests} s = subst (λ xs. Parses xs requests empty) s.gave.input_is s.valid.parses
+module _ (gives : Given → Reply → Type 0) (limit : Option ℕ) (before old now : LinkState)
+    (input : List ℕ) (requests : List Message) (done : List Entry) where
+  -- the premises: valid input, of which the link gave a front, and exchanges that keep the connection
+  record Serving (last : Option Entry) : Type 0 where
+    valid : IsValid input requests
+    gave : GaveOf input before now
+    within : AreWithin limit (length requests)
+    faultless : NoFault old now
+    agrees : Agrees gives limit before now (done ++ option_to_list last)
+    keeps : AllByRecursion KeepsOn (done ++ option_to_list last)
 
--- the flag of the last reply that was sent is true
-kept : (gives : Given → Reply → Type 0) (limit : Option ℕ) (before old now : LinkState)
-    (input : List ℕ) (requests : List Message) (done : List Entry) (e : Entry)
-    → Serving gives limit before old now input requests (done ++ e ∷ []) → e.sent_head ≢ None
-    → e.keep ≡ true
-kept gives limit before old now input requests done e s sent =
-    let read = told_of before.given now.given s.gave.front s.gave.since
-    (λ since. (read : List Message) × Begins since read × AreOf now (done ++ e ∷ []) read)
-    s.gave.before_is s.gave.now_is s.agrees.read in
-    let wished = last_wished now done e s.gave.since s.gave.rest read.0 requests read.1 read.2
-    (parses_since s) s.valid.wished in
-    let allowed = all_last (IsAllowed gives) done e s.agrees.allowed in
-    let keeps = all_last KeepsOn done e s.keeps in
-    let replied = reply_of e e.sent_head sent allowed.sent_head in
-    let on = if_some ((e.how ≡ Whole) × (e.left.keep_off ≡ false) × (e.left.pipelining ≡ true))
-    e.reply replied.0 replied.1 keeps.replied in
-    let left : has_reuses e.left.reuses ≡ true =
-    ap has_reuses (allowed.reuses ∙ begun_last limit 0 false done e s.agrees.begun)
-    ∙ some_left limit (0 + length done) (length requests) s.within (omega (arith, wished.1)) in
-    replied.2.keep ∙ flag_true e wished.0 on.1 left on.0
+  parses_since : (last : Option Entry) (s : Serving last)
+      → Parses (s.gave.since ++ s.gave.rest) requests empty
+  parses_since last s = subst (λ xs. Parses xs requests empty) s.gave.input_is s.valid.parses
 
--- and pipelining is on after it
-pipelined : (gives : Given → Reply → Type 0) (limit : Option ℕ) (before old now : LinkState)
-    (input : List ℕ) (requests : List Message) (done : List Entry) (e : Entry)
-    → Serving gives limit before old now input requests (done ++ e ∷ []) → e.sent_head ≢ None
-    → e.left.pipelining ≡ true
-pipelined gives limit before old now input requests done e s sent =
-    let allowed = all_last (IsAllowed gives) done e s.agrees.allowed in
-    let keeps = all_last KeepsOn done e s.keeps in
-    let replied = reply_of e e.sent_head sent allowed.sent_head in
-    let on = if_some ((e.how ≡ Whole) × (e.left.keep_off ≡ false) × (e.left.pipelining ≡ true))
-    e.reply replied.0 replied.1 keeps.replied in
-    on.2
+  -- a reply that was sent is dated, and what its exchange left keeps the connection
+  replied : (e : Entry) → Serving (Some e) → e.sent_head ≢ None
+      → IsDated e × ((e.how ≡ Whole) × (e.left.keep_off ≡ false) × (e.left.pipelining ≡ true))
+  replied e s sent =
+      let allowed = all_last (IsAllowed gives) done e s.agrees.allowed in
+      let reply = reply_of e e.sent_head sent allowed.sent_head in
+      let keeps = all_last KeepsOn done e s.keeps in
+      (reply.2, if_some _ e.reply reply.0 reply.1 keeps.replied)
 
--- what was read after the exchanges that ended, and the requests that are left
-record Rest (done : List Entry) (rest : List ℕ) (requests : List Message) (P : List ℕ → Type 0) : Type 0 where
-  behind : List ℕ
-  holds : P behind
-  left : List Message
-  parses : Parses (behind ++ rest) left empty
-  served : left ≡ [] → AreServed done requests
+  -- the flag of the last reply that was sent is true
+  kept : (e : Entry) → Serving (Some e) → e.sent_head ≢ None → e.keep ≡ true
+  kept e s sent =
+      let read = told_of before.given now.given s.gave.front s.gave.since
+      (λ since. (read : List Message) × Begins since read × AreOf now (done ++ e ∷ []) read)
+      s.gave.before_is s.gave.now_is s.agrees.read in
+      let wished = last_wished now done e s.gave.since s.gave.rest read.0 requests read.1 read.2
+      (parses_since (Some e) s) s.valid.wished in
+      let allowed = all_last (IsAllowed gives) done e s.agrees.allowed in
+      let left : has_reuses e.left.reuses ≡ true =
+      ap has_reuses (allowed.reuses ∙ begun_last limit 0 false done e s.agrees.begun)
+      ∙ some_left limit (0 + length done) (length requests) s.within (omega (arith, wished.1)) in
+      let on = replied e s sent in
+      on.0.keep ∙ flag_true e wished.0 on.1.1 left on.1.0
 
-rest_of : (gives : Given → Reply → Type 0) (limit : Option ℕ) (before old now : LinkState)
-    (input : List ℕ) (requests : List Message) (transcript done : List Entry) (P : List ℕ → Type 0)
-    → (s : Serving gives limit before old now input requests transcript)
-    → IfTold before.given now.given (AfterRead done P) → Rest done s.gave.rest requests P
-rest_of gives limit before old now input requests transcript done P s h =
-    let after = told_of before.given now.given s.gave.front s.gave.since (AfterRead done P)
-    s.gave.before_is s.gave.now_is h in
-    let left = left_of done s.gave.since after.0 s.gave.rest requests after.1 (parses_since s) in
-    record { behind = after.0; holds = after.2; left = left.0; parses = left.1; served = left.2 }
+  -- what was read after the exchanges that ended, and the requests that are left
+  record Rest (rest : List ℕ) (P : List ℕ → Type 0) : Type 0 where
+    behind : List ℕ
+    holds : P behind
+    left : List Message
+    parses : Parses (behind ++ rest) left empty
+    served : left ≡ [] → AreServed done requests
 
--- where the link ended nothing else comes
-all_given : (done : List Entry) (rest : List ℕ) (requests : List Message) (P : List ℕ → Type 0)
-    (r : Rest done rest requests P)
-    → rest ≡ [] → Parses r.behind r.left empty
-all_given done rest requests P r none =
-    subst (λ xs. Parses xs r.left empty) (ap (λ xs. r.behind ++ xs) none ∙ append-nil r.behind) r.parses
+  rest_of : (last : Option Entry) (P : List ℕ → Type 0) (s : Serving last)
+      → IfTold before.given now.given (AfterRead done P) → Rest s.gave.rest P
+  rest_of last P s h =
+      let after = told_of before.given now.given s.gave.front s.gave.since (AfterRead done P)
+      s.gave.before_is s.gave.now_is h in
+      let left = left_of done s.gave.since after.0 s.gave.rest requests after.1 (parses_since last s) in
+      record { behind = after.0; holds = after.2; left = left.0; parses = left.1; served = left.2 }
 
-finished : (gives : Given → Reply → Type 0) (limit : Option ℕ) (before old now : LinkState)
-    (input : List ℕ) (requests : List Message) (done : List Entry) (last : Option Entry)
-    → Serving gives limit before old now input requests (done ++ option_to_list last)
-    → EndCause before old now done last end.Finished → AreServed done requests
-finished gives limit before old now input requests done last s cause =
-    let r = rest_of gives limit before old now input requests (done ++ option_to_list last)
-    done (λ rest. EndsAs rest empty) s cause.2 in
-    r.served (none_left r.behind r.left r.holds
-    (all_given done s.gave.rest requests (λ rest. EndsAs rest empty) r (s.gave.ended cause.1)))
+  -- where the link ended nothing else comes
+  all_given : (rest : List ℕ) (P : List ℕ → Type 0) (r : Rest rest P) → rest ≡ []
+      → Parses r.behind r.left empty
+  all_given rest P r none =
+      subst (λ xs. Parses xs r.left empty) (ap (λ xs. r.behind ++ xs) none ∙ append-nil r.behind) r.parses
 
--- the connection is kept after each reply
-never_closed : (gives : Given → Reply → Type 0) (limit : Option ℕ) (before old now : LinkState)
-    (input : List ℕ) (requests : List Message) (done : List Entry) (last : Option Entry)
-    → Serving gives limit before old now input requests (done ++ option_to_list last)
-    → EndCause before old now done last end.NotKept → ⊥
-never_closed gives limit before old now input requests done None s cause = absurd cause
-never_closed gives limit before old now input requests done (Some e) s cause = by cause.3 where
-  by : (e.keep ≡ false) ⊎ (is_until_close e ≡ true) → ⊥
-  by (inl off) =
-      false≢true (sym off ∙ kept gives limit before old now input requests done e s cause.0.sent_head)
-  by (inr closes) = false≢true (sym (all_last KeepsOn done e s.keeps).closes ∙ closes)
+  finished : (last : Option Entry) → Serving last → EndCause before old now done last end.Finished
+      → AreServed done requests
+  finished last s cause =
+      let r = rest_of last (λ rest. EndsAs rest empty) s cause.2 in
+      r.served (none_left r.behind r.left r.holds
+      (all_given s.gave.rest (λ rest. EndsAs rest empty) r (s.gave.ended cause.1)))
 
--- bytes after a request are those of the next one
-never_over : (gives : Given → Reply → Type 0) (limit : Option ℕ) (before old now : LinkState)
-    (input : List ℕ) (requests : List Message) (done : List Entry) (last : Option Entry)
-    → Serving gives limit before old now input requests (done ++ option_to_list last)
-    → EndCause before old now done last end.Overread → ⊥
-never_over gives limit before old now input requests done None s cause = absurd cause
-never_over gives limit before old now input requests done (Some e) s cause =
-    false≢true (sym cause.1 ∙ pipelined gives limit before old now input requests done e s cause.0.complete.sent_head)
+  -- the connection is kept after each reply
+  never_closed : (last : Option Entry) → Serving last
+      → EndCause before old now done last end.NotKept → ⊥
+  never_closed None s cause = absurd cause
+  never_closed (Some e) s cause = elim cause.3 [
+    | inl off ↦ false≢true (sym off ∙ kept e s cause.0.sent_head)
+    | inr closes ↦ false≢true (sym (all_last KeepsOn done e s.keeps).closes ∙ closes)
+  ]
 
--- the link doesn't end inside a request
-never_inside : (gives : Given → Reply → Type 0) (limit : Option ℕ) (before old now : LinkState)
-    (input : List ℕ) (requests : List Message) (done : List Entry) (last : Option Entry)
-    (error : Error)
-    → Serving gives limit before old now input requests (done ++ option_to_list last)
-    → FailureCause before old now done last error kind.ConnectionClosed → ⊥
-never_inside gives limit before old now input requests done last error s cause = by last s cause.1 where
-  by : (last : Option Entry)
-      (s : Serving gives limit before old now input requests (done ++ option_to_list last))
-      → (AreAllDone before now done last
-      × IfTold before.given now.given (λ since. ReadAll since done begun))
-      ⊎ OfLast last (λ e. StopsLast before now done e error (Unit {0})
-      × IfTold before.given now.given (λ since. LastAfter since done e (unfinished e.body)))
-      → ⊥
-  by last s (inl h) =
-      let r = rest_of gives limit before old now input requests (done ++ option_to_list last)
-      done (λ rest. EndsAs rest begun) s h.1 in
-      not_begun r.behind r.left
-      (all_given done s.gave.rest requests (λ rest. EndsAs rest begun) r (s.gave.ended cause.0))
-      r.holds
-  by None s (inr h) = absurd h
-  by (Some e) s (inr h) =
-      let r = rest_of gives limit before old now input requests (done ++ e ∷ [])
-      done (λ rest. LastStands rest e (unfinished e.body)) s h.1 in
-      not_cut r.behind r.left e
-      (all_given done s.gave.rest requests (λ rest. LastStands rest e (unfinished e.body)) r (s.gave.ended cause.0))
-      r.holds
+  -- bytes after a request are those of the next one
+  never_over : (last : Option Entry) → Serving last
+      → EndCause before old now done last end.Overread → ⊥
+  never_over None s cause = absurd cause
+  never_over (Some e) s cause =
+      false≢true (sym cause.1 ∙ (replied e s cause.0.complete.sent_head).1.2)
 
--- no read failed, that of a body's error or another
-never_faulty : (gives : Given → Reply → Type 0) (limit : Option ℕ) (before old now : LinkState)
-    (input : List ℕ) (requests : List Message) (done : List Entry) (last : Option Entry)
-    (error : Error)
-    → Serving gives limit before old now input requests (done ++ option_to_list last)
-    → error.kind ≡ kind.ReadError → FailureCause before old now done last error kind.ReadError → ⊥
-never_faulty gives limit before old now input requests done last error s is (inl h) = s.faultless.reads h.1
-never_faulty gives limit before old now input requests done None error s is (inr h) = absurd h
-never_faulty gives limit before old now input requests done (Some e) error s is (inr h) = by h.0 where
-  by : StopsLast before now done e error (Rose old.read_faults now.read_faults) → ⊥
-  by (inl ends) =
-      subst (λ x. IfSome x (λ error. error.kind ≢ kind.ReadError)) ends.is (all_last KeepsOn done e s.keeps).unfailed is
-  by (inr met) = s.faultless.reads met.2
+  -- the link doesn't end inside a request
+  never_inside : (last : Option Entry) (error : Error) → Serving last
+      → FailureCause before old now done last error kind.ConnectionClosed → ⊥
+  never_inside last error s cause = by last s cause.1 where
+    by : (last : Option Entry) (s : Serving last)
+        → (AreAllDone before now done last
+        × IfTold before.given now.given (λ since. ReadAll since done begun))
+        ⊎ OfLast last (λ e. StopsLast before now done e error (Unit {0})
+        × IfTold before.given now.given (λ since. LastAfter since done e (unfinished e.body)))
+        → ⊥
+    by last s (inl h) =
+        let r = rest_of last (λ rest. EndsAs rest begun) s h.1 in
+        not_begun r.behind r.left
+        (all_given s.gave.rest (λ rest. EndsAs rest begun) r (s.gave.ended cause.0)) r.holds
+    by None s (inr h) = absurd h
+    by (Some e) s (inr h) =
+        let r = rest_of (Some e) (λ rest. LastStands rest e (unfinished e.body)) s h.1 in
+        not_cut r.behind r.left e
+        (all_given s.gave.rest (λ rest. LastStands rest e (unfinished e.body)) r (s.gave.ended cause.0))
+        r.holds
 
-failed : (gives : Given → Reply → Type 0) (limit : Option ℕ) (before old now : LinkState)
-    (input : List ℕ) (requests : List Message) (done : List Entry) (last : Option Entry)
-    (error : Error) (why : ErrorType)
-    → Serving gives limit before old now input requests (done ++ option_to_list last)
-    → error.kind ≡ why → FailureCause before old now done last error why
-    → error.kind ≡ kind.NoMemory
-failed gives limit before old now input requests done last error (kind.InvalidHTTPHeader fault) s is cause =
-    let r = rest_of gives limit before old now input requests (done ++ option_to_list last)
-    done (λ rest. EndsAs rest (refused fault)) s cause.1 in
-    absurd (not_refused r.behind s.gave.rest r.left fault r.parses r.holds)
-failed gives limit before old now input requests done last error kind.ConnectionClosed s is cause =
-    absurd (never_inside gives limit before old now input requests done last error s cause)
-failed gives limit before old now input requests done None error kind.InvalidBody s is cause = absurd cause
-failed gives limit before old now input requests done (Some e) error kind.InvalidBody s is cause =
-    let r = rest_of gives limit before old now input requests (done ++ e ∷ [])
-    done (λ rest. LastStands rest e (broken e.body)) s cause.1 in
-    absurd (not_broken r.behind s.gave.rest r.left e r.parses r.holds)
-failed gives limit before old now input requests done last error kind.ReadError s is cause =
-    absurd (never_faulty gives limit before old now input requests done last error s is cause)
-failed gives limit before old now input requests done last error kind.WriteError s is cause =
-    absurd (s.faultless.writes cause)
-failed gives limit before old now input requests done None error kind.PrematureBodyEnd s is cause = absurd cause
-failed gives limit before old now input requests done (Some e) error kind.PrematureBodyEnd s is cause =
-    absurd (false≢true (sym (all_last KeepsOn done e s.keeps).long ∙ cause.0.short))
-failed gives limit before old now input requests done last error kind.NoMemory s is cause = is
-failed gives limit before old now input requests done last error _ s is cause = absurd cause
+  -- no read failed, that of a body's error or another
+  never_faulty : (last : Option Entry) (error : Error) → Serving last
+      → error.kind ≡ kind.ReadError → FailureCause before old now done last error kind.ReadError → ⊥
+  never_faulty last error s is (inl h) = s.faultless.reads h.1
+  never_faulty None error s is (inr h) = absurd h
+  never_faulty (Some e) error s is (inr h) = elim h.0 [
+    | inl ends ↦ subst (λ x. IfSome x (λ error. error.kind ≢ kind.ReadError)) ends.is
+        (all_last KeepsOn done e s.keeps).unfailed is
+    | inr met ↦ s.faultless.reads met.2
+  ]
 
--- every end is that of a connection that served all
-served_so : (gives : Given → Reply → Type 0) (limit : Option ℕ) (before old now : LinkState)
-    (input : List ℕ) (requests : List Message) (done : List Entry) (last : Option Entry)
-    (reason : End)
-    → Serving gives limit before old now input requests (done ++ option_to_list last)
-    → EndCause before old now done last reason → ServesAll before now requests done last reason
-served_so gives limit before old now input requests done last end.Finished s cause =
-    (cause.0, finished gives limit before old now input requests done last s cause)
-served_so gives limit before old now input requests done last end.NotKept s cause =
-    absurd (never_closed gives limit before old now input requests done last s cause)
-served_so gives limit before old now input requests done last end.Overread s cause =
-    absurd (never_over gives limit before old now input requests done last s cause)
-served_so gives limit before old now input requests done last (end.Failed error) s cause =
-    failed gives limit before old now input requests done last error error.kind s refl cause.1
+  failed : (last : Option Entry) (error : Error) (why : ErrorType) → Serving last
+      → error.kind ≡ why → FailureCause before old now done last error why
+      → error.kind ≡ kind.NoMemory
+  failed last error (kind.InvalidHTTPHeader fault) s is cause =
+      let r = rest_of last (λ rest. EndsAs rest (refused fault)) s cause.1 in
+      absurd (not_refused r.behind s.gave.rest r.left fault r.parses r.holds)
+  failed last error kind.ConnectionClosed s is cause = absurd (never_inside last error s cause)
+  failed None error kind.InvalidBody s is cause = absurd cause
+  failed (Some e) error kind.InvalidBody s is cause =
+      let r = rest_of (Some e) (λ rest. LastStands rest e (broken e.body)) s cause.1 in
+      absurd (not_broken r.behind s.gave.rest r.left e r.parses r.holds)
+  failed last error kind.ReadError s is cause = absurd (never_faulty last error s is cause)
+  failed last error kind.WriteError s is cause = absurd (s.faultless.writes cause)
+  failed None error kind.PrematureBodyEnd s is cause = absurd cause
+  failed (Some e) error kind.PrematureBodyEnd s is cause =
+      absurd (false≢true (sym (all_last KeepsOn done e s.keeps).long ∙ cause.0.short))
+  failed last error kind.NoMemory s is cause = is
+  failed last error _ s is cause = absurd cause
 
-pub served : (gives : Given → Reply → Type 0) (limit : Option ℕ) (before old now : LinkState)
-    (input : List ℕ) (requests : List Message)
-    → (done : List Entry) (last : Option Entry) (reason : End)
-    → IsValid input requests → GaveOf input before now → AreWithin limit (length requests)
-    → NoFault old now → Agrees gives limit before now (done ++ option_to_list last)
-    → AllByRecursion KeepsOn (done ++ option_to_list last)
-    → EndCause before old now done last reason → ServesAll before now requests done last reason
-served gives limit before old now input requests done last reason valid gave within faultless agrees keeps cause =
-    served_so gives limit before old now input requests done last reason
-    (record { valid = valid; gave = gave; within = within; faultless = faultless; agrees = agrees; keeps = keeps })
-    cause
+  -- every end is that of a connection that served all
+  served_so : (last : Option Entry) (reason : End) → Serving last
+      → EndCause before old now done last reason → ServesAll before now requests done last reason
+  served_so last end.Finished s cause = (cause.0, finished last s cause)
+  served_so last end.NotKept s cause = absurd (never_closed last s cause)
+  served_so last end.Overread s cause = absurd (never_over last s cause)
+  served_so last (end.Failed error) s cause = failed last error error.kind s refl cause.1
+
+  pub served : (last : Option Entry) (reason : End)
+      → IsValid input requests → GaveOf input before now → AreWithin limit (length requests)
+      → NoFault old now → Agrees gives limit before now (done ++ option_to_list last)
+      → AllByRecursion KeepsOn (done ++ option_to_list last)
+      → EndCause before old now done last reason → ServesAll before now requests done last reason
+  served last reason valid gave within faultless agrees keeps cause =
+      served_so last reason
+      (record { valid = valid; gave = gave; within = within; faultless = faultless; agrees = agrees; keeps = keeps })
+      cause

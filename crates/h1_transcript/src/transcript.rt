@@ -96,6 +96,7 @@ impl Transcript {
     }
 
     /// The last exchange joins those that ended.
+    #[inline(always)]
     pub fn end_last(&mut self) -> Result<(), Error>
         requires { IsSome self.old.last }
         ensures ok { OnOk result
