@@ -183,14 +183,14 @@ reads_with_settings state old begun new is there set reads =
 how_failed : (body : BodyState) (error : Error) → body.refused ≡ Some error → how_of body ≢ Open
 how_failed body error is stands = let never : Failed ≡ Open = rw is at stands in cc
 
--- the head that the session has is the request's
-header_is : (request : Option Request) (now : Option Request) (head header : RequestView)
-    → now ≡ request → IsSome request
-    → IfSome request (λ r. r.header ≡ head) → IfSome now (λ r. header ≡ r.header) → header ≡ head
-header_is None now head header same there is has = absurd (false≢true there)
-header_is (Some r) now head header same there is has =
-    let here : header ≡ r.header = subst (λ o. IfSome o (λ r. header ≡ r.header)) same has in
-    here ∙ is
+-- the reply to the request that the session has is the reply to the head that is asked for
+reply_to_head : (request : Option Request) (head : RequestView) (body : List ℕ) (result : Result Reply Error)
+    → IsSome request → IfSome request (λ r. r.header ≡ head)
+    → IfOk result (λ reply. IfSome request (λ r. reply ≡ echo_reply r.header body None))
+    → IfOk result (λ reply. reply ≡ echo_reply head body None)
+reply_to_head None head body result there is h = absurd (false≢true there)
+reply_to_head (Some r) head body (Ok reply) there is h = h ∙ ap (λ asked. echo_reply asked body None) is
+reply_to_head (Some r) head body (Err error) there is h = tt
 
 -- what is set in the end
 settings_are : (request : Option Request) (head : RequestView) (began old begun : Settings)
@@ -200,39 +200,6 @@ settings_are : (request : Option Request) (head : RequestView) (began old begun 
 settings_are None head began old begun there is set from = absurd (false≢true there)
 settings_are (Some r) head began old begun there is set (inl same) = rw (set, is, same) refl
 settings_are (Some r) head began old begun there is set (inr same) = rw (set, is, same) refl
-
--- the reading of one call, with all that it says of the reply
-pub record Gave {L C : Type 0} (state : L → LinkState) (before now : List ℕ)
-    (old begun new : SessionView L C) : Type 0 where
-  pub request : IsSome old.request
-  pub set : begun ≡ record old { settings = begun.settings }
-  pub settings : IfSome old.request (λ r. begun.settings ≡ echo_settings r.header old.settings)
-  pub reads : ReadsOnly state begun new
-  pub kept : new.settings ≡ begun.settings
-  pub body : before ≡ payload_of begun → now ≡ payload_of new
-
--- what the reply depends on
-gave_left : {L C : Type 0} (state : L → LinkState) (before now : List ℕ)
-    (old begun new : SessionView L C) (head : RequestView) (began : Settings)
-    → IsAskedFor head old → EchoRuns before head began old.settings (payload_of old)
-    → Gave state before now old begun new
-    → new.settings ≡ echo_settings head began
-gave_left state before now old begun new head began asked runs gave =
-    gave.kept
-    ∙ settings_are old.request head began old.settings begun.settings gave.request asked gave.settings runs.settings
-
-gave_body : {L C : Type 0} (state : L → LinkState) (before now : List ℕ)
-    (old begun new : SessionView L C) (head : RequestView) (began : Settings)
-    → EchoRuns before head began old.settings (payload_of old) → Gave state before now old begun new
-    → now ≡ payload_of new
-gave_body {L} {C} state before now old begun new head began runs gave =
-    gave.body (runs.body ∙ ap (λ (s : SessionView L C). payload_of s) (sym gave.set))
-
-gave_request : {L C : Type 0} (state : L → LinkState) (before now : List ℕ)
-    (old begun new : SessionView L C) → Gave state before now old begun new
-    → new.request ≡ old.request
-gave_request {L} {C} state before now old begun new gave =
-    gave.reads.request ∙ ap (λ (s : SessionView L C). s.request) gave.set
 
 -- an answer that is there, or wants memory
 answers : (given : Given) (reply : Reply) (result : Result Reply Error)
@@ -244,48 +211,57 @@ answers given reply (Ok r) gives is small err =
     subst (EchoGives given) (sym is) (gives (subst (λ (r : Reply). length r.body < 2 ^ 63) is small))
 answers given reply (Err error) gives is small err = err
 
-pub gives_whole : {L C : Type 0} (state : L → LinkState) (before now handed : List ℕ)
-    (old begun new : SessionView L C) (head header : RequestView) (began : Settings)
-    (result : Result Reply Error)
-    → IsAskedFor head old → EchoRuns before head began old.settings (payload_of old)
-    → Gave state before now old begun new → (how_of new.body ≡ Whole) × (new.body.refused ≡ None)
-    → IfSome new.request (λ r. header ≡ r.header) → handed ≡ now
-    → IfOk result (λ reply. reply ≡ echo_reply header handed None)
-    → IfOk result (λ reply. length reply.body < 2 ^ 63) → IfErr result (λ error. error ≡ no_memory)
-    → GivesReply EchoGives (given_by head began new) (λ error. error ≡ no_memory) (Ready result)
-gives_whole state before now handed old begun new head header began result asked runs gave whole has same ok fits err =
-    answers (given_by head began new) (echo_reply header handed None) result (λ small. record {
-      small = small;
-      read = λ stands. let never : Whole ≡ Open = sym whole.0 ∙ stands in cc;
-      left = gave_left state before now old begun new head began asked runs gave;
-      is = rw (
-        header_is old.request new.request head header
-            (gave_request state before now old begun new gave) gave.request asked has,
-        same,
-        gave_body state before now old begun new head began runs gave,
-        whole.1,
-      ) refl;
-    }) ok fits err
+-- the reading of one call, and what the reply to it depends on
+module _ {L C : Type 0} (state : L → LinkState) (before now : List ℕ)
+    (old begun new : SessionView L C) (request : IsSome old.request)
+    (set : begun ≡ record old { settings = begun.settings })
+    (settings : IfSome old.request (λ r. begun.settings ≡ echo_settings r.header old.settings))
+    (reads : ReadsOnly state begun new) (kept : new.settings ≡ begun.settings)
+    (body : before ≡ payload_of begun → now ≡ payload_of new) (head : RequestView)
+    (began : Settings) (asked : IsAskedFor head old)
+    (runs : EchoRuns before head began old.settings (payload_of old)) where
+  left_so : new.settings ≡ echo_settings head began
+  left_so = kept
+      ∙ settings_are old.request head began old.settings begun.settings request asked settings runs.settings
 
-pub gives_refused : {L C : Type 0} (state : L → LinkState) (before now : List ℕ)
-    (old begun new : SessionView L C) (head : RequestView) (began : Settings)
-    (result : Result Reply Error)
-    → IsAskedFor head old → EchoRuns before head began old.settings (payload_of old)
-    → Gave state before now old begun new → (error : Error) × (new.body.refused ≡ Some error)
-    → IfOk result (λ reply. reply ≡ refused_reply) → IfErr result (λ error. error ≡ no_memory)
-    → GivesReply EchoGives (given_by head began new) (λ error. error ≡ no_memory) (Ready result)
-gives_refused state before now old begun new head began result asked runs gave refused ok err =
-    answers (given_by head began new) refused_reply result (λ small. record {
-      small = small;
-      read = how_failed new.body refused.0 refused.1;
-      left = gave_left state before now old begun new head began asked runs gave;
-      is = rw refused.1 refl;
-    }) ok (empty result ok) err
-  where
-    empty : (r : Result Reply Error) → IfOk r (λ reply. reply ≡ refused_reply)
-        → IfOk r (λ reply. length reply.body < 2 ^ 63)
-    empty (Ok reply) is = rw is (omega arith)
-    empty (Err error) is = tt
+  body_is : now ≡ payload_of new
+  body_is = body (runs.body ∙ ap (λ (s : SessionView L C). payload_of s) (sym set))
+
+  request_is : new.request ≡ old.request
+  request_is = reads.request ∙ ap (λ (s : SessionView L C). s.request) set
+
+  pub gives_whole : (left : SessionView L C) (result : Result Reply Error) → left ≡ new
+      → (how_of new.body ≡ Whole) × (new.body.refused ≡ None)
+      → IfOk result (λ reply. IfSome new.request (λ r. reply ≡ echo_reply r.header now None))
+      → IfOk result (λ reply. length reply.body < 2 ^ 63)
+      → IfErr result (λ error. error ≡ no_memory)
+      → GivesReply EchoGives (given_by head began left) (λ error. error ≡ no_memory) (Ready result)
+  gives_whole left result same whole ok fits err =
+      subst (λ s. GivesReply EchoGives (given_by head began s) (λ error. error ≡ no_memory) (Ready result))
+      (sym same)
+      (answers (given_by head began new) (echo_reply head now None) result (λ small. record {
+        small = small;
+        read = λ stands. let never : Whole ≡ Open = sym whole.0 ∙ stands in cc;
+        left = left_so;
+        is = rw (body_is, whole.1) refl;
+      }) (reply_to_head old.request head now result request asked (rw request_is at ok)) fits err)
+
+  pub gives_refused : (result : Result Reply Error)
+      → (error : Error) × (new.body.refused ≡ Some error)
+      → IfOk result (λ reply. reply ≡ refused_reply) → IfErr result (λ error. error ≡ no_memory)
+      → GivesReply EchoGives (given_by head began new) (λ error. error ≡ no_memory) (Ready result)
+  gives_refused result refused ok err =
+      answers (given_by head began new) refused_reply result (λ small. record {
+        small = small;
+        read = how_failed new.body refused.0 refused.1;
+        left = left_so;
+        is = rw refused.1 refl;
+      }) ok (empty result ok) err
+    where
+      empty : (r : Result Reply Error) → IfOk r (λ reply. reply ≡ refused_reply)
+          → IfOk r (λ reply. length reply.body < 2 ^ 63)
+      empty (Ok reply) is = rw is (omega arith)
+      empty (Err error) is = tt
 
 -- a reply of status 400 with no body
 pub refusal_is : (fresh now : ResponseView) (body : List ℕ) → fresh ≡ new_response 400

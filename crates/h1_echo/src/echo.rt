@@ -5,19 +5,17 @@ ghost use Rattle.h1_application.specs.Application.{ReadsOnly, payload_of};
 ghost use Rattle.h1_echo.specs.Echo.{EchoGives, echo_body, echo_fields, echo_reply, refused_reply, echo_settings};
 ghost use Rattle.h1_echo.specs.EchoRun.{EchoRuns, StopCause, Gathers, IsLonger, IsStopOf};
 
+use bytes::Bytes;
 use futures::task::Poll;
 use h1_application::ServeHttp;
 use h1_body::BodyBytes;
 use h1_error::{Error, ErrorType};
-use h1_head::{RequestHeader, ResponseHeader};
+use h1_head::{RequestHeader, ResponseHeader, Room};
 use h1_link::Link;
 use h1_server::HttpSession;
 use h1_transcript::Reply;
 use itoa::Buffer;
 use std::alloc::Global;
-
-/// The room that is made for the line with method and target.
-const LINE_ROOM: usize = 64;
 
 /// Replies with the method, the target and the body of the request. Some targets make it state the
 /// body's length in another way, or turn pipelining off.
@@ -53,6 +51,7 @@ impl<L: Link + Drop, C: Drop> ServeHttp<L, C> for EchoApp {
         })
     }
 
+    #[tactic(auto, using(crate::proofs::EchoLemmas::reads_with_settings))]
     fn poll_response(
         &self,
         job: &mut EchoJob,
@@ -64,11 +63,7 @@ impl<L: Link + Drop, C: Drop> ServeHttp<L, C> for EchoApp {
             Stopped::Waits => Poll::Pending,
             Stopped::Failed(error) => Poll::Ready(Err(error)),
             Stopped::Refused => Poll::Ready(refusal(job.alloc)),
-            Stopped::Whole => Poll::Ready(reply_to(
-                job.alloc,
-                http.req_header(),
-                job.body.as_slice(),
-            )),
+            Stopped::Whole => Poll::Ready(reply_in_room(job, http)),
         }
     }
 }
@@ -97,6 +92,7 @@ fn set_pipelining<L: Link + Drop, C: Drop>(http: &mut HttpSession<L, C>)
 }
 
 /// Reads on until the body ends or can't be read on.
+#[inline(always)]
 fn read_body<L: Link + Drop, C: Drop>(
     body: &mut BodyBytes,
     http: &mut HttpSession<L, C>,
@@ -120,6 +116,7 @@ fn read_body<L: Link + Drop, C: Drop>(
 }
 
 /// Reads once. None says that there may be more.
+#[inline(always)]
 fn read_piece<L: Link + Drop, C: Drop>(
     body: &mut BodyBytes,
     http: &mut HttpSession<L, C>,
@@ -139,7 +136,7 @@ fn read_piece<L: Link + Drop, C: Drop>(
         Poll::Pending => Some(Stopped::Waits),
         Poll::Ready(Ok(None)) => Some(Stopped::Whole),
         Poll::Ready(Err(error)) => Some(stop_of(error)),
-        Poll::Ready(Ok(Some(piece))) => match gather(body, piece.as_slice()) {
+        Poll::Ready(Ok(Some(piece))) => match gather(body, piece) {
             Ok(_) => None,
             Err(error) => Some(Stopped::Failed(error)),
         },
@@ -156,43 +153,78 @@ fn stop_of(error: Error) -> Stopped
     }
 }
 
-/// Adds a piece, and says how many bytes there are then.
-fn gather(body: &mut BodyBytes, piece: &[u8]) -> Result<usize, Error>
-    ensures ok { IfOk result (λ count. (body.new ≡ body.old ++ piece.now)
+/// Adds a piece, and says how many bytes there are then. The first piece is held, and later ones
+/// are copied behind it.
+#[inline(always)]
+fn gather(body: &mut BodyBytes, piece: Bytes) -> Result<usize, Error>
+    ensures ok { IfOk result (λ count. (body.new ≡ body.old ++ piece)
         × (count ≡ length body.new)) }
     ensures err { IfErr result (λ error. error ≡ no_memory) }
 {
-    body.append(piece)?;
+    body.append_piece(piece)?;
     Ok(body.len())
 }
 
+/// The reply to a request that was read to its end, with its body in the session's room.
+#[inline(always)]
+fn reply_in_room<L: Link + Drop, C: Drop>(
+    job: &EchoJob,
+    http: &mut HttpSession<L, C>,
+) -> Result<Reply, Error>
+    requires { IsSome http.old.request }
+    ensures ok { IfOk result (λ reply. IfSome http.old.request
+        (λ request. reply ≡ echo_reply request.header job.now.body None)) }
+    ensures small { IfOk result (λ reply. length reply.body < 2 ^ 63) }
+    ensures err { IfErr result (λ error. error ≡ no_memory) }
+    ensures same { http.new ≡ http.old }
+{
+    let mut room = http.take_room();
+    let reply = reply_to(job.alloc, &mut room, http.req_header(), job.body.as_slice());
+    http.put_room(room);
+    reply
+}
+
 /// The reply to a request that was read to its end.
-fn reply_to(alloc: Global, header: &RequestHeader, handed: &[u8]) -> Result<Reply, Error>
+#[inline(always)]
+fn reply_to(
+    alloc: Global,
+    room: &mut Room,
+    header: &RequestHeader,
+    handed: &[u8],
+) -> Result<Reply, Error>
+    requires { room.old ≡ [] }
     ensures ok { IfOk result (λ reply. reply ≡ echo_reply header.now handed.now None) }
     ensures small { IfOk result (λ reply. length reply.body < 2 ^ 63) }
     ensures err { IfErr result (λ error. error ≡ no_memory) }
 {
-    let body = body_of(alloc, header, handed)?;
+    let body = body_of(alloc, room, header, handed)?;
     let mut head = ResponseHeader::build(alloc, 200, Some(1))?;
     state_length(&mut head, header.raw_path(), body.len() as u64)?;
     Ok(Reply { header: head, body })
 }
 
 /// The body of the reply: the method, the target and the request's body.
-fn body_of(alloc: Global, header: &RequestHeader, handed: &[u8]) -> Result<BodyBytes, Error>
+#[inline(always)]
+fn body_of(
+    alloc: Global,
+    room: &mut Room,
+    header: &RequestHeader,
+    handed: &[u8],
+) -> Result<BodyBytes, Error>
+    requires { room.old ≡ [] }
     ensures ok { IfOk result (λ body. body ≡ echo_body header.now handed.now) }
     ensures err { IfErr result (λ error. error ≡ no_memory) }
 {
-    let mut body = BodyBytes::with_capacity(alloc, handed.len().saturating_add(LINE_ROOM))?;
-    body.append(header.method().as_str().as_bytes())?;
-    body.append(b" ")?;
-    body.append(header.raw_path())?;
-    body.append(b"\n")?;
-    body.append(handed)?;
-    Ok(body)
+    room.push(header.method().as_str().as_bytes())?;
+    room.push(b" ")?;
+    room.push(header.raw_path())?;
+    room.push(b"\n")?;
+    room.push(handed)?;
+    Ok(BodyBytes::from_shared(alloc, room.finish()?))
 }
 
 /// Adds the field that frames the body of the reply to this target.
+#[inline(always)]
 fn state_length(head: &mut ResponseHeader, target: &[u8], count: u64) -> Result<(), Error>
     requires fresh { head.old.fields ≡ [] }
     requires count { count < 2 ^ 63 }
@@ -212,6 +244,7 @@ fn state_length(head: &mut ResponseHeader, target: &[u8], count: u64) -> Result<
 }
 
 /// Adds the field that states this length.
+#[inline(always)]
 fn add_length(head: &mut ResponseHeader, length: u64) -> Result<(), Error>
     ensures ok { IfOk result
         (λ _. head.new
