@@ -11,12 +11,11 @@ use Rattle.h1_application.proofs.ReadLemmas.{budget_spent, within_spent}
 use Rattle.h1_body.proofs.ReadLemmas.{read_none}
 use Rattle.h1_error.specs.declared.error.ErrorType.TheVariants as kind
 use Rattle.h1_error.specs.declared.progress.End.TheVariants as end
-use Rattle.h1_app.proofs.Words.{MovesWithin, Accounted, ReadSo, ReadEntry, WroteSo, StopsBody, StopsWith, StoppedSo, StoodSo, SettledSo, IsNewEntry}
+use Rattle.h1_app.proofs.Words.{MovesWithin, Accounted, ReadSo, ReadEntry, WroteSo, StopsBody, StopsWith, StoppedSo, StoodSo, SettledSo, IsNewEntry, ReadAhead, ReadHead}
 use Rattle.h1_server.specs.Requests.{HeadRefusal}
-use Rattle.h1_app.specs.Accounted.{ReadAhead, ReadHead}
 use Rattle.h1_transcript.specs.Stream.{empty, begun, EndsAs}
 use Rattle.h1_transcript.specs.Ends.{ReadAll}
-use Rattle.h1_transcript.proofs.BehindLemmas.{told_map, read_on, read_map, wrote_map, wrote_same, flushed_on}
+use Rattle.h1_transcript.proofs.BehindLemmas.{told_map, read_on, read_map, wrote_same, flushed_on}
 
 pub rose_later : (sent before old new : ℕ) → old ≤ new → RoseBy sent before old
     → RoseBy sent before new
@@ -66,12 +65,10 @@ pub all_done : {L C : Type 0} (state : L → LinkState) (before : LinkState)
     → Accounted state before session done None → AreAllDone before (state session.link) done None
 all_done state before session done s = record {
   none = refl;
-  written = told_map before.written (state session.link).written (AfterWrote done (λ rest. rest ≡ []))
-      (λ since. WroteBehind since done [])
-      (λ since p. subst (λ xs. WroteBehind since done xs) p.2 p.1)
-      (wrote_map done before.written (state session.link).written
-      (λ rest. WroteSo rest session None × (session.reply.sent ≡ min (length rest) (2 ^ 64 - 1)))
-      (λ rest. rest ≡ []) (λ rest h. h.0.0) s.wrote);
+  written = told_map before.written (state session.link).written
+      (AfterWrote done (λ rest. WroteSo rest session None
+      × (session.reply.sent ≡ min (length rest) (2 ^ 64 - 1)))) (λ since. WroteBehind since done [])
+      (λ since p. subst (λ xs. WroteBehind since done xs) p.2.0.0 p.1) s.wrote;
   flushed = s.flushed;
 }
 
@@ -146,67 +143,61 @@ accounted_read state old new last next piece before done later given written sam
     }
 
 -- more was received, and no exchange was begun before
-accounted_more : {L C : Type 0} (state : L → LinkState) (old new : SessionView L C)
-    (last : Option Entry) (bytes : List ℕ) (budget left : ℕ) (before : LinkState) (done : List Entry)
-    → Received (state old.link) (state new.link) old.received bytes budget left
-    → new.reply ≡ old.reply → old.request ≡ None
-    → ((rest : List ℕ) → rest ≡ bytes → ReadSo rest new last)
-    → ((rest : List ℕ) → WroteSo rest old None → WroteSo rest new last) → StoppedSo state new last
-    → SettledSo before (state new.link) done last
-    → Accounted state before old done None → Accounted state before new done last
-accounted_more state old new last bytes budget left before done r same none reads writes stopped
-    settled s =
-    accounted_read state old new None last r.piece before done r.moved.later r.moved.given
-    r.moved.written same
-    (λ rest h. let all : rest ≡ old.received = subst (ReadAhead rest old.received) none h in
-    reads (rest ++ r.piece) (ap (λ xs. xs ++ r.piece) all ∙ sym r.bytes)) writes stopped settled s
+module _ {L C : Type 0} (state : L → LinkState) (old new : SessionView L C) (bytes : List ℕ)
+    (budget left : ℕ) (before : LinkState) (done : List Entry)
+    (r : Received (state old.link) (state new.link) old.received bytes budget left)
+    (same : new.reply ≡ old.reply) (none : old.request ≡ None)
+    (s : Accounted state before old done None) where
+  accounted_more : (last : Option Entry) → ((rest : List ℕ) → rest ≡ bytes → ReadSo rest new last)
+      → ((rest : List ℕ) → WroteSo rest old None → WroteSo rest new last)
+      → StoppedSo state new last → SettledSo before (state new.link) done last
+      → Accounted state before new done last
+  accounted_more last reads writes stopped settled =
+      accounted_read state old new None last r.piece before done r.moved.later r.moved.given
+      r.moved.written same
+      (λ rest h. let all : rest ≡ old.received = subst (ReadAhead rest old.received) none h in
+      reads (rest ++ r.piece) (ap (λ xs. xs ++ r.piece) all ∙ sym r.bytes)) writes stopped settled s
 
--- a session that only received, with no exchange begun
-pub accounted_received : {L C : Type 0} (state : L → LinkState) (old new : SessionView L C)
-    (bytes : List ℕ) (budget left : ℕ) (before : LinkState) (done : List Entry)
-    → Received (state old.link) (state new.link) old.received bytes budget left
-    → new.received ≡ bytes → new.reply ≡ old.reply
-    → old.request ≡ None → new.request ≡ None → Accounted state before old done None
-    → Accounted state before new done None
-accounted_received state old new bytes budget left before done r got same none still s =
-    accounted_more state old new None bytes budget left before done r same none
-    (λ since e. subst (λ x. ReadAhead since new.received x) (sym still) (e ∙ sym got)) (λ since h. rw same h) tt tt s
+  -- a session that only received, with no exchange begun
+  pub accounted_received : new.received ≡ bytes → new.request ≡ None
+      → Accounted state before new done None
+  accounted_received got still =
+      accounted_more None
+      (λ since e. subst (λ x. ReadAhead since new.received x) (sym still) (e ∙ sym got))
+      (λ since h. rw same h) tt tt
 
--- a head that was read and begins no exchange
-pub accounted_headed : {L C : Type 0} (state : L → LinkState) (old new : SessionView L C)
-    (bytes : List ℕ) (budget left used : ℕ) (request : Request) (before : LinkState)
-    (done : List Entry)
-    → Received (state old.link) (state new.link) old.received bytes budget left
-    → HeadAt bytes used request.header request.both
-    → request.wish ≡ wish request.header request.both → new.received ≡ drop used bytes
-    → new.reply ≡ old.reply
-    → old.request ≡ None → new.request ≡ Some request → Accounted state before old done None
-    → Accounted state before new done None
-accounted_headed state old new bytes budget left used request before done r head wishes rest same none is s =
-    accounted_more state old new None bytes budget left before done r same none
-    (λ since e. subst (λ x. ReadAhead since new.received x) (sym is)
-    (subst (λ xs. ReadHead xs new.received request) (sym e)
-    (record { n = used; head = head; bytes = sym rest; wish = wishes })))
-    (λ since h. rw same h) tt tt s
+  -- a head that was read and begins no exchange
+  pub accounted_headed : (used : ℕ) (request : Request)
+      → HeadAt bytes used request.header request.both
+      → request.wish ≡ wish request.header request.both → new.received ≡ drop used bytes
+      → new.request ≡ Some request → Accounted state before new done None
+  accounted_headed used request head wishes rest is =
+      accounted_more None
+      (λ since e. subst (λ x. ReadAhead since new.received x) (sym is)
+      (subst (λ xs. ReadHead xs new.received request) (sym e)
+      (record { n = used; head = head; bytes = sym rest; wish = wishes })))
+      (λ since h. rw same h) tt tt
 
--- a head that was read begins the exchange
-pub accounted_begun : {L C : Type 0} (state : L → LinkState) (old new : SessionView L C)
-    (bytes : List ℕ) (budget left used : ℕ) (request : Request) (settings : Settings) (e : Entry)
-    (before : LinkState) (done : List Entry)
-    → Received (state old.link) (state new.link) old.received bytes budget left
-    → HeadAt bytes used request.header request.both → new.received ≡ drop used bytes
-    → ((rest : List ℕ) → reads new.body.reader rest ≡ body (framing request.header) rest)
-    → new.reply ≡ old.reply → old.request ≡ None → IsNewEntry request settings e
-    → Accounted state before old done None → Accounted state before new done (Some e)
-accounted_begun {L} {C} state old new bytes budget left used request settings e before done r
-    head rest reader same none is s =
-    let headed : HeadAt bytes used e.head e.both = rw (is.head, is.both) head in
-    let read : HasRead (framing e.head) [] e.body new.body.reader =
-    rw (is.head, is.body) (read_none (framing request.header) new.body.reader reader) in
-    accounted_more state old new (Some e) bytes budget left before done r same none
-    (λ since eq. subst (λ xs. ReadEntry xs e new) (sym eq)
-    (record { n = used; used = []; head = headed; bytes = sym rest; decoded = read; stood = rw is.reply tt }))
-    (λ since h. rw (same, is.sent_body, is.sent_head, h.0, h.1) refl) (rw is.body_error tt) (rw is.sent_head tt) s
+  -- a head that was read begins the exchange
+  pub accounted_begun : (used : ℕ) (request : Request) (settings : Settings) (e : Entry)
+      → HeadAt bytes used request.header request.both → new.received ≡ drop used bytes
+      → ((rest : List ℕ) → reads new.body.reader rest ≡ body (framing request.header) rest)
+      → IsNewEntry request settings e → Accounted state before new done (Some e)
+  accounted_begun used request settings e head rest reader is =
+      let headed : HeadAt bytes used e.head e.both = rw (is.head, is.both) head in
+      let read : HasRead (framing e.head) [] e.body new.body.reader =
+      rw (is.head, is.body) (read_none (framing request.header) new.body.reader reader) in
+      accounted_more (Some e)
+      (λ since eq. subst (λ xs. ReadEntry xs e new) (sym eq) (record {
+        n = used;
+        used = [];
+        head = headed;
+        bytes = sym rest;
+        decoded = read;
+        stood = rw is.reply tt;
+      }))
+      (λ since h. rw (same, is.sent_body, is.sent_head, h.0, h.1) refl) (rw is.body_error tt)
+      (rw is.sent_head tt)
 
 -- received bytes that begin no head are nothing, or a head that is begun
 pub lacks_head : (done : List Entry) (since bytes : List ℕ) → ReadBehind since done bytes
@@ -234,7 +225,9 @@ pub head_failed : (before old now : LinkState) (done : List Entry) (bytes : List
 head_failed before old now done bytes error (kind.InvalidHTTPHeader fault) all told h =
     (all, read_map done before.given now.given _ _ (λ rest e. subst (λ x. RefusedAt x fault) (sym e) h) told)
 head_failed before old now done bytes error kind.ConnectionClosed all told h =
-    (h.0, inl (all, read_map done before.given now.given (λ rest. rest ≡ bytes) (λ rest. EndsAs rest begun) (λ rest e. subst (λ x. NotYetAt x × (0 < length x)) (sym e) (h.1, h.2)) told))
+    let lacks = read_map done before.given now.given (λ rest. rest ≡ bytes) (λ rest. EndsAs rest begun)
+    (λ rest e. subst (λ x. NotYetAt x × (0 < length x)) (sym e) (h.1, h.2)) told in
+    (h.0, inl (all, lacks))
 head_failed before old now done bytes error kind.ReadError all told h =
     inl (refl, h.0, told_lacks before now done bytes all told h.1)
 head_failed before old now done bytes error kind.NoMemory all told h = tt

@@ -1,15 +1,14 @@
 -- A connection's transcript agrees with what its link gave and took.
-use Rattle.std.proofs.Common.{◌≡◌, ℕ, ◌+◌, ◌-◌, ◌^◌, min, drop, ap, subst, append-nil, List, [], ◌∷◌, ◌++◌, length, false, option_to_list, Option, Some, None, IfSome, refl, sym, ◌∙◌, append_assoc}
-use Rattle.h1_app.specs.Words.{AllByRecursion, End, Error, ErrorType, LinkState, RequestView, Body, whole, unfinished, broken, ahead, body, reads, HasRead, GrowsTo, framing, SessionView, Settings, Reply, Entry, Stage, StoodAs, ReadBehind, WroteBehind, AfterRead, AfterWrote, DoneBehind, FlushedBy, Given, render, IsAllowed}
+use Rattle.std.proofs.Common.{◌≡◌, ℕ, ◌+◌, ◌-◌, ◌^◌, min, drop, ap, append-nil, List, [], ◌∷◌, ◌++◌, length, false, option_to_list, Option, Some, None, IfSome, refl, sym, ◌∙◌, append_assoc}
+use Rattle.h1_app.specs.Words.{AllByRecursion, End, Error, ErrorType, LinkState, RequestView, Body, whole, unfinished, broken, ahead, body, reads, HasRead, framing, SessionView, Settings, Reply, Entry, Stage, StoodAs, ReadBehind, WroteBehind, AfterRead, AfterWrote, DoneBehind, FlushedBy, Given, render, IsAllowed}
 use Rattle.h1_error.specs.declared.error.ErrorType.TheVariants as kind
 use Rattle.h1_body.specs.Body.{payload_of}
 use Rattle.h1_body.proofs.ReadLemmas.{read_is}
-use Rattle.h1_body.proofs.LawLemmas.{bodies_grow}
 use Rattle.h1_transfer.proofs.BodyLemmas.{payload_ahead}
 use Rattle.h1_transcript.specs.Agrees.{Agrees, AreOf, AreReplies, AreDone, RefusalOf}
 use Rattle.h1_app.proofs.Words.{Accounted, ReadEntry, ReadSo, WroteSo, StoppedSo, StoodSo, StopsBody, StopsWith, coming, Sound, IsKept}
 use Rattle.h1_transcript.specs.Stream.{Message, Begins, BehindBody}
-use Rattle.h1_transcript.proofs.BehindLemmas.{told_map}
+use Rattle.h1_transcript.proofs.BehindLemmas.{broken_stays, told_map}
 use Rattle.h1_app.proofs.StoodLemmas.{stood_as}
 
 nothing_behind : (b : Body) (none : List Message) → none ≡ []
@@ -38,9 +37,7 @@ refused_as state session e used kind.InvalidBody stops read =
     let all : body f used ≡ broken e.body =
     read_is f used e.body session.body.reader read ∙ ap (ahead e.body (length used)) stops
     ∙ ap broken (append-nil e.body) in
-    let grown : GrowsTo (broken e.body) (body f (used ++ session.received)) =
-    subst (λ b. GrowsTo b (body f (used ++ session.received))) all (bodies_grow f used session.received) in
-    sym (read.read session.received) ∙ grown
+    sym (read.read session.received) ∙ broken_stays f used session.received e.body all
 refused_as state session e used kind.ConnectionClosed stops read = (
   ap (λ xs. ahead e.body (length used) (reads session.body.reader xs)) stops.1.0
       ∙ ap (ahead e.body (length used)) stops.1.1 ∙ ap unfinished (append-nil e.body),
@@ -70,14 +67,15 @@ one_request : {L C : Type 0} (state : L → LinkState) (since : List ℕ) (sessi
     → (requests : List Message) × Begins since requests
     × AreOf (state session.link) (e ∷ []) requests
 one_request state since session e stopped h =
-    let body = ahead e.body (length h.used) (reads session.body.reader session.received) in
+    let read = reads session.body.reader session.received in
+    let body = ahead e.body (length h.used) read in
     let m : Message = record { head = e.head; both = e.both; body = body } in (
       m ∷ [],
       (h.n, h.head, rw h.bytes (h.decoded.read session.received), nothing_behind body [] refl),
       (
         refl,
         refl,
-        (payload_of (reads session.body.reader session.received), payload_ahead e.body (length h.used) (reads session.body.reader session.received)),
+        (payload_of read, payload_ahead e.body (length h.used) read),
         record {
           refused = refusal_as state session e h.used e.body_error stopped h.decoded;
           replied = replied_as session e h.used e.reply h.stood h.decoded;
@@ -90,10 +88,9 @@ one_reply : {L C : Type 0} (since : List ℕ) (session : SessionView L C) (e : E
     → IsKept session e
     → WroteSo since session (Some e) → session.reply.sent ≡ min (length since) (2 ^ 64 - 1)
     → AreReplies since (e ∷ [])
-one_reply since session e kept h sent = (
-  (session.reply.owed ++ coming e.sent_body session.reply.writer, sym h ∙ append_assoc since session.reply.owed (coming e.sent_body session.reply.writer)),
-  kept ∙ sent,
-)
+one_reply since session e kept h sent =
+    let left = coming e.sent_body session.reply.writer in
+    ((session.reply.owed ++ left, sym h ∙ append_assoc since session.reply.owed left), kept ∙ sent)
 
 -- one exchange more before those that agree
 front_of : (now : LinkState) (e : Entry) (k : ℕ) (more : List Entry) (requests : List Message)

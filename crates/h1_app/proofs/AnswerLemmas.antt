@@ -1,17 +1,15 @@
 -- Steps in which the application goes on.
-use Rattle.std.proofs.Common.{◌≡◌, ℕ, ◌⊎◌, inl, List, [], ◌∷◌, ◌++◌, Bool, length, drop, true, false, Option, Some, None, IfSome, unwrap_or, refl, sym, ◌∙◌, ap, subst, append-nil, length-append, arith}
+use Rattle.std.proofs.Common.{◌≡◌, ℕ, ◌⊎◌, inl, List, [], ◌∷◌, ◌++◌, Bool, true, false, Option, Some, None, IfSome, unwrap_or, refl, sym, ◌∙◌, ap, subst, length, length-append, arith}
 use Rattle.std.proofs.lemmas.Option.{IfSome_then, same_Some}
-use Rattle.h1_app.specs.Words.{Error, ErrorType, BodyRefusal, LinkState, Rose, RequestView, unfinished, ahead, body, framing, Lacks, SessionView, Settings, Reply, Entry, Exchange, Outcome, Stage, Asked, Given, ReadsOnly, payload_of, AfterRead, LacksSo, IsAllowed, Grows, Stays}
+use Rattle.h1_app.specs.Words.{Error, ErrorType, BodyRefusal, LinkState, Rose, RequestView, SessionView, Settings, Reply, Entry, Exchange, Outcome, Stage, Asked, Given, ReadsOnly, payload_of, LacksSo, IsAllowed, Grows, Stays}
 use Rattle.h1_error.specs.declared.error.ErrorType.TheVariants as kind
-use Rattle.h1_body.proofs.ReadLemmas.{read_is}
 use Rattle.h1_app.specs.declared.exchange.Stage.TheVariants as stage
 use Rattle.h1_app.specs.declared.steps.answering.Asked.TheVariants as asked
 use Rattle.h1_application.specs.Application.{RefusedBy, RefusesWith, WaitsBy}
-use Rattle.h1_app.proofs.Words.{AsksAs, noted, Accounted, ReadEntry, StopsBody, StopsWith, StoodSo, SoundStage, IsAnswering, IsKept, lent, StepReady, Stepped, MovesWithin, OutcomeCause, FewReadsNotReady}
-use Rattle.h1_transcript.specs.Ends.{LastAfter}
+use Rattle.h1_app.proofs.Words.{AsksAs, noted, Accounted, StopsBody, StopsWith, StoodSo, SoundStage, IsAnswering, IsKept, lent, StepReady, Stepped, MovesWithin, OutcomeCause, FewReadsNotReady}
 use Rattle.h1_transcript.specs.Growth.{RefusedIn}
-use Rattle.h1_app.proofs.ReplyLemmas.{stays_itself}
-use Rattle.h1_transcript.proofs.BehindLemmas.{told_map}
+use Rattle.h1_transcript.proofs.GrowthLemmas.{stays_itself}
+use Rattle.h1_app.proofs.EndReplies.{stands_unfinished}
 use Rattle.h1_app.proofs.StepLemmas.{grown_stepped}
 use Rattle.h1_app.proofs.StoodLemmas.{stood_so}
 use Rattle.h1_app.proofs.AccountedLemmas.{accounted_read, entry_on, stops_on}
@@ -107,20 +105,6 @@ still_answers {L} {C} state old new e e2 answer a h =
       sent_body = a.sent_body;
     }))
 
--- the body isn't whole, and nothing of it is left among the received bytes
-lacks_body : {L C : Type 0} (session : SessionView L C) (done : List Entry) (e : Entry)
-    (since : List ℕ) → Lacks session.body.reader session.received
-    → AfterRead done (λ rest. ReadEntry rest e session) since
-    → LastAfter since done e (unfinished e.body)
-lacks_body session done e since lacks h =
-    let p = h.2 in
-    let all : drop p.n h.0 ≡ p.used = p.bytes ∙ ap (λ xs. p.used ++ xs) lacks.0 ∙ append-nil p.used in
-    let so : body (framing e.head) (drop p.n h.0) ≡ unfinished e.body =
-    ap (body (framing e.head)) all
-    ∙ read_is (framing e.head) p.used e.body session.body.reader p.decoded
-    ∙ ap (ahead e.body (length p.used)) lacks.1 ∙ ap unfinished (append-nil e.body) in
-    (h.0, h.1, record { n = p.n; head = p.head; body = so })
-
 -- why an application that reads waits
 pub reads_why : {L C : Type 0} (state : L → LinkState) (old new : SessionView L C) (e e2 : Entry)
     (answer : Asked)
@@ -138,12 +122,7 @@ reads_why {L} {C} state old new e e2 answer a h is =
     → LacksSo before (state x.link) done (Some e2)))
     (sym h.session) (
       waits.2,
-      λ before done s. (
-        inl none,
-        told_map before.given (state h.behind.link).given (AfterRead done (λ rest. ReadEntry rest e2 left))
-            (λ since. LastAfter since done e2 (unfinished e2.body))
-            (λ since p. lacks_body left done e2 since waits.0 p) s.read,
-      ),
+      λ before done s. (inl none, stands_unfinished state before done left e2 s waits.0),
     )
 
 -- the step goes on with what was given and taken

@@ -4,8 +4,7 @@ use Rattle.std.proofs.lemmas.List.{take_all}
 use Rattle.h1_app.specs.Words.{Poll, Ready, Pending, Error, LinkState, SessionView, Reply, Entry, Asked, no_memory, ReadsOnly, given_by, payload_of, Given, given_to, RequestView, Settings}
 use Rattle.h1_app.specs.declared.steps.answering.Asked.TheVariants as asked
 use Rattle.h1_application.specs.Application.{GivesReply}
-use Rattle.h1_app.proofs.Words.{AsksAs, GivesAsked, noted, lent}
-use Rattle.h1_app.specs.Asking.{IsAskedOf}
+use Rattle.h1_app.proofs.Words.{AsksAs, GivesAsked, noted, lent, IsAskedOf}
 
 -- the application waits for the body where a read was pending, and else for something of its own
 asked_waits : (outcome : Poll (Result Reply Error)) (waits : Bool) (answer : Asked)

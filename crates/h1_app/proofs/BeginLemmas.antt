@@ -6,8 +6,7 @@ use Rattle.h1_app.specs.Words.{Ready, LinkState, RequestView, body, reads, frami
 use Rattle.h1_server.specs.declared.request.ReadRequest.TheVariants as read
 use Rattle.h1_app.specs.declared.exchange.Stage.TheVariants as stage
 use Rattle.h1_app.specs.declared.exchange.Outcome.TheVariants as outcome
-use Rattle.h1_app.proofs.Words.{IsAwaiting, IsAnswering, IsNewEntry, MovesWithin, Stepped, ahead}
-use Rattle.h1_app.specs.Beginning.{BegunAs, head_time}
+use Rattle.h1_app.proofs.Words.{IsAwaiting, IsAnswering, IsNewEntry, MovesWithin, Stepped, ahead, BegunAs, head_time}
 use Rattle.h1_server.specs.Keepalive.{wished}
 use Rattle.h1_server.specs.Requests.{BeginsRequest}
 use Rattle.h1_app.proofs.AccountedLemmas.{accounted_headed, accounted_begun, memory_ends, moves_received}
@@ -144,10 +143,10 @@ begun_stepped {L} {C} {J} state begins pends gives runs now shutdown x mid trans
         ap (λ reply. replies (record b.1 { reply = reply } ∷ [])) entry.reply in
         record {
           moves = moves;
-          accounted = λ before done. rw (h.alone, b.4)
-              (accounted_begun state old new h.reads.bytes (allowance old.budget) h.reads.left
-              a.2.used a.0 settings b.1 before done h.reads.received a.2.is.head a.2.received reader
-              reply h.awaiting.request entry);
+          accounted = λ before done. rw (h.alone, b.4) (λ s.
+              accounted_begun state old new h.reads.bytes (allowance old.budget) h.reads.left before
+              done h.reads.received reply h.awaiting.request s a.2.used a.0 settings b.1 a.2.is.head
+              a.2.received reader entry);
           allowed = rw b.4 (new_allowed gives a.0 settings b.1 entry);
           kept = rw b.4 (entry.written ∙ sym h.awaiting.unwritten.sent
               ∙ sym (ap (λ (r : Outgoing). r.sent) reply));
@@ -177,10 +176,10 @@ begun_stepped {L} {C} {J} state begins pends gives runs now shutdown x mid trans
         let unread : (state new.link).read_waits ≡ (state old.link).read_waits = a.3 in
         record {
           moves = moves;
-          accounted = λ before done. rw (h.alone, b.0)
-              (accounted_headed state old new h.reads.bytes (allowance old.budget) h.reads.left
-              a.2.used a.0 before done h.reads.received a.2.is.head a.2.is.wishes a.2.received reply
-              h.awaiting.request a.1);
+          accounted = λ before done. rw (h.alone, b.0) (λ s.
+              accounted_headed state old new h.reads.bytes (allowance old.budget) h.reads.left before
+              done h.reads.received reply h.awaiting.request s a.2.used a.0 a.2.is.head
+              a.2.is.wishes a.2.received a.1);
           allowed = rw b.0 tt;
           kept = rw b.0 tt;
           extends = rw (h.alone, b.0) tt;

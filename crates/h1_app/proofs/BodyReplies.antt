@@ -2,12 +2,12 @@
 use Rattle.std.proofs.Common.{Bool, List, None, Option, Some, [], ap, append-nil, arith, false, is_some, min, not, option_map, refl, sym, take, true, ℕ, ◌++◌, ◌+◌, ◌-◌, ◌<◌, ◌^◌, ◌∙◌, ◌≡◌}
 use Rattle.std.proofs.Math.Seq.{take-nil}
 use Rattle.std.proofs.lemmas.Bool.{false≢true}
-use Rattle.h1_app.specs.Words.{Entry, Framing, LinkState, Reply, Request, ResponseView, SessionView, Writes, after_piece, allowance, begun, end_bytes, head_bytes, out, render_parts, reply_head, shown}
+use Rattle.h1_app.specs.Words.{Entry, Framing, LinkState, Reply, Request, ResponseView, SessionView, WriterView, Writes, after_piece, allowance, begun, end_bytes, head_bytes, out, render_parts, reply_head, shown}
 use Rattle.h1_body.specs.Writer.{body_bytes, piece_bytes}
 use Rattle.h1_transfer.proofs.MovedLemmas.{moved_itself}
 use Rattle.h1_app.proofs.EndReplies.{shown_all}
 use Rattle.h1_app.proofs.PartLemmas.{WritesPart, more_of}
-use Rattle.h1_app.proofs.ReplyLemmas.{dated_same, stays_itself}
+use Rattle.h1_transcript.proofs.GrowthLemmas.{dated_same, stays_itself}
 use Rattle.h1_app.proofs.Words.{IsPieceOf, IsReplied, coming, filled, fresh}
 use Rattle.h1_body.specs.declared.framing.Framing.TheVariants as framing
 
@@ -77,10 +77,12 @@ body_part state now old new e request reply taking left written replied headed n
       dated = dated_same now e.sent_head e _ refl refl refl refl refl;
     }
 
--- a call that was not made
+-- a call that wrote nothing, and at most ended the body
 pub writes_nothing : {L C : Type 0} (state : L → LinkState) (session : SessionView L C)
-    → session.reply.sent < 2 ^ 64 → Writes state session session [] (allowance session.budget)
-writes_nothing state session limit = record {
+    (writer : WriterView) → session.reply.sent < 2 ^ 64
+    → Writes state session (record session { reply = record session.reply { writer = writer } }) []
+    (allowance session.budget)
+writes_nothing state session writer limit = record {
   sent = record {
     piece = [];
     moved = let spent : allowance session.budget - allowance session.budget ≡ 0 = omega arith in
@@ -115,7 +117,7 @@ empty_part state now session e request reply replied headed none writer empty =
     ∙ no_piece (out e.head.method reply.header)) in (
       body_part state now session session e request reply [] (allowance session.budget) e.written
           replied headed none
-          (writes_nothing state session
+          (writes_nothing state session session.reply.writer
           (omega (arith, replied.asked.written, replied.asked.limit)))
           (sym (ap (λ xs. piece_bytes (fresh e reply) xs) empty
           ∙ no_piece_bytes (out e.head.method reply.header)))

@@ -7,11 +7,7 @@ use Rattle.h1_app.proofs.LeavesLemmas.{write_fails}
 use Rattle.h1_app.proofs.PartLemmas.{Part, WritesPart, more_of, more_part, part_accounted, part_grows, part_replied, replying}
 use Rattle.h1_app.proofs.ReplyLemmas.{ahead_down, at_some, headed_on, moves_wrote, refused_cause, settled_owed, waits_why}
 use Rattle.h1_app.proofs.StepLemmas.{allowed_written, grown_stepped, unread_few}
-use Rattle.h1_app.proofs.Words.{IsHeaded, IsReplied, JobFrom, Leaves, OutcomeCause, SettledSo, SoundStage, StepReady, Stepped, coming, outcome_end, rank, still, ahead}
-use Rattle.h1_app.specs.Pace.{place}
-use Rattle.h1_app.specs.Replying.{StandsAfter}
-use Rattle.h1_app.specs.Step.{Continues}
-use Rattle.h1_app.specs.Waits.{OthersFew}
+use Rattle.h1_app.proofs.Words.{IsHeaded, IsReplied, JobFrom, Leaves, OutcomeCause, SettledSo, SoundStage, StepReady, Stepped, coming, outcome_end, rank, still, ahead, place, StandsAfter, Continues, OthersFew}
 
 -- what each call that writes a part answers: the part is owed, it is written, or it was refused
 abbrev pub AnswersCall : {T : Type 0} → LinkState → LinkState → Outgoing → Step → ℕ
@@ -96,7 +92,7 @@ module _ {L C J : Type 0} (state : L → LinkState) (pends : J → ℕ) (gives :
       → Stepped state pends gives runs now shutdown x y result
   part_stepped p taking left w is settled allowed outcome =
       grown_stepped state pends gives runs now shutdown x y e (replying e p) result was is
-      (moves_wrote state x.session y.session w.flag taking left ready.budget w.writes)
+      (moves_wrote state x.session y.session w.flag taking left w.writes)
       (λ before done s. part_accounted state now before done x.session y.session taking left e p w
       (settled before done) s)
       allowed w.counted (part_grows state now x.session y.session taking left e p w)
@@ -152,7 +148,7 @@ module _ {L C J : Type 0} (state : L → LinkState) (pends : J → ℕ) (gives :
   lower p taking left from later w stage less before = (
     rw stage less,
     ahead_down state x.session y.session x.stage later
-        (moves_wrote state x.session y.session w.flag taking left ready.budget w.writes)
+        (moves_wrote state x.session y.session w.flag taking left w.writes)
         (rw stage before),
   )
 

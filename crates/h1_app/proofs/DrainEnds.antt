@@ -1,9 +1,9 @@
 -- What a step that drains a request's body leaves, and why it waits or ends.
-use Rattle.std.proofs.Common.{◌≡◌, ℕ, ◌-◌, ◌<◌, ◌⊎◌, inl, inr, List, [], ◌∷◌, ◌++◌, length, take, Bool, true, false, ◌&&◌, not, Option, Some, None, IfSome, Ok, is_none, refl, sym, ◌∙◌, ap, subst, length-append, arith}
+use Rattle.std.proofs.Common.{◌≡◌, ℕ, ◌<◌, ◌⊎◌, inl, inr, List, [], ◌∷◌, ◌++◌, length, take, Bool, true, false, ◌&&◌, not, Option, Some, None, IfSome, Ok, is_none, refl, sym, ◌∙◌, ap, subst, length-append, arith}
 use Rattle.std.proofs.lemmas.Bool.{false≢true, and_parts, not-true, not-false}
 use Rattle.std.proofs.lemmas.Option.{IfSome_then, same_Some}
 use Rattle.std.proofs.lemmas.List.{take-append-le}
-use Rattle.h1_app.specs.Words.{Ready, Error, ErrorType, LinkState, RequestView, ResponseView, wish, whole, unfinished, broken, out, reads, end_bytes, Framing, Counted, Chunked, UntilClose, Lacks, BodyRefusal, has_reuses, keeps_alive, may_follow, SessionView, Outgoing, Settings, Reply, Stage, Entry, How, Open, Whole, Failed, Given, IsLawful, AfterRead, is_until_close, FailureCause, IsComplete, LacksSo, LastStands, IsAllowed, IsDated, given_to, is_short, may_keep, Grows, IfTold}
+use Rattle.h1_app.specs.Words.{Ready, Error, ErrorType, LinkState, RequestView, ResponseView, wish, whole, out, reads, end_bytes, Framing, Counted, Chunked, UntilClose, Lacks, BodyRefusal, has_reuses, keeps_alive, may_follow, SessionView, Outgoing, Settings, Reply, Stage, Entry, How, Open, Whole, Failed, Given, IsLawful, AfterRead, is_until_close, FailureCause, IsComplete, LacksSo, IsAllowed, IsDated, given_to, is_short, may_keep, Grows, IfTold}
 use Rattle.h1_error.specs.declared.error.ErrorType.TheVariants as kind
 use Rattle.h1_body.specs.Reader as reader
 use Rattle.h1_body.specs.Writer.{until_close}
@@ -11,11 +11,10 @@ use Rattle.h1_server.specs.Persistence.{stays_open, grants}
 use Rattle.h1_app.specs.declared.exchange.Stage.TheVariants as at
 use Rattle.h1_transcript.specs.Ends.{IsDone}
 use Rattle.h1_app.proofs.Words.{Accounted, ReadEntry, coming, SoundStage, IsDraining, MayGoOn, IsKept, MovesWithin}
-use Rattle.h1_transcript.proofs.BehindLemmas.{told_map, read_map}
+use Rattle.h1_transcript.proofs.BehindLemmas.{told_map}
 use Rattle.h1_app.proofs.AccountedLemmas.{accounted_read, entry_on, settled_on}
 use Rattle.h1_app.proofs.JoinLemmas.{read_past}
-use Rattle.h1_transcript.proofs.GrowthLemmas.{refused_same}
-use Rattle.h1_app.proofs.ReplyLemmas.{stays_itself, dated_same, replied_same}
+use Rattle.h1_transcript.proofs.GrowthLemmas.{dated_same, refused_same, replied_same, stays_itself}
 use Rattle.h1_app.proofs.EndReplies.{complete, stands_broken, stands_unfinished}
 use Rattle.h1_app.proofs.DrainLemmas.{Reused, HasMore, Answered, stood_on}
 
@@ -26,62 +25,6 @@ pub at_drain : {L C J : Type 0} (runs : J → RequestView → Settings → Setti
 at_drain runs session last stage e is some sound =
     let h : SoundStage runs session last at.Drain = subst (λ s. SoundStage runs session last s) is sound in
     subst (λ x. IsDraining x session) (same_Some h.0 e (sym h.1 ∙ some)) h.2
-
--- what was moved
-pub drain_moves : {L C : Type 0} (state : L → LinkState) (old new : SessionView L C) (e f : Entry)
-    → Reused state old new e f → MovesWithin state old new
-drain_moves state old new e f r = record {
-  read = r.piece;
-  wrote = [];
-  spent = r.spent;
-  moved = r.moved;
-  budget = r.budget;
-  within = r.within;
-  context = r.context;
-}
-
--- what was given and taken goes on
-pub drain_accounted : {L C : Type 0} (state : L → LinkState) (before : LinkState)
-    (done : List Entry) (old new : SessionView L C) (e f : Entry)
-    → IsDraining e old → Reused state old new e f
-    → Accounted state before old done (Some e) → Accounted state before new done (Some f)
-drain_accounted state before done old new e f d r s =
-    let g : Entry = record e { body = e.body ++ r.payload } in
-    subst (λ (x : Entry). Accounted state before new done (Some x)) (sym r.entry)
-    (accounted_read state old new (Some e) (Some g) r.piece before done r.moved.later r.moved.given
-    r.moved.written r.reply
-    (λ rest p. entry_on old new e g r.piece r.used r.payload rest refl refl refl r.bytes r.decoded
-    (λ front read was. IfSome_then e.reply was
-    (λ reply stood. stood_on e.how e old.body new.body r.used r.payload r.decoded stood)) p)
-    (λ rest h. rw r.reply h) (rw d.unrefused tt)
-    (settled_on before (state old.link) (state new.link) done (Some g) r.moved.later.flushed
-    s.settled) s)
-
--- the exchange grows by what was read
-pub drain_grows : {L C : Type 0} (state : L → LinkState) (now : ℕ) (old new : SessionView L C)
-    (e f : Entry) → Reused state old new e f → Grows now (state old.link) (state new.link) e f
-drain_grows state now old new e f r =
-    subst (λ (x : Entry). Grows now (state old.link) (state new.link) e x) (sym r.entry) (record {
-      head = refl;
-      both = refl;
-      filtered = stays_itself e.filtered;
-      body = (r.payload, refl);
-      handed = omega arith;
-      body_error = stays_itself e.body_error;
-      refused = refused_same (state old.link) (state new.link) e.body_error;
-      reply = stays_itself e.reply;
-      replied = replied_same e.reply e (record e { body = e.body ++ r.payload }) refl refl refl;
-      sent_head = stays_itself e.sent_head;
-      dated = dated_same now e.sent_head e (record e { body = e.body ++ r.payload }) refl refl refl refl refl;
-      sent_body = stays_itself e.sent_body;
-      written = omega arith;
-      began = refl;
-    })
-
-pub drain_kept : {L C : Type 0} (state : L → LinkState) (old new : SessionView L C) (e f : Entry)
-    → IsDraining e old → Reused state old new e f → IsKept new f
-drain_kept state old new e f d r =
-    ap (λ (x : Entry). x.written) r.entry ∙ d.written ∙ sym (ap (λ (x : Outgoing). x.sent) r.reply)
 
 -- the payload is no part of the flag
 keep_same : (e : Entry) (payload : List ℕ) → may_keep (record e { body = payload }) ≡ may_keep e
@@ -123,12 +66,6 @@ allowed_more gives e payload a =
       owed = a.owed;
     }
 
-pub drain_allowed : {L C : Type 0} (gives : Given → Reply → Type 0) (state : L → LinkState)
-    (old new : SessionView L C) (e f : Entry) → IsAllowed gives e
-    → Reused state old new e f → IsAllowed gives f
-drain_allowed gives state old new e f a r =
-    subst (λ (x : Entry). IsAllowed gives x) (sym r.entry) (allowed_more gives e r.payload a)
-
 -- the payload says nothing of the reply's length, nor of its end
 short_same : (e : Entry) (payload : List ℕ) (head : ResponseView) (sent : List ℕ)
     → e.sent_head ≡ Some head → e.sent_body ≡ Some sent
@@ -145,35 +82,6 @@ closes_same : (e : Entry) (payload : List ℕ) (head : ResponseView) → e.sent_
     → is_until_close (record e { body = payload }) ≡ is_until_close e
 closes_same e payload head headed = rw headed refl
 
--- the exchange may still be drained
-pub draining_on : {L C : Type 0} (state : L → LinkState) (old new : SessionView L C) (e f : Entry)
-    → IsDraining e old → Reused state old new e f → new.body.refused ≡ None → IsDraining f new
-draining_on state old new e f d r unrefused = subst (λ (x : Entry). IsDraining x new) (sym r.entry) (record {
-  request = d.request;
-  is = r.request ∙ d.is;
-  wish = d.wish;
-  reply = d.reply;
-  replied = d.replied;
-  left = d.left ∙ sym r.settings;
-  sent_head = d.sent_head;
-  sent_body = d.sent_body;
-  headed = rw r.reply d.headed;
-  keep = d.keep ∙ sym r.keep;
-  framing = rw r.reply d.framing;
-  whole = rw r.reply d.whole;
-  nothing = rw r.reply d.nothing;
-  free = rw r.reply d.free;
-  reply_owed = rw r.reply d.reply_owed;
-  owed = d.owed;
-  unrefused = d.unrefused;
-  body = unrefused;
-  kept = r.kept;
-  waits = r.waits ∙ d.waits;
-  written = rw r.reply d.written;
-  limit = d.limit;
-  long = short_same e (e.body ++ r.payload) d.reply.header d.reply.body d.sent_head d.sent_body ∙ d.long;
-})
-
 ends_is : (f : Framing) → reader.is_until_close f ≡ until_close (Some f)
 ends_is (Counted n) = refl
 ends_is Chunked = refl
@@ -189,7 +97,7 @@ until_close_is : {L C : Type 0} (e : Entry) (session : SessionView L C) → IsDr
 until_close_is e session d = rw (d.sent_head, d.framing) (ends_is (out e.head.method d.reply.header))
 
 -- a connection that is kept said so, and its reply doesn't end with the link
-pub kept_open : {L C : Type 0} (e : Entry) (session : SessionView L C)
+kept_open : {L C : Type 0} (e : Entry) (session : SessionView L C)
     → IsDraining e session → keeps_alive session ≡ true
     → (e.keep ≡ true) × (is_until_close e ≡ false)
 kept_open e session d alive =
@@ -202,7 +110,7 @@ kept_open e session d alive =
     )
 
 -- and one that isn't said that, or its reply does
-pub not_open : {L C : Type 0} (gives : Given → Reply → Type 0) (e : Entry)
+not_open : {L C : Type 0} (gives : Given → Reply → Type 0) (e : Entry)
     (session : SessionView L C) → IsAllowed gives e → IsDraining e session
     → keeps_alive session ≡ false → (e.keep ≡ false) ⊎ (is_until_close e ≡ true)
 not_open {L} {C} gives e session a d dead = by_keep e.keep refl
@@ -244,136 +152,197 @@ not_open {L} {C} gives e session a d dead = by_keep e.keep refl
         inr (until_close_is e session d
         ∙ not-false (until_close session.reply.writer.framing) closed)
 
--- the reply is complete after the drain
-pub drain_complete : {L C : Type 0} (state : L → LinkState) (before : LinkState) (done : List Entry)
-    (old new : SessionView L C) (e f : Entry)
-    → IsDraining e old → Reused state old new e f → Accounted state before new done (Some f)
-    → IsComplete before (state new.link) done f
-drain_complete state before done old new e f d r s =
-    let nothing : end_bytes old.reply.writer ≡ [] =
-    ap (λ sent. coming sent old.reply.writer) (sym d.sent_body) ∙ d.nothing in
-    complete state before done new f d.reply.header d.reply.body (ap (λ (x : Entry). x.owed) r.entry ∙ d.owed) s
-    (ap (λ (x : Outgoing). x.owed) r.reply ∙ d.reply_owed) (ap (λ (x : Outgoing). end_bytes x.writer) r.reply ∙ nothing)
-    (ap (λ (x : Entry). x.sent_head) r.entry ∙ d.sent_head) (ap (λ (x : Entry). x.sent_body) r.entry ∙ d.sent_body)
+module _ {L C : Type 0} (state : L → LinkState) (old new : SessionView L C) (e f : Entry)
+    (d : IsDraining e old) (r : Reused state old new e f) where
+  -- what was moved
+  pub drain_moves : MovesWithin state old new
+  drain_moves = record {
+    read = r.piece;
+    wrote = [];
+    spent = r.spent;
+    moved = r.moved;
+    budget = r.budget;
+    within = r.within;
+    context = r.context;
+  }
 
-pub drain_long : {L C : Type 0} (state : L → LinkState) (old new : SessionView L C) (e f : Entry)
-    → IsDraining e old → Reused state old new e f → is_short f ≡ false
-drain_long state old new e f d r =
-    ap is_short r.entry
-    ∙ short_same e (e.body ++ r.payload) d.reply.header d.reply.body d.sent_head d.sent_body ∙ d.long
+  -- what was given and taken goes on
+  pub drain_accounted : (before : LinkState) (done : List Entry)
+      → Accounted state before old done (Some e) → Accounted state before new done (Some f)
+  drain_accounted before done s =
+      let g : Entry = record e { body = e.body ++ r.payload } in
+      subst (λ (x : Entry). Accounted state before new done (Some x)) (sym r.entry)
+      (accounted_read state old new (Some e) (Some g) r.piece before done r.moved.later r.moved.given
+      r.moved.written r.reply
+      (λ rest p. entry_on old new e g r.piece r.used r.payload rest refl refl refl r.bytes r.decoded
+      (λ front read was. IfSome_then e.reply was
+      (λ reply stood. stood_on e.how e old.body new.body r.used r.payload r.decoded stood)) p)
+      (λ rest h. rw r.reply h) (rw d.unrefused tt)
+      (settled_on before (state old.link) (state new.link) done (Some g) r.moved.later.flushed
+      s.settled) s)
 
-drain_closes : {L C : Type 0} (state : L → LinkState) (old new : SessionView L C) (e f : Entry)
-    → IsDraining e old → Reused state old new e f → is_until_close f ≡ is_until_close e
-drain_closes state old new e f d r =
-    ap is_until_close r.entry ∙ closes_same e (e.body ++ r.payload) d.reply.header d.sent_head
+  -- the exchange grows by what was read
+  pub drain_grows : (now : ℕ) → Grows now (state old.link) (state new.link) e f
+  drain_grows now =
+      let g : Entry = record e { body = e.body ++ r.payload } in
+      subst (λ (x : Entry). Grows now (state old.link) (state new.link) e x) (sym r.entry) (record {
+        head = refl;
+        both = refl;
+        filtered = stays_itself e.filtered;
+        body = (r.payload, refl);
+        handed = omega arith;
+        body_error = stays_itself e.body_error;
+        refused = refused_same (state old.link) (state new.link) e.body_error;
+        reply = stays_itself e.reply;
+        replied = replied_same e.reply e g refl refl refl;
+        sent_head = stays_itself e.sent_head;
+        dated = dated_same now e.sent_head e g refl refl refl refl refl;
+        sent_body = stays_itself e.sent_body;
+        written = omega arith;
+        began = refl;
+      })
 
--- and where the link is kept, the connection is kept after it
-pub drain_done : {L C : Type 0} (state : L → LinkState) (before : LinkState) (done : List Entry)
-    (old new : SessionView L C) (e f : Entry)
-    → IsDraining e old → Reused state old new e f → keeps_alive old ≡ true
-    → Accounted state before new done (Some f) → IsDone before (state new.link) done f
-drain_done state before done old new e f d r alive s =
-    let open_so = kept_open e old d alive in
-    record {
-      complete = drain_complete state before done old new e f d r s;
-      long = drain_long state old new e f d r;
-      keep = ap (λ (x : Entry). x.keep) r.entry ∙ open_so.0;
-      closes = drain_closes state old new e f d r ∙ open_so.1;
-    }
+  pub drain_kept : IsKept new f
+  drain_kept =
+      ap (λ (x : Entry). x.written) r.entry ∙ d.written ∙ sym (ap (λ (x : Outgoing). x.sent) r.reply)
 
--- why a drain waits
-pub drain_waits : {L C : Type 0} (state : L → LinkState) (before : LinkState) (done : List Entry)
-    (old new : SessionView L C) (e f : Entry)
-    → IsDraining e old → Reused state old new e f → keeps_alive old ≡ true
-    → Lacks new.body.reader new.received
-    → Accounted state before new done (Some f) → LacksSo before (state new.link) done (Some f)
-drain_waits state before done old new e f d r alive lacks s = (
-  inr (drain_done state before done old new e f d r alive s),
-  read_map done before.given (state new.link).given (λ rest. ReadEntry rest f new)
-      (λ rest. LastStands rest f (unfinished f.body))
-      (λ rest p. stands_unfinished rest f new p lacks.0 lacks.1) s.read,
-)
+  pub drain_allowed : (gives : Given → Reply → Type 0) → IsAllowed gives e → IsAllowed gives f
+  drain_allowed gives a =
+      subst (λ (x : Entry). IsAllowed gives x) (sym r.entry) (allowed_more gives e r.payload a)
 
--- why a drain fails
-pub drain_fails : {L C : Type 0} (state : L → LinkState) (before : LinkState) (done : List Entry)
-    (old new : SessionView L C) (f : Entry) (error : Error) (k : ErrorType)
-    → BodyRefusal state old new k → IsDone before (state new.link) done f → f.body_error ≡ None
-    → Accounted state before new done (Some f)
-    → FailureCause before (state old.link) (state new.link) done (Some f) error k
-drain_fails state before done old new f error kind.InvalidBody h is none s = (
-  inr (is, none, tt),
-  read_map done before.given (state new.link).given (λ rest. ReadEntry rest f new)
-      (λ rest. LastStands rest f (broken f.body))
-      (λ rest p. stands_broken rest f new p h) s.read,
-)
-drain_fails state before done old new f error kind.ConnectionClosed h is none s = (
-  h.0,
-  inr (
-    inr (is, none, tt),
-    read_map done before.given (state new.link).given (λ rest. ReadEntry rest f new)
-        (λ rest. LastStands rest f (unfinished f.body))
-        (λ rest p. stands_unfinished rest f new p h.1.0 h.1.1) s.read,
-  ),
-)
-drain_fails state before done old new f error kind.ReadError h is none s = inr (
-  inr (is, none, h.0),
-  read_map done before.given (state new.link).given (λ rest. ReadEntry rest f new)
-      (λ rest. LastStands rest f (unfinished f.body))
-      (λ rest p. stands_unfinished rest f new p h.1.0 h.1.1) s.read,
-)
-drain_fails state before done old new f error kind.NoMemory h is none s = tt
-drain_fails state before done old new f error _ h is none s = absurd h
+  -- the exchange may still be drained
+  pub draining_on : new.body.refused ≡ None → IsDraining f new
+  draining_on unrefused = subst (λ (x : Entry). IsDraining x new) (sym r.entry) (record {
+    request = d.request;
+    is = r.request ∙ d.is;
+    wish = d.wish;
+    reply = d.reply;
+    replied = d.replied;
+    left = d.left ∙ sym r.settings;
+    sent_head = d.sent_head;
+    sent_body = d.sent_body;
+    headed = rw r.reply d.headed;
+    keep = d.keep ∙ sym r.keep;
+    framing = rw r.reply d.framing;
+    whole = rw r.reply d.whole;
+    nothing = rw r.reply d.nothing;
+    free = rw r.reply d.free;
+    reply_owed = rw r.reply d.reply_owed;
+    owed = d.owed;
+    unrefused = d.unrefused;
+    body = unrefused;
+    kept = r.kept;
+    waits = r.waits ∙ d.waits;
+    written = rw r.reply d.written;
+    limit = d.limit;
+    long = short_same e (e.body ++ r.payload) d.reply.header d.reply.body d.sent_head d.sent_body ∙ d.long;
+  })
 
--- why a link that is kept isn't handed on
-pub drain_overread : {L C : Type 0} (state : L → LinkState) (before : LinkState) (done : List Entry)
-    (old new : SessionView L C) (e f : Entry)
-    → IsDraining e old → Reused state old new e f → keeps_alive old ≡ true → HasMore new
-    → Accounted state before new done (Some f)
-    → IsDone before (state new.link) done f × (f.left.pipelining ≡ false)
-    × IfTold before.given (state new.link).given
-    (AfterRead (done ++ f ∷ []) (λ rest. 0 < length rest))
-drain_overread state before done old new e f d r alive more s =
-    let left : f.left ≡ new.settings = ap (λ (x : Entry). x.left) r.entry ∙ d.left ∙ sym r.settings in
-    let none : f.body_error ≡ None = ap (λ (x : Entry). x.body_error) r.entry ∙ d.unrefused in (
-      drain_done state before done old new e f d r alive s,
-      ap (λ (x : Settings). x.pipelining) left ∙ more.pipelining,
-      told_map before.given (state new.link).given (AfterRead done (λ rest. ReadEntry rest f new))
-          (AfterRead (done ++ f ∷ []) (λ rest. 0 < length rest)) (λ since h.
-          let past = read_past new done f since more.read none h in
-          (past.0, past.1, subst (λ xs. 0 < length xs) (sym past.2) more.more)) s.read,
-    )
+  unrefused_still : f.body_error ≡ None
+  unrefused_still = ap (λ (x : Entry). x.body_error) r.entry ∙ d.unrefused
 
--- why a link that isn't kept is shut
-pub drain_shut : {L C : Type 0} (gives : Given → Reply → Type 0) (state : L → LinkState)
-    (before : LinkState) (done : List Entry) (old new : SessionView L C) (e f : Entry)
-    → IsAllowed gives e → IsDraining e old → Reused state old new e f → keeps_alive old ≡ false
-    → Accounted state before new done (Some f)
-    → IsComplete before (state new.link) done f × (is_short f ≡ false) × (f.body_error ≡ None)
-    × ((f.keep ≡ false) ⊎ (is_until_close f ≡ true))
-drain_shut gives state before done old new e f a d r dead s = (
-  drain_complete state before done old new e f d r s,
-  drain_long state old new e f d r,
-  ap (λ (x : Entry). x.body_error) r.entry ∙ d.unrefused,
-  elim (not_open gives e old a d dead) [
-    | inl off ↦ inl (ap (λ (x : Entry). x.keep) r.entry ∙ off)
-    | inr closes ↦ inr (drain_closes state old new e f d r ∙ closes)
-  ],
-)
+  -- the reply is complete after the drain
+  drain_complete : (before : LinkState) (done : List Entry)
+      → Accounted state before new done (Some f) → IsComplete before (state new.link) done f
+  drain_complete before done s =
+      let nothing : end_bytes old.reply.writer ≡ [] =
+      ap (λ sent. coming sent old.reply.writer) (sym d.sent_body) ∙ d.nothing in
+      complete state before done new f d.reply.header d.reply.body
+      (ap (λ (x : Entry). x.owed) r.entry ∙ d.owed) s
+      (ap (λ (x : Outgoing). x.owed) r.reply ∙ d.reply_owed)
+      (ap (λ (x : Outgoing). end_bytes x.writer) r.reply ∙ nothing)
+      (ap (λ (x : Entry). x.sent_head) r.entry ∙ d.sent_head)
+      (ap (λ (x : Entry). x.sent_body) r.entry ∙ d.sent_body)
 
--- the exchange is over
-pub drain_over : {L C : Type 0} (state : L → LinkState) (old new : SessionView L C) (e f : Entry)
-    → IsDraining e old → Reused state old new e f → keeps_alive old ≡ true
-    → reads new.body.reader [] ≡ whole [] 0 → new.reusable ≡ true
-    → may_follow new.settings.pipelining new.received ≡ true → MayGoOn f new
-drain_over state old new e f d r alive read reusable follow =
-    let open_so = kept_open e old d alive in
-    record {
-      read = read;
-      keep = ap (λ (x : Entry). x.keep) r.entry ∙ open_so.0;
-      closes = drain_closes state old new e f d r ∙ open_so.1;
-      reusable = reusable;
-      alone = follow;
-    }
+  drain_long : is_short f ≡ false
+  drain_long = ap is_short r.entry
+      ∙ short_same e (e.body ++ r.payload) d.reply.header d.reply.body d.sent_head d.sent_body ∙ d.long
+
+  drain_closes : is_until_close f ≡ is_until_close e
+  drain_closes = ap is_until_close r.entry
+      ∙ closes_same e (e.body ++ r.payload) d.reply.header d.sent_head
+
+  -- and where the link is kept, the connection is kept after it
+  drain_done : (before : LinkState) (done : List Entry) → keeps_alive old ≡ true
+      → Accounted state before new done (Some f) → IsDone before (state new.link) done f
+  drain_done before done alive s =
+      let open_so = kept_open e old d alive in
+      record {
+        complete = drain_complete before done s;
+        long = drain_long;
+        keep = ap (λ (x : Entry). x.keep) r.entry ∙ open_so.0;
+        closes = drain_closes ∙ open_so.1;
+      }
+
+  -- why a drain waits
+  pub drain_waits : (before : LinkState) (done : List Entry) → keeps_alive old ≡ true
+      → Lacks new.body.reader new.received
+      → Accounted state before new done (Some f) → LacksSo before (state new.link) done (Some f)
+  drain_waits before done alive lacks s =
+      (inr (drain_done before done alive s), stands_unfinished state before done new f s lacks)
+
+  -- why it fails
+  pub drain_fails : (before : LinkState) (done : List Entry) (error : Error) (k : ErrorType)
+      → keeps_alive old ≡ true → BodyRefusal state old new k
+      → Accounted state before new done (Some f)
+      → FailureCause before (state old.link) (state new.link) done (Some f) error k
+  drain_fails before done error kind.InvalidBody alive h s =
+      (inr (drain_done before done alive s, unrefused_still, tt), stands_broken state before done new f s h)
+  drain_fails before done error kind.ConnectionClosed alive h s = (
+    h.0,
+    inr (inr (drain_done before done alive s, unrefused_still, tt), stands_unfinished state before done new f s h.1),
+  )
+  drain_fails before done error kind.ReadError alive h s = inr (
+    inr (drain_done before done alive s, unrefused_still, h.0),
+    stands_unfinished state before done new f s h.1,
+  )
+  drain_fails before done error kind.NoMemory alive h s = tt
+  drain_fails before done error _ alive h s = absurd h
+
+  -- why a link that is kept isn't handed on
+  pub drain_overread : (before : LinkState) (done : List Entry) → keeps_alive old ≡ true
+      → HasMore new → Accounted state before new done (Some f)
+      → IsDone before (state new.link) done f × (f.left.pipelining ≡ false)
+      × IfTold before.given (state new.link).given
+      (AfterRead (done ++ f ∷ []) (λ rest. 0 < length rest))
+  drain_overread before done alive more s =
+      let left : f.left ≡ new.settings = ap (λ (x : Entry). x.left) r.entry ∙ d.left ∙ sym r.settings in (
+        drain_done before done alive s,
+        ap (λ (x : Settings). x.pipelining) left ∙ more.pipelining,
+        told_map before.given (state new.link).given (AfterRead done (λ rest. ReadEntry rest f new))
+            (AfterRead (done ++ f ∷ []) (λ rest. 0 < length rest)) (λ since h.
+            let past = read_past new done f since more.read unrefused_still h in
+            (past.0, past.1, subst (λ xs. 0 < length xs) (sym past.2) more.more)) s.read,
+      )
+
+  -- why a link that isn't kept is shut
+  pub drain_shut : (before : LinkState) (done : List Entry) (gives : Given → Reply → Type 0)
+      → IsAllowed gives e → keeps_alive old ≡ false → Accounted state before new done (Some f)
+      → IsComplete before (state new.link) done f × (is_short f ≡ false) × (f.body_error ≡ None)
+      × ((f.keep ≡ false) ⊎ (is_until_close f ≡ true))
+  drain_shut before done gives a dead s = (
+    drain_complete before done s,
+    drain_long,
+    unrefused_still,
+    elim (not_open gives e old a d dead) [
+      | inl off ↦ inl (ap (λ (x : Entry). x.keep) r.entry ∙ off)
+      | inr closes ↦ inr (drain_closes ∙ closes)
+    ],
+  )
+
+  -- the exchange is over
+  pub drain_over : keeps_alive old ≡ true → reads new.body.reader [] ≡ whole [] 0
+      → new.reusable ≡ true → may_follow new.settings.pipelining new.received ≡ true
+      → MayGoOn f new
+  drain_over alive read reusable follow =
+      let open_so = kept_open e old d alive in
+      record {
+        read = read;
+        keep = ap (λ (x : Entry). x.keep) r.entry ∙ open_so.0;
+        closes = drain_closes ∙ open_so.1;
+        reusable = reusable;
+        alone = follow;
+      }
 
 -- bytes were received after the request, where the link is kept and isn't handed on
 pub drain_more : {L C : Type 0} (state : L → LinkState) (old new : SessionView L C) (e f : Entry)

@@ -154,14 +154,14 @@ reused_drained : {L C : Type 0} (state : L → LinkState) (old drained behind ne
     → Reused state old new e f
 reused_drained {L} {C} state old drained behind new e f outcome d is session entry =
     let made : Reused state old (taken_from drained behind.reusable) e f = record {
-      piece = d.reads.piece;
+      piece = d.reads.received.piece;
       used = d.reads.used;
       payload = d.payload;
       spent = allowance old.budget - d.left;
-      moved = d.reads.moved;
-      budget = budget_spent old.budget drained.budget d.left d.reads.within d.budget;
+      moved = d.reads.received.moved;
+      budget = budget_spent old.budget drained.budget d.left d.reads.received.within d.budget;
       within = within_spent old.budget d.left;
-      bytes = d.reads.bytes;
+      bytes = sym d.reads.received.bytes;
       decoded = d.reads.decoded;
       entry = entry ∙ ap (λ xs. record e { body = xs })
           (ap (λ (x : SessionView L C). payload_of x) is ∙ ap (λ kept. unwrap_or kept []) d.reads.keeps_payload);

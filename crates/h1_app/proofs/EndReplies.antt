@@ -2,7 +2,7 @@
 use Rattle.std.proofs.Common.{◌≡◌, ℕ, ◌+◌, ◌-◌, ◌^◌, ◌<◌, ◌⊎◌, inl, inr, min, List, [], ◌∷◌, ◌++◌, length, take, Bool, true, false, cond, nat_lt, nat_le, Some, refl, sym, ◌∙◌, ap, subst, append-nil, length-take, arith, codes}
 use Rattle.std.proofs.lemmas.Bool.{false≢true, ltb-true, lt-ltb}
 use Rattle.std.proofs.lemmas.Option.{none-some}
-use Rattle.h1_app.specs.Words.{AllByRecursion, Error, ErrorType, LinkState, ResponseView, whole, unfinished, broken, ahead, chunked, body, reads, read_as, framing, out, begun, after_piece, end_bytes, Framing, Counted, Chunked, UntilClose, Chunking, Reading, SessionView, Reply, Entry, WroteBehind, AfterWrote, FlushedBy, written_of, FailureCause, EndCause, IsComplete, IsWrittenShort, LastStands, render, is_short, shown, IfTold}
+use Rattle.h1_app.specs.Words.{AllByRecursion, Error, ErrorType, LinkState, ResponseView, Body, whole, unfinished, broken, ahead, chunked, body, reads, read_as, framing, out, begun, after_piece, end_bytes, Framing, Counted, Chunked, UntilClose, Chunking, Reading, Lacks, SessionView, Reply, Entry, WroteBehind, AfterWrote, FlushedBy, written_of, FailureCause, EndCause, IsComplete, IsWrittenShort, LastStands, render, is_short, shown, IfTold}
 use Rattle.h1_error.specs.declared.error.ErrorType.TheVariants as kind
 use Rattle.h1_error.specs.declared.progress.End.TheVariants as end
 use Rattle.h1_fields.specs.Lines.{Line}
@@ -16,7 +16,7 @@ use Rattle.h1_body.specs.Framing.{by_length, by_fields, has_no_body}
 use Rattle.h1_body.specs.Writer.{lacks}
 use Rattle.h1_body.specs.declared.chunking.Chunking.TheVariants as place
 use Rattle.h1_body.specs.declared.reader.Reading.TheVariants as reading
-use Rattle.h1_transcript.specs.Ends.{EndsBody}
+use Rattle.h1_transcript.specs.Ends.{EndsBody, LastAfter}
 use Rattle.h1_app.proofs.Words.{Accounted, ReadEntry, WroteSo, coming, StopsBody, StopsWith}
 use Rattle.h1_app.proofs.ReplyLemmas.{at_some}
 use Rattle.h1_transcript.proofs.BehindLemmas.{told_map, read_map}
@@ -47,30 +47,33 @@ reading_broken (reading.Chunked s) bytes h = chunks_broken s bytes h
 reading_broken reading.UntilClose bytes h = absurd (cc)
 reading_broken reading.Ended bytes h = absurd (cc)
 
--- how the last request's body stands
-pub stands_broken : {L C : Type 0} (since : List ℕ) (e : Entry) (session : SessionView L C)
-    → ReadEntry since e session
-    → reads session.body.reader [] ≡ broken [] → LastStands since e (broken e.body)
-stands_broken since e session r h = record {
-  n = r.n;
-  head = r.head;
-  body = ap (λ xs. body (framing e.head) xs) r.bytes ∙ r.decoded.read session.received
-      ∙ ap (λ b. ahead e.body (length r.used) b)
-      (reading_broken session.body.reader.reading session.received h)
-      ∙ ap (λ xs. broken xs) (append-nil e.body);
-}
+-- how the last request's body stands after the requests of the exchanges that ended
+module _ {L C : Type 0} (state : L → LinkState) (before : LinkState) (done : List Entry)
+    (session : SessionView L C) (e : Entry) (s : Accounted state before session done (Some e)) where
+  stands : (b stand : Body) → reads session.body.reader session.received ≡ b
+      → ((used : ℕ) → ahead e.body used b ≡ stand)
+      → IfTold before.given (state session.link).given (λ since. LastAfter since done e stand)
+  stands b stand is so = read_map done before.given (state session.link).given
+      (λ rest. ReadEntry rest e session) (λ rest. LastStands rest e stand)
+      (λ rest r. record {
+        n = r.n;
+        head = r.head;
+        body = ap (λ xs. body (framing e.head) xs) r.bytes ∙ r.decoded.read session.received
+            ∙ ap (λ b. ahead e.body (length r.used) b) is ∙ so (length r.used);
+      }) s.read
 
-pub stands_unfinished : {L C : Type 0} (since : List ℕ) (e : Entry) (session : SessionView L C)
-    → ReadEntry since e session
-    → session.received ≡ [] → reads session.body.reader [] ≡ unfinished []
-    → LastStands since e (unfinished e.body)
-stands_unfinished since e session r none h = record {
-  n = r.n;
-  head = r.head;
-  body = ap (λ xs. body (framing e.head) xs) r.bytes ∙ r.decoded.read session.received
-      ∙ ap (λ b. ahead e.body (length r.used) b) (ap (λ xs. reads session.body.reader xs) none ∙ h)
-      ∙ ap (λ xs. unfinished xs) (append-nil e.body);
-}
+  pub stands_broken : reads session.body.reader [] ≡ broken []
+      → IfTold before.given (state session.link).given (λ since. LastAfter since done e (broken e.body))
+  stands_broken h = stands (broken []) (broken e.body)
+      (reading_broken session.body.reader.reading session.received h)
+      (λ used. ap (λ xs. broken xs) (append-nil e.body))
+
+  -- it lacks more where nothing of it is left among the received bytes
+  pub stands_unfinished : Lacks session.body.reader session.received
+      → IfTold before.given (state session.link).given (λ since. LastAfter since done e (unfinished e.body))
+  stands_unfinished h = stands (unfinished []) (unfinished e.body)
+      (ap (λ xs. reads session.body.reader xs) h.0 ∙ h.1)
+      (λ used. ap (λ xs. unfinished xs) (append-nil e.body))
 
 -- an error of the request's body ends the connection for its own cause
 stop_cause : {L C : Type 0} (state : L → LinkState) (before old : LinkState) (done : List Entry)
@@ -78,27 +81,12 @@ stop_cause : {L C : Type 0} (state : L → LinkState) (before old : LinkState) (
     → Accounted state before session done (Some e)
     → EndsBody before (state session.link) done e error → StopsBody state session k
     → FailureCause before old (state session.link) done (Some e) error k
-stop_cause state before old done session e error kind.InvalidBody s ends h = (
-  inl ends,
-  read_map done before.given (state session.link).given (λ rest. ReadEntry rest e session)
-      (λ rest. LastStands rest e (broken e.body))
-      (λ rest r. stands_broken rest e session r h) s.read,
-)
-stop_cause state before old done session e error kind.ConnectionClosed s ends h = (
-  h.0,
-  inr (
-    inl ends,
-    read_map done before.given (state session.link).given
-        (λ rest. ReadEntry rest e session) (λ rest. LastStands rest e (unfinished e.body))
-        (λ rest r. stands_unfinished rest e session r h.1.0 h.1.1) s.read,
-  ),
-)
-stop_cause state before old done session e error kind.ReadError s ends h = inr (
-  inl ends,
-  read_map done before.given (state session.link).given
-      (λ rest. ReadEntry rest e session) (λ rest. LastStands rest e (unfinished e.body))
-      (λ rest r. stands_unfinished rest e session r h.0 h.1) s.read,
-)
+stop_cause state before old done session e error kind.InvalidBody s ends h =
+    (inl ends, stands_broken state before done session e s h)
+stop_cause state before old done session e error kind.ConnectionClosed s ends h =
+    (h.0, inr (inl ends, stands_unfinished state before done session e s h.1))
+stop_cause state before old done session e error kind.ReadError s ends h =
+    inr (inl ends, stands_unfinished state before done session e s h)
 stop_cause state before old done session e error kind.NoMemory s ends h = tt
 stop_cause state before old done session e error _ s ends h = absurd h
 

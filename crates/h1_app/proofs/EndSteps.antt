@@ -90,8 +90,7 @@ finish_stepped {L} {C} {J} state pends gives runs now shutdown x y answer writte
       ),
       omega arith,
       ahead_down {J = J} state x.session y.session at.Finish at.Drain
-          (moves_wrote state x.session y.session x.session.keep w.taking w.left ready.budget
-          w.writes)
+          (moves_wrote state x.session y.session x.session.keep w.taking w.left w.writes)
           (omega arith),
     )
     by_error e h w counted told (Some error) some stands = rw stands

@@ -7,6 +7,7 @@ use Rattle.h1_transfer.specs.EndWrites.{EndAnswer, end_stage, goes_on, starts}
 use Rattle.h1_transfer.specs.ReplyFraming.{is_begun}
 use Rattle.h1_app.proofs.BodyReplies.{writes_nothing}
 use Rattle.h1_app.proofs.EndReplies.{complete, short_as, stopped_cause, told_whole}
+use Rattle.h1_app.proofs.LeavesLemmas.{short_told}
 use Rattle.h1_app.proofs.PartLemmas.{WritesPart, more_of, more_part, part_replied}
 use Rattle.h1_app.proofs.ReplyLemmas.{at_none, headed_on, waits_why}
 use Rattle.h1_app.proofs.Words.{Accounted, IsDraining, IsFinishing, IsHeaded, IsReplied, SettledSo, SoundStage, coming, failure_of, filled}
@@ -49,39 +50,6 @@ pub record Ending {L C : Type 0} (state : L → LinkState) (old new : SessionVie
       × EndAnswer (state old.link) (state new.link) old.reply new.reply left outcome)
       ⊎ FallsShort old new e reply outcome
 
-begins_ending : {L C : Type 0} (state : L → LinkState) (old new : SessionView L C) (e : Entry)
-    (reply : Reply) (outcome : Poll (Result (Option ℕ) Error))
-    → old.reply.writer ≡ filled e reply → writer.is_short (filled e reply) ≡ false
-    → WritesEnd state old new starts outcome → Ending state old new e reply outcome
-begins_ending state old new e reply outcome is long w =
-    let ended : new.reply.writer ≡ record (filled e reply) { ended = true } =
-    w.takes.2 ∙ ap (λ (x : WriterView). record x { ended = true }) is in
-    record {
-      taking = w.taking;
-      left = w.left;
-      writes = w.writes;
-      headed = w.takes.1;
-      ended = ended;
-      bytes = ap (λ x. w.taking ++ end_bytes x) ended ∙ append-nil w.taking ∙ w.takes.0;
-      answer = inl (long, w.answer);
-    }
-
-goes_on_ending : {L C : Type 0} (state : L → LinkState) (old new : SessionView L C) (e : Entry)
-    (reply : Reply) (outcome : Poll (Result (Option ℕ) Error))
-    → old.reply.writer ≡ record (filled e reply) { ended = true }
-    → writer.is_short (filled e reply) ≡ false
-    → WritesEnd state old new goes_on outcome → Ending state old new e reply outcome
-goes_on_ending state old new e reply outcome is long w = record {
-  taking = w.taking;
-  left = w.left;
-  writes = w.writes;
-  headed = w.takes.1.headed;
-  ended = w.takes.1.writer ∙ is;
-  bytes = ap (λ xs. xs ++ end_bytes new.reply.writer) w.takes.0 ∙ ap (λ x. end_bytes x)
-      w.takes.1.writer;
-  answer = inl (long, w.answer);
-}
-
 -- a body that falls short has no bytes after its payload
 short_ends : (f : Framing) (payload : List ℕ)
     → writer.is_short (after_piece (begun f) payload) ≡ true
@@ -90,66 +58,76 @@ short_ends (Counted n) payload h = refl
 short_ends Chunked payload h = absurd (false≢true h)
 short_ends UntilClose payload h = absurd (false≢true h)
 
--- a body that falls short is ended, and nothing is written
-short_writes : {L C : Type 0} (state : L → LinkState) (old : SessionView L C) (end : WriterView)
-    → old.reply.sent < 2 ^ 64
-    → Writes state old (record old { reply = record old.reply { writer = end } }) []
-    (allowance old.budget)
-short_writes state old end limit =
-    let same = writes_nothing state old limit in
-    record {
-      sent = same.sent;
-      budget = same.budget;
-      rest = refl;
-      counted = same.counted;
-    }
+module _ {L C : Type 0} (state : L → LinkState) (old new : SessionView L C) (e : Entry)
+    (reply : Reply) (outcome : Poll (Result (Option ℕ) Error)) where
+  begins_ending : old.reply.writer ≡ filled e reply → writer.is_short (filled e reply) ≡ false
+      → WritesEnd state old new starts outcome → Ending state old new e reply outcome
+  begins_ending is long w =
+      let ended : new.reply.writer ≡ record (filled e reply) { ended = true } =
+      w.takes.2 ∙ ap (λ (x : WriterView). record x { ended = true }) is in
+      record {
+        taking = w.taking;
+        left = w.left;
+        writes = w.writes;
+        headed = w.takes.1;
+        ended = ended;
+        bytes = ap (λ x. w.taking ++ end_bytes x) ended ∙ append-nil w.taking ∙ w.takes.0;
+        answer = inl (long, w.answer);
+      }
 
-short_ending : {L C : Type 0} (state : L → LinkState) (old new : SessionView L C) (e : Entry)
-    (reply : Reply) (outcome : Poll (Result (Option ℕ) Error))
-    → old.reply.owed ≡ [] → old.reply.writer ≡ filled e reply → old.reply.sent < 2 ^ 64
-    → writer.is_short old.reply.writer ≡ true
-    → EndsShort old new outcome → Ending state old new e reply outcome
-short_ending {L} {C} state old new e reply outcome none is limit short w =
-    let short_is : writer.is_short (filled e reply) ≡ true = ap (λ x. writer.is_short x) (sym is) ∙
-    short in
-    let ended : Ending state old (record old
-    { reply = record old.reply { writer = record old.reply.writer { ended = true } } }) e reply
-    outcome = record {
-      taking = [];
-      left = allowance old.budget;
-      writes = short_writes state old (record old.reply.writer { ended = true }) limit;
-      headed = refl;
-      ended = ap (λ (x : WriterView). record x { ended = true }) is;
-      bytes = sym (ap (λ x. end_bytes x) is
-          ∙ short_ends (out e.head.method reply.header) reply.body short_is);
-      answer = inr (record { short = short_is; owed = none; answer = w.answer });
-    } in
-    subst (λ (x : SessionView L C). Ending state old x e reply outcome) (sym w.ends) ended
+  goes_on_ending : old.reply.writer ≡ record (filled e reply) { ended = true }
+      → writer.is_short (filled e reply) ≡ false
+      → WritesEnd state old new goes_on outcome → Ending state old new e reply outcome
+  goes_on_ending is long w = record {
+    taking = w.taking;
+    left = w.left;
+    writes = w.writes;
+    headed = w.takes.1.headed;
+    ended = w.takes.1.writer ∙ is;
+    bytes = ap (λ xs. xs ++ end_bytes new.reply.writer) w.takes.0 ∙ ap (λ x. end_bytes x)
+        w.takes.1.writer;
+    answer = inl (long, w.answer);
+  }
 
-ending_free : {L C : Type 0} (state : L → LinkState) (old new : SessionView L C) (e : Entry)
-    (reply : Reply) (outcome : Poll (Result (Option ℕ) Error)) (short : Bool)
-    → writer.is_short old.reply.writer ≡ short → old.reply.owed ≡ []
-    → old.reply.writer ≡ filled e reply → old.reply.sent < 2 ^ 64
-    → EndCall state old new outcome (end_stage step.Free true short)
-    → Ending state old new e reply outcome
-ending_free state old new e reply outcome true short none is limit call = short_ending state old new
-    e reply outcome none is limit short call
-ending_free state old new e reply outcome false short none is limit call = begins_ending state old
-    new e reply outcome is (ap (λ x. writer.is_short x) (sym is) ∙ short) call
+  short_ending : old.reply.owed ≡ [] → old.reply.writer ≡ filled e reply
+      → old.reply.sent < 2 ^ 64 → writer.is_short old.reply.writer ≡ true
+      → EndsShort old new outcome → Ending state old new e reply outcome
+  short_ending none is limit short w =
+      let short_is : writer.is_short (filled e reply) ≡ true =
+      ap (λ x. writer.is_short x) (sym is) ∙ short in
+      let ended : Ending state old (record old
+      { reply = record old.reply { writer = record old.reply.writer { ended = true } } }) e reply
+      outcome = record {
+        taking = [];
+        left = allowance old.budget;
+        writes = writes_nothing state old (record old.reply.writer { ended = true }) limit;
+        headed = refl;
+        ended = ap (λ (x : WriterView). record x { ended = true }) is;
+        bytes = sym (ap (λ x. end_bytes x) is
+            ∙ short_ends (out e.head.method reply.header) reply.body short_is);
+        answer = inr (record { short = short_is; owed = none; answer = w.answer });
+      } in
+      subst (λ (x : SessionView L C). Ending state old x e reply outcome) (sym w.ends) ended
 
-ending_at : {L C : Type 0} (state : L → LinkState) (old new : SessionView L C) (e : Entry)
-    (reply : Reply) (outcome : Poll (Result (Option ℕ) Error)) (s : Step)
-    → old.reply.sent < 2 ^ 64 → IsFinishing e old reply s → EndCall state old new outcome
-    (end_stage s (is_begun old.reply.writer) (writer.is_short old.reply.writer))
-    → Ending state old new e reply outcome
-ending_at state old new e reply outcome step.Free limit h call =
-    ending_free state old new e reply outcome (writer.is_short old.reply.writer) refl h.0 h.1 limit
-    (subst (λ (b : Bool). EndCall state old new outcome
-    (end_stage step.Free b (writer.is_short old.reply.writer))) (ap is_begun h.1) call)
-ending_at state old new e reply outcome step.Finish limit h call = goes_on_ending state old new e
-    reply outcome h.0 h.1 call
-ending_at state old new e reply outcome step.Head limit h call = absurd h
-ending_at state old new e reply outcome (step.Piece count) limit h call = absurd h
+  ending_free : (short : Bool) → writer.is_short old.reply.writer ≡ short
+      → old.reply.owed ≡ [] → old.reply.writer ≡ filled e reply → old.reply.sent < 2 ^ 64
+      → EndCall state old new outcome (end_stage step.Free true short)
+      → Ending state old new e reply outcome
+  ending_free true short none is limit call = short_ending none is limit short call
+  ending_free false short none is limit call =
+      begins_ending is (ap (λ x. writer.is_short x) (sym is) ∙ short) call
+
+  ending_at : (s : Step) → old.reply.sent < 2 ^ 64 → IsFinishing e old reply s
+      → EndCall state old new outcome
+      (end_stage s (is_begun old.reply.writer) (writer.is_short old.reply.writer))
+      → Ending state old new e reply outcome
+  ending_at step.Free limit h call =
+      ending_free (writer.is_short old.reply.writer) refl h.0 h.1 limit
+      (subst (λ (b : Bool). EndCall state old new outcome
+      (end_stage step.Free b (writer.is_short old.reply.writer))) (ap is_begun h.1) call)
+  ending_at step.Finish limit h call = goes_on_ending h.0 h.1 call
+  ending_at step.Head limit h call = absurd h
+  ending_at (step.Piece count) limit h call = absurd h
 
 pub ending : {L C : Type 0} (state : L → LinkState) (old new : SessionView L C) (e : Entry)
     (outcome : Poll (Result (Option ℕ) Error)) (h : AtFinish e old)
@@ -166,10 +144,6 @@ fails_as_is : (body_error : Option Error) (error : Error) (k : ErrorType) → er
 fails_as_is None error k is which = refl
 fails_as_is (Some body_error) error k is (inl write) = rw (is, write) refl
 fails_as_is (Some body_error) error k is (inr memory) = rw (is, memory) refl
-
-fails_as_body : (body_error error : Error) → error.kind ≡ kind.PrematureBodyEnd
-    → failure_of (Some body_error) error ≡ body_error
-fails_as_body body_error error is = rw is refl
 
 plain_cause : (before old now : LinkState) (done : List Entry) (last : Option Entry)
     (body_error : Option Error) (error : Error) (k : ErrorType)
@@ -190,7 +164,7 @@ short_cause : {L C : Type 0} (state : L → LinkState) (before old : LinkState) 
 short_cause state before old done session f None error is body s short = rw is (refl, (short, body))
 short_cause state before old done session f (Some body_error) error is body s short =
     subst (λ (x : Error). EndCause before old (state session.link) done (Some f) (end.Failed x))
-    (sym (fails_as_body body_error error (ap (λ (x : Error). x.kind) is)))
+    (sym (short_told body_error error (ap (λ (x : Error). x.kind) is)))
     (stopped_cause state before old done session f body_error s body (inr short))
 
 refusal_cause : (before old now : LinkState) (done : List Entry) (reply : Outgoing)

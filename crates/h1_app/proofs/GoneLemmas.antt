@@ -1,12 +1,12 @@
 -- What steps of a connection leave, one after the other.
-use Rattle.std.proofs.Common.{◌≡◌, ℕ, ◌+◌, ◌-◌, ◌<◌, ◌≤◌, ◌⊎◌, inl, inr, List, ◌++◌, length, Bool, true, false, Option, Some, None, IfSome, IsSome, option_map, refl, sym, ◌∙◌, ap, length-append, arith}
+use Rattle.std.proofs.Common.{◌≡◌, ℕ, ◌+◌, ◌-◌, ◌<◌, ◌≤◌, ◌⊎◌, inl, inr, List, ◌++◌, length, Bool, true, false, Option, Some, None, IsSome, option_map, refl, sym, ◌∙◌, ap, length-append, arith}
 use Rattle.h1_app.proofs.LeavesLemmas.{leaves_further, leaves_itself}
-use Rattle.h1_app.proofs.Words.{Leaves, WaitCause, PendedBy, Gone, Turned, still_calls, Accounted, MovesWithin, rank, WaitsOn, View, entries}
+use Rattle.h1_app.proofs.Words.{Leaves, WaitCause, PendedBy, Gone, Turned, still_calls, Accounted, MovesWithin, rank, WaitsOn, View, entries, Cause, PendedOn, PendedNew, JobNew, waiting_for, JobPends}
 use Rattle.std.specs.Prelude.{◌==◌, if◌then◌else◌}
 use Rattle.std.proofs.lemmas.Bool.{false≢true}
 use Rattle.std.proofs.lemmas.Bool.Decides.{nat_tests}
 use Rattle.std.specs.Io.KnownBytes.{append_known}
-use Rattle.h1_app.specs.Words.{Error, ErrorType, End, Progress, Waiting, LinkState, Later, SessionView, Entry, Stage, FailureCause, EndCause, ToldGrowth}
+use Rattle.h1_app.specs.Words.{Error, ErrorType, End, Progress, Waiting, LinkState, Later, Rose, SessionView, Entry, Stage, FailureCause, EndCause, ToldGrowth}
 use Rattle.h1_error.specs.declared.error.ErrorType.TheVariants as kind
 use Rattle.h1_error.specs.declared.progress.End.TheVariants as end
 use Rattle.h1_error.specs.declared.progress.Progress.TheVariants as progress
@@ -14,27 +14,11 @@ use Rattle.h1_error.specs.declared.progress.Waiting.TheVariants as waiting
 use Rattle.h1_link.proofs.Laters.{later_itself, rose_read_waits, rose_write_waits, rose_read_faults, rose_write_faults}
 use Rattle.h1_transfer.proofs.MovedLemmas.{moved_on}
 use Rattle.h1_app.specs.declared.exchange.Stage.TheVariants as stage
-use Rattle.h1_app.specs.Causes.{Cause, PendedOn, PendedNew}
+use Rattle.h1_application.proofs.ReadLemmas.{budget_on, within_on}
 use Rattle.h1_transcript.specs.Ends.{StopsLast}
-use Rattle.h1_app.specs.Turn.{JobNew, waiting_for}
-use Rattle.h1_app.specs.Outcome.{JobPends}
 use Rattle.h1_transcript.proofs.AloneLemmas.{join_none, join_on}
 use Rattle.h1_transcript.proofs.GrowthLemmas.{extends_itself, extends_on, replies_grow}
 use Rattle.h1_app.proofs.ReplyLemmas.{moves_none}
-
-budget_on : (a b c : Option ℕ) (x y : ℕ) → b ≡ option_map (λ left. left - x) a
-    → c ≡ option_map (λ left. left - y) b → c ≡ option_map (λ left. left - (x + y)) a
-budget_on None b c x y first second = second ∙ ap (option_map (λ left. left - y)) first
-budget_on (Some a) b c x y first second =
-    let same : a - x - y ≡ a - (x + y) = omega arith in
-    second ∙ ap (option_map (λ left. left - y)) first ∙ ap Some same
-
-within_on : (a b : Option ℕ) (x y : ℕ) → b ≡ option_map (λ left. left - x) a
-    → IfSome a (λ left. x ≤ left) → IfSome b (λ left. y ≤ left) → IfSome a (λ left. x + y ≤ left)
-within_on None b x y e first second = tt
-within_on (Some a) b x y e first second =
-    let rest : y ≤ a - x = rw e at second in
-    omega arith
 
 moves_on : {L C : Type 0} (state : L → LinkState) (a b c : SessionView L C) → MovesWithin state a b
     → MovesWithin state b c → MovesWithin state a c
@@ -129,7 +113,9 @@ failure_back before older old now later done last error kind.ReadError (inl h) =
     inl (h.0, rose_read_faults 1 older old now now later h.1 (later_itself now), h.2)
 failure_back before older old now later done None error kind.ReadError (inr h) = absurd h
 failure_back before older old now later done (Some e) error kind.ReadError (inr h) =
-    inr (stops_back before now done e error _ _ (λ rose. rose_read_faults 1 older old now now later rose (later_itself now)) h.0, h.1)
+    let rose = λ (met : Rose old.read_faults now.read_faults).
+    rose_read_faults 1 older old now now later met (later_itself now) in
+    inr (stops_back before now done e error _ _ rose h.0, h.1)
 failure_back before older old now later done last error kind.WriteError h =
     rose_write_faults 1 older old now now later h (later_itself now)
 failure_back before older old now later done last error _ h = h

@@ -147,9 +147,9 @@ none_stepped state pends gives runs now shutdown x y answer result h none same f
     record {
       moves = moves_received state x.session y.session r.bytes r.left r.received r.budget
           (ap (λ s. s.context) r.rest);
-      accounted = λ before done. rw (same, h.alone)
-          (accounted_received state x.session y.session r.bytes (allowance x.session.budget) r.left
-          before done r.received none.received (ap (λ s. s.reply) r.rest) h.awaiting.request
+      accounted = λ before done. rw (same, h.alone) (λ s.
+          accounted_received state x.session y.session r.bytes (allowance x.session.budget) r.left
+          before done r.received (ap (λ s. s.reply) r.rest) h.awaiting.request s none.received
           none.request);
       allowed = rw (same, h.alone) tt;
       kept = rw (same, h.alone) tt;

@@ -6,7 +6,8 @@ use Rattle.h1_head.specs.Wire.{print_status_line}
 use Rattle.h1_server.specs.Persistence.{keep_flag}
 use Rattle.httpdate.proofs.Theorems.{unix_secs_injective}
 use Rattle.h1_app.proofs.PartLemmas.{Part, WritesPart, replying}
-use Rattle.h1_app.proofs.ReplyLemmas.{ahead_wrote, at_none, at_some, stays_itself}
+use Rattle.h1_app.proofs.ReplyLemmas.{ahead_wrote, at_none, at_some}
+use Rattle.h1_transcript.proofs.GrowthLemmas.{stays_itself}
 use Rattle.h1_app.proofs.Words.{IsHeaded, IsReplied, IsUnwritten, coming, fresh, ahead}
 use Rattle.h1_app.specs.declared.exchange.Stage.TheVariants as at
 

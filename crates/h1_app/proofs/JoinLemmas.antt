@@ -1,12 +1,11 @@
 -- An exchange that is whole joins those that ended.
 use Rattle.std.proofs.Common.{◌≡◌, ℕ, ◌+◌, ◌-◌, ◌^◌, min, List, [], ◌∷◌, ◌++◌, length, drop, Bool, false, Option, Some, None, IfSome, IsSome, refl, sym, ◌∙◌, ap, subst, append-nil, arith}
 use Rattle.std.proofs.lemmas.Bool.{false≢true}
-use Rattle.h1_app.specs.Words.{LinkState, HeadAt, ResponseView, whole, ahead, framing, GrowsTo, HasRead, body, reads, Framing, BodyReader, SessionView, BodyState, Reply, Entry, ReadBehind, WroteBehind, AfterRead, AfterWrote, DoneBehind, FlushedBy, StoodAs, written_of, render}
+use Rattle.h1_app.specs.Words.{LinkState, HeadAt, ResponseView, whole, ahead, framing, HasRead, body, reads, Framing, BodyReader, SessionView, BodyState, Reply, Entry, ReadBehind, WroteBehind, AfterRead, AfterWrote, DoneBehind, FlushedBy, StoodAs, written_of, render}
 use Rattle.h1_body.proofs.ReadLemmas.{read_is}
-use Rattle.h1_body.proofs.LawLemmas.{bodies_grow}
 use Rattle.h1_transcript.specs.Behind.{IsDoneAt}
 use Rattle.h1_app.proofs.Words.{IsDoneIn, IsRestarted, Accounted, ReadEntry, ReadSo, WroteSo, StoodSo}
-use Rattle.h1_transcript.proofs.BehindLemmas.{told_map}
+use Rattle.h1_transcript.proofs.BehindLemmas.{told_map, whole_stays}
 use Rattle.h1_app.proofs.StoodLemmas.{stood_as}
 
 -- a request that was read whole, after the others
@@ -49,9 +48,7 @@ body_ended : (f : Framing) (used received payload : List ℕ) (reader : BodyRead
 body_ended f used received payload reader read is =
     let all : body f used ≡ whole payload (length used) =
     read_is f used payload reader read ∙ ap (ahead payload (length used)) is ∙ whole_is (append-nil payload) in
-    let grown : GrowsTo (whole payload (length used)) (body f (used ++ received)) =
-    subst (λ b. GrowsTo b (body f (used ++ received))) all (bodies_grow f used received) in
-    grown
+    whole_stays f used received payload (length used) all
   where
     whole_is : {payload : List ℕ} {used : ℕ} → payload ++ [] ≡ payload
         → whole (payload ++ []) (used + 0) ≡ whole payload used

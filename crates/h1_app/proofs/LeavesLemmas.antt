@@ -1,18 +1,13 @@
 -- What steps leave of the link, one after the other.
-use Rattle.std.proofs.Common.{◌≡◌, ◌⊎◌, inl, inr, ℕ, List, Bool, Option, Some, None, IfNone, sym, ap, ◌∙◌, subst, refl, true, false, Result, Ok, Err, arith}
-use Rattle.h1_app.specs.Words.{ErrorType, End, LinkState, Entry, ExtendsLast, Exchange, Given, Reply, RequestView, Settings, Outcome, Stage, SessionView, Error, Poll, Ready, Pending, Called, FaultsBy, ReusesBy, is_replied, keeps_alive, may_go_on, Asked, no_memory}
+use Rattle.std.proofs.Common.{◌≡◌, ◌⊎◌, inl, inr, ℕ, List, Bool, Option, Some, None, IfNone, sym, ap, ◌∙◌, subst, refl, true, false, Result, arith}
+use Rattle.h1_app.specs.Words.{ErrorType, End, LinkState, Entry, ExtendsLast, SessionView, Error, Poll, Called, FaultsBy, ReusesBy, is_replied, keeps_alive, may_go_on, Asked, no_memory}
 use Rattle.h1_error.specs.declared.error.ErrorType.TheVariants as kind
 use Rattle.h1_error.specs.declared.progress.End.TheVariants as end
-use Rattle.h1_app.proofs.Words.{outcome_end, View, AsksAs, failure_of, lent, ReusesAs, StepReady, Leaves, LeavesOn}
-use Rattle.h1_app.specs.declared.exchange.Stage.TheVariants as at
+use Rattle.h1_app.proofs.Words.{View, AsksAs, failure_of, lent, Leaves, LeavesOn, CalledForReuse, NotesFault, ReadsHeld, ReadsHeldBy, ShutBy, WritesHeld, WritesHeldBy}
 use Rattle.h1_transfer.specs.Calls.{no_fault, read_fault_of, read_fault_of_kind, write_fault_of_kind}
 use Rattle.h1_application.specs.Application.{fault_met}
 use Rattle.h1_server.specs.Calls.{is_reused}
-use Rattle.h1_app.specs.Draining.{CalledForReuse, ShutUnless}
-use Rattle.h1_app.proofs.DrainEnds.{at_drain}
-use Rattle.h1_app.proofs.DrainLemmas.{Answered, alive_replied, answered}
-use Rattle.h1_app.proofs.DrainSteps.{StandsDrained}
-use Rattle.h1_app.specs.Leaves.{NotesFault, ReadsHeld, ReadsHeldBy, ShutBy, WritesHeld, WritesHeldBy}
+use Rattle.h1_app.proofs.DrainLemmas.{alive_replied}
 
 -- an exchange that notes a fault goes on to do so
 pub noted_grows : (now : ℕ) (shutdown : Bool) (first second : LinkState)
@@ -74,7 +69,7 @@ given_none None P p = p
 given_none (Some value) P p = tt
 
 -- a call that reads failed, and the connection ends with that
-reads_failed : (before now : LinkState) (last : Option Entry) (k : ErrorType)
+pub reads_failed : (before now : LinkState) (last : Option Entry) (k : ErrorType)
     → FaultsBy before now (read_fault_of_kind k)
     → WritesHeldBy before.write_faults now.write_faults k
     × ReadsHeldBy before.read_faults now.read_faults last k
@@ -161,67 +156,6 @@ called_reuse {L} {C} state old asked behind payload answer lent_is replied reuse
     by_alive true is r = let c = called is in record { others = c.others; faults = c.faults; shut = c.shut }
     by_alive false is r = rw (r.0, r.1) (record { others = omega arith; faults = (refl, refl); shut = refl })
 
--- the rest of the request's body is read
-pub drain_leaves : {L C J : Type 0} (state : L → LinkState) (gives : Given → Reply → Type 0)
-    (runs : J → RequestView → Settings → Settings → List ℕ → Type 0) (now : ℕ)
-    (x : Exchange L J C) (new : SessionView L C) (e f : Entry)
-    (answer told : Poll (Result Bool Error)) (alive : Bool) (to : Stage J) (result : Outcome)
-    → StepReady gives runs now x → x.stage ≡ at.Drain → x.transcript.last ≡ Some e
-    → ReusesAs state x.session new e f answer
-    → CalledForReuse (state x.session.link) (state new.link) (keeps_alive x.session)
-    (is_reused answer) (read_fault_of answer)
-    → alive ≡ keeps_alive new → answer ≡ told → StandsDrained told alive x.stage to result
-    → Leaves (state x.session.link) (state new.link) (Some f) (outcome_end result)
-drain_leaves {L} {C} {J} state gives runs now x new e f answer told alive to result ready stage was
-    reuses called lives is stands =
-    let d = at_drain runs old x.transcript.last x.stage e stage was ready.sound in
-    by_answer told alive
-    (subst (Answered state old new) is
-    (answered state old new e f answer ready.budget d.body reuses))
-    (subst (λ a. CalledForReuse (state old.link) (state new.link) (keeps_alive old) (is_reused a)
-    (read_fault_of a)) is called) lives stands
-  where
-    old : SessionView L C
-    old = x.session
-
-    shut_as : (kept : Bool) → keeps_alive old ≡ kept
-        → ShutUnless (keeps_alive old) (state old.link).shut (state new.link).shut
-        → ShutUnless kept (state old.link).shut (state new.link).shut
-    shut_as kept is h = subst (λ t. ShutUnless t (state old.link).shut (state new.link).shut) is h
-
-    by_answer : (answer : Poll (Result Bool Error)) (alive : Bool) → Answered state old new answer
-        → CalledForReuse (state old.link) (state new.link) (keeps_alive old) (is_reused answer)
-        (read_fault_of answer)
-        → alive ≡ keeps_alive new → StandsDrained answer alive x.stage to result
-        → Leaves (state old.link) (state new.link) (Some f) (outcome_end result)
-    by_answer Pending alive a called lives stands = rw stands.1 (record {
-      writes = called.faults.1;
-      reads = inl called.faults.0;
-      shut = shut_as true a.0 called.shut;
-    })
-    by_answer (Ready (Err error)) alive a called lives stands =
-        let held = reads_failed (state old.link) (state new.link) (Some f) error.kind called.faults
-        in rw stands (record {
-          writes = held.0;
-          reads = held.1;
-          shut = shut_as true a.0 called.shut;
-        })
-    by_answer (Ready (Ok true)) alive a called lives stands = rw stands.1 (record {
-      writes = called.faults.1;
-      reads = inl called.faults.0;
-      shut = shut_as true a.0 called.shut;
-    })
-    by_answer (Ready (Ok false)) true a called lives stands = rw stands (record {
-      writes = called.faults.1;
-      reads = inl called.faults.0;
-      shut = shut_as true (sym a.0 ∙ sym lives) called.shut;
-    })
-    by_answer (Ready (Ok false)) false a called lives stands = rw stands (record {
-      writes = called.faults.1;
-      reads = inl called.faults.0;
-      shut = shut_as false (sym a.0 ∙ sym lives) called.shut;
-    })
-
 -- a write that was refused ends the connection
 writes_failed : (before now : LinkState) (last : Option Entry) (k : ErrorType)
     → FaultsBy before now (write_fault_of_kind k)
@@ -244,7 +178,7 @@ told_is : (failed error : Error) (k : ErrorType) → error.kind ≡ k
 told_is failed error kind.PrematureBodyEnd is = inl refl
 told_is failed error _ is = inr (rw is refl)
 
-short_told : (failed error : Error) → error.kind ≡ kind.PrematureBodyEnd
+pub short_told : (failed error : Error) → error.kind ≡ kind.PrematureBodyEnd
     → failure_of (Some failed) error ≡ failed
 short_told failed error is = rw is refl
 

@@ -13,7 +13,8 @@ use Rattle.h1_transcript.proofs.AloneLemmas.{within_all}
 use Rattle.h1_transcript.proofs.BehindLemmas.{told_map}
 use Rattle.h1_transcript.proofs.GrowthLemmas.{extends_itself}
 use Rattle.h1_app.proofs.JoinLemmas.{accounted_joined}
-use Rattle.h1_app.proofs.TurnLemmas.{all_join, pipelining_last, reuses_last}
+use Rattle.h1_app.proofs.TurnLemmas.{all_join, pipelining_last}
+use Rattle.h1_transcript.proofs.ServedLemmas.{begun_last}
 
 ended_is : {L C : Type 0} (session : SessionView L C) (e : Entry) → IsDraining e session
     → MayGoOn e session → IsDoneIn session e
@@ -53,7 +54,7 @@ next_set : {L C : Type 0} (limit : Option ℕ) (old new : SessionView L C) (done
 next_set limit old new done e d a reuses begun =
     let settings = ap (λ s. s.settings) a.rest in
     let left : old.settings.reuses ≡ reuses_at limit (0 + length done) =
-    ap (λ (s : Settings). s.reuses) (sym d.left) ∙ reuses ∙ reuses_last limit 0 false done e begun in
+    ap (λ (s : Settings). s.reuses) (sym d.left) ∙ reuses ∙ begun_last limit 0 false done e begun in
     let more : 0 + length done + 1 ≡ length (done ++ e ∷ []) = omega (arith, length-append done (e ∷ [])) in
     record {
       closing = ap (λ (s : Settings). s.closing) settings;

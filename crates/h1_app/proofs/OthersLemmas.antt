@@ -3,8 +3,7 @@ use Rattle.std.proofs.Common.{◌≡◌, ℕ, ◌+◌, ◌*◌, ◌≤◌, List,
 use Rattle.h1_app.specs.Words.{LinkState, RequestView, SessionView, Settings, Entry, Stage, Outcome, ExtendsLast}
 use Rattle.h1_app.specs.declared.exchange.Stage.TheVariants as stage
 use Rattle.h1_app.specs.declared.exchange.Outcome.TheVariants as outcome
-use Rattle.h1_app.proofs.Words.{SoundStage, View, still, still_calls, stops}
-use Rattle.h1_app.specs.Waits.{OthersFew}
+use Rattle.h1_app.proofs.Words.{SoundStage, View, still, still_calls, stops, OthersFew}
 
 still_most : {J : Type 0} (at : Stage J) → still at ≤ 3
 still_most stage.Head = omega arith

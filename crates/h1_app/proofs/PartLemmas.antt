@@ -3,10 +3,9 @@ use Rattle.std.proofs.Common.{Bool, IfSome, List, None, Option, Some, [], ap, ap
 use Rattle.h1_app.specs.Words.{BodyState, Entry, Failed, Grows, How, LinkState, Moved, Open, Reply, Request, ResponseView, RoseBy, SessionView, Stays, Whole, Writes, allowance, render, written_of}
 use Rattle.h1_link.proofs.Laters.{later_on}
 use Rattle.h1_transcript.proofs.BehindLemmas.{flushed_on, read_same, wrote_on}
-use Rattle.h1_transcript.proofs.GrowthLemmas.{refused_same}
+use Rattle.h1_transcript.proofs.GrowthLemmas.{dated_same, refused_same, replied_same, stays_itself}
 use Rattle.h1_transcript.specs.Growth.{DatedAt}
 use Rattle.h1_app.proofs.AccountedLemmas.{stopped_on}
-use Rattle.h1_app.proofs.ReplyLemmas.{dated_same, replied_same, stays_itself}
 use Rattle.h1_app.proofs.Words.{Accounted, IsReplied, ReadSo, SettledSo, StoodSo, WroteSo, coming}
 
 -- what an exchange notes of its reply

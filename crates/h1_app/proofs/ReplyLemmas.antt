@@ -1,11 +1,10 @@
 -- How an exchange goes on as its reply is written.
-use Rattle.std.proofs.Common.{Bool, IfNone, IfSome, IsSome, List, None, Option, Some, [], ap, arith, false, inl, inr, length, option_map, refl, subst, suc, sym, true, zero, ℕ, ◌+◌, ◌-◌, ◌<◌, ◌∙◌, ◌≡◌, ◌≤◌, ◌⊎◌}
+use Rattle.std.proofs.Common.{Bool, IfNone, IfSome, IsSome, List, None, Option, Some, [], ap, arith, false, inl, inr, length, option_map, refl, subst, suc, sym, true, zero, ℕ, ◌+◌, ◌-◌, ◌<◌, ◌∙◌, ◌≡◌, ◌⊎◌}
 use Rattle.std.proofs.lemmas.Bool.{false≢true}
-use Rattle.h1_app.specs.Words.{Entry, Error, ErrorType, FailureCause, FlushedBy, IsRefused, LinkState, Outgoing, Reply, ResponseView, Rose, SessionView, Stage, Stays, Step, Writes, allowance, written_of}
-use Rattle.h1_transcript.specs.Growth.{DatedAt, RepliedOn}
+use Rattle.h1_app.specs.Words.{Entry, Error, ErrorType, FailureCause, FlushedBy, IsRefused, LinkState, Outgoing, Reply, ResponseView, Rose, SessionView, Stage, Step, Writes, allowance, written_of}
+use Rattle.h1_application.proofs.ReadLemmas.{budget_itself, budget_none, budget_spent, within_itself, within_spent}
 use Rattle.h1_transfer.proofs.MovedLemmas.{moved_itself}
-use Rattle.h1_app.proofs.Words.{IsHeaded, MovesWithin, SettledSo, ahead}
-use Rattle.h1_app.specs.Pace.{place}
+use Rattle.h1_app.proofs.Words.{IsHeaded, MovesWithin, SettledSo, ahead, place}
 use Rattle.h1_error.specs.declared.error.ErrorType.TheVariants as kind
 
 pub at_none : {A : Type 0} (P : Type 0) (o : Option A) → o ≡ None → IfNone o P → P
@@ -13,16 +12,6 @@ at_none P o e h = rw e at h
 
 pub at_some : {A : Type 0} (P : A → Type 0) (o : Option A) (x : A) → o ≡ Some x → IfSome o P → P x
 at_some P o x e h = rw e at h
-
--- what is left of a budget
-budget_left : (budget next : Option ℕ) (left : ℕ) → IsSome budget
-    → next ≡ option_map (λ _. left) budget → left ≤ allowance budget
-    → (next ≡ option_map (λ all. all - (allowance budget - left)) budget) × IfSome budget
-    (λ all. allowance budget - left ≤ all)
-budget_left None next left some e within = absurd (false≢true some)
-budget_left (Some all) next left some e within =
-    let same : all - (all - left) ≡ left = omega arith in
-    (e ∙ ap Some (sym same), omega arith)
 
 -- nothing was moved
 pub moves_none : {L C : Type 0} (state : L → LinkState) (old new : SessionView L C)
@@ -33,34 +22,24 @@ moves_none state old new link budget context = record {
   wrote = [];
   spent = 0;
   moved = rw link (moved_itself (state old.link));
-  budget = budget ∙ same old.budget;
-  within = some old.budget;
+  budget = budget ∙ budget_itself old.budget;
+  within = within_itself old.budget;
   context = context;
-} where
-  same : (budget : Option ℕ) → budget ≡ option_map (λ left. left - 0) budget
-  same None = refl
-  same (Some left) = let left_is : left ≡ left - 0 = omega arith in ap Some left_is
-
-  some : (budget : Option ℕ) → IfSome budget (λ left. 0 ≤ left)
-  some None = tt
-  some (Some left) = omega arith
+}
 
 -- what a call wrote was moved
 pub moves_wrote : {L C : Type 0} (state : L → LinkState) (old new : SessionView L C) (flag : Bool)
     (taking : List ℕ) (left : ℕ)
-    → IsSome old.budget → Writes state (record old { keep = flag }) new taking left
-    → MovesWithin state old new
-moves_wrote state old new flag taking left some w =
-    let spent = budget_left old.budget new.budget left some w.budget w.sent.within in
-    record {
-      read = [];
-      wrote = w.sent.piece;
-      spent = allowance old.budget - left;
-      moved = w.sent.moved;
-      budget = spent.0;
-      within = spent.1;
-      context = (ap (λ s. s.context) w.rest);
-    }
+    → Writes state (record old { keep = flag }) new taking left → MovesWithin state old new
+moves_wrote state old new flag taking left w = record {
+  read = [];
+  wrote = w.sent.piece;
+  spent = allowance old.budget - left;
+  moved = w.sent.moved;
+  budget = budget_spent old.budget new.budget left w.sent.within w.budget;
+  within = within_spent old.budget left;
+  context = (ap (λ s. s.context) w.rest);
+}
 
 -- fewer steps may follow where the stage's place goes down
 pub ahead_down : {L C J : Type 0} (state : L → LinkState) (old new : SessionView L C)
@@ -104,11 +83,7 @@ pub waits_why : {L C : Type 0} (state : L → LinkState) (old new : SessionView 
     → Rose (state old.link).write_waits (state new.link).write_waits ⊎ (new.budget ≡ Some 0)
 waits_why state old new flag taking left some w (inl rose) = inl rose
 waits_why state old new flag taking left some w (inr none) =
-    inr (w.budget ∙ at_zero old.budget some)
-  where
-    at_zero : (budget : Option ℕ) → IsSome budget → option_map (λ _. left) budget ≡ Some 0
-    at_zero None h = absurd (false≢true h)
-    at_zero (Some all) h = ap Some none
+    inr (budget_none old.budget new.budget left some w.budget none)
 
 -- nothing is asked of a reply while it is owed
 pub settled_owed : (before now : LinkState) (done : List Entry) (e : Entry) → e.owed ≡ true
@@ -118,24 +93,6 @@ settled_owed before now done e owed = by_head e.sent_head where
       → IfSome head (λ head. e.owed ≡ false → FlushedBy before now (written_of done + e.written))
   by_head None = tt
   by_head (Some head) = λ free. absurd (false≢true (sym free ∙ owed))
-
--- what is there stays
-pub stays_itself : {T : Type 0} (o : Option T) → Stays o o
-stays_itself None = tt
-stays_itself (Some x) = refl
-
--- a header that stays keeps its date and its flag
-pub dated_same : (now : ℕ) (head : Option ResponseView) (old new : Entry) → old.sent_head ≡ head
-    → new.sent_head ≡ old.sent_head
-    → new.date ≡ old.date → new.date_text ≡ old.date_text → new.keep ≡ old.keep
-    → DatedAt now head old new
-dated_same now None old new is head date text keep = rw (head ∙ is) tt
-dated_same now (Some header) old new is head date text keep = (date, text, keep)
-
-pub replied_same : (reply : Option Reply) (old new : Entry) → new.how ≡ old.how
-    → new.left ≡ old.left → new.handed ≡ old.handed → RepliedOn reply old new
-replied_same None old new how left handed = tt
-replied_same (Some reply) old new how left handed = (how, left, handed)
 
 -- the header goes on where the session keeps what was taken up
 pub headed_on : {L C : Type 0} (old new : SessionView L C) (e f : Entry) (reply : Reply)

@@ -18,8 +18,7 @@ use Rattle.h1_app.proofs.HeaderTaken.{headed_noted, header_ahead, header_allowed
 use Rattle.h1_app.proofs.PartLemmas.{Part, WritesPart, more_of, part_replied, replying}
 use Rattle.h1_app.proofs.ReplyLemmas.{at_none, at_some, headed_on}
 use Rattle.h1_app.proofs.StepLemmas.{allowed_written, unchanged_stepped}
-use Rattle.h1_app.proofs.Words.{IsPieceOf, IsReplied, SoundStage, StepReady, Stepped, filled}
-use Rattle.h1_app.specs.Replying.{NotesHeader, StandsAfter}
+use Rattle.h1_app.proofs.Words.{IsPieceOf, IsReplied, SoundStage, StepReady, Stepped, filled, NotesHeader, StandsAfter}
 use Rattle.h1_app.specs.declared.exchange.Stage.TheVariants as at
 use Rattle.h1_error.specs.declared.error.ErrorType.TheVariants as kind
 use Rattle.h1_app.specs.declared.exchange.Outcome.TheVariants as outcome

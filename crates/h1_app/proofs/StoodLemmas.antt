@@ -1,11 +1,11 @@
 -- How a request's body stood when the application replied.
 use Rattle.std.proofs.Common.{◌≡◌, ℕ, ◌+◌, ◌<◌, take, true, false, ap, subst, arith, inl, inr, length-append, append-nil, List, [], ◌++◌, length, Option, Some, None, refl, sym, ◌∙◌}
 use Rattle.std.proofs.lemmas.Bool.{cases_lt, false≢true}
-use Rattle.h1_app.specs.Words.{Error, Body, whole, unfinished, broken, ahead, body, reads, HasRead, GrowsTo, framing, Framing, Counted, Chunked, UntilClose, BodyReader, is_whole, BodyState, Entry, How, Open, Whole, Failed, how_stands, how_of, IsBelow, StoodAs}
+use Rattle.h1_app.specs.Words.{Error, Body, whole, unfinished, broken, ahead, body, reads, HasRead, framing, Framing, Counted, Chunked, UntilClose, BodyReader, is_whole, BodyState, Entry, How, Open, Whole, Failed, how_stands, how_of, IsBelow, StoodAs}
 use Rattle.h1_body.specs.Body.{payload_of}
 use Rattle.h1_body.proofs.CountedLemmas.{counted_has, counted_lacks}
 use Rattle.h1_body.proofs.ReadLemmas.{read_is}
-use Rattle.h1_body.proofs.LawLemmas.{bodies_grow}
+use Rattle.h1_transcript.proofs.BehindLemmas.{whole_stays}
 use Rattle.h1_transfer.proofs.BodyLemmas.{nothing_read}
 use Rattle.h1_app.proofs.Words.{StoodSo}
 
@@ -76,6 +76,4 @@ stood_as Whole e used received now read h = (h.0, h.1, ends (reads now.reader []
       let all : body f used ≡ whole e.body (length used + k) =
       read_is f used e.body now.reader read ∙ ap (ahead e.body (length used)) is
       ∙ ap (λ xs. whole xs (length used + k)) (ap (λ xs. e.body ++ xs) none ∙ append-nil e.body) in
-      let grown : GrowsTo (whole e.body (length used + k)) (body f (used ++ received)) =
-      subst (λ b. GrowsTo b (body f (used ++ received))) all (bodies_grow f used received) in
-      (length used + k, sym (read.read received) ∙ grown)
+      (length used + k, sym (read.read received) ∙ whole_stays f used received e.body (length used + k) all)

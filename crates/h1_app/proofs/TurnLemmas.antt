@@ -1,13 +1,10 @@
 -- What one step makes of a connection: the exchange that is last goes on, or the next one is awaited.
 use Rattle.std.proofs.Common.{◌≡◌, ℕ, ◌+◌, ◌<◌, ◌≤◌, inl, inr, List, [], ◌∷◌, ◌++◌, length, Bool, false, Option, Some, None, IfNone, option_to_list, refl, sym, ◌∙◌, ap, subst, append-nil, arith}
-use Rattle.h1_app.specs.Words.{AllByRecursion, End, LinkState, RequestView, SessionView, Settings, Reply, Entry, Exchange, Stage, Outcome, Given, AreBegun, BeginsWith, IsNextSet, IsSetAlike, reuses_at, ExtendsLast, replies}
+use Rattle.h1_app.specs.Words.{AllByRecursion, End, LinkState, RequestView, SessionView, Settings, Reply, Entry, Exchange, Stage, Outcome, Given, AreBegun, BeginsWith, IsNextSet, IsSetAlike, ExtendsLast, replies}
 use Rattle.h1_app.specs.declared.exchange.Stage.TheVariants as stage
 use Rattle.h1_app.specs.declared.exchange.Outcome.TheVariants as outcome
 use Rattle.h1_transcript.specs.Begun.{IsSetFor, pipelining_behind}
-use Rattle.h1_app.proofs.Words.{JobFrom, rank, Turned, TurnCause, outcome_end, stops, Sound, SoundStage, Stepped, OutcomeCause, FewReadsNotReady, view_of}
-use Rattle.h1_app.specs.Sound.{IfAwaiting}
-use Rattle.h1_app.specs.Step.{Continues}
-use Rattle.h1_app.specs.Turn.{JobNew, LeavesBy, one_where}
+use Rattle.h1_app.proofs.Words.{JobFrom, rank, Turned, TurnCause, outcome_end, stops, Sound, SoundStage, Stepped, OutcomeCause, FewReadsNotReady, view_of, IfAwaiting, Continues, JobNew, LeavesBy, one_where}
 use Rattle.h1_app.proofs.LeavesLemmas.{noted_grows}
 use Rattle.h1_app.proofs.OthersLemmas.{awaits_head, still_last, others_stepped}
 use Rattle.h1_transcript.proofs.AloneLemmas.{join_none}
@@ -22,13 +19,6 @@ pub pipelining_last : (first : Bool) (done : List Entry) (e : Entry)
     → pipelining_behind first (done ++ e ∷ []) ≡ e.left.pipelining
 pipelining_last first [] e = refl
 pipelining_last first (f ∷ more) e = pipelining_last f.left.pipelining more e
-
-pub reuses_last : (limit : Option ℕ) (i : ℕ) (first : Bool) (done : List Entry) (e : Entry)
-    → AreBegun limit i first (done ++ e ∷ []) → e.began.reuses ≡ reuses_at limit (i + length done)
-reuses_last limit i first [] e h = let same : i ≡ i + 0 = omega arith in h.0.reuses ∙ ap (reuses_at limit) same
-reuses_last limit i first (f ∷ more) e h =
-    let same : i + 1 + length more ≡ i + length (f ∷ more) = omega arith in
-    reuses_last limit (i + 1) f.left.pipelining more e h.1 ∙ ap (reuses_at limit) same
 
 begun_join : (limit : Option ℕ) (i : ℕ) (first : Bool) (done : List Entry) (e : Entry)
     → AreBegun limit i first done
@@ -141,19 +131,11 @@ few_stepped : (old now : LinkState) (done : List Entry) (last behind : Option En
     → now.read_waits + replies (done ++ option_to_list last)
     ≤ old.read_waits + replies (done ++ option_to_list behind) + one_where (stops result)
 few_stepped old now done last behind outcome.Done h =
-    omega (
-      arith,
-      h,
-      replies_append done (option_to_list last),
-      replies_append done (option_to_list behind),
-    )
+    let before = replies_append done (option_to_list last) in
+    let after = replies_append done (option_to_list behind) in omega (arith, h, before, after)
 few_stepped old now done last behind _ h =
-    omega (
-      arith,
-      h,
-      replies_append done (option_to_list last),
-      replies_append done (option_to_list behind),
-    )
+    let before = replies_append done (option_to_list last) in
+    let after = replies_append done (option_to_list behind) in omega (arith, h, before, after)
 
 -- and what it leaves, whole
 pub turned_stepped : {L C A J : Type 0} {gives : Given → Reply → Type 0}

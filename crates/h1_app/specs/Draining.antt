@@ -1,6 +1,10 @@
 -- Reading what is left of a request's body after its reply, and going on to the next request.
-use Rattle.std.specs.Prelude.{◌≡◌, Bool, Option, None, Some, Result, true, false}
-use Rattle.h1_app.specs.Words.{Fault, FaultsBy, Poll, Error, LinkState, ReusesBy, keeps_alive, SessionView, Entry, payload_of}
+use Rattle.std.specs.Prelude.{◌≡◌, Bool, Option, None, Some, Result, Ok, Err, true, false}
+use Rattle.h1_app.specs.Words.{Fault, FaultsBy, Poll, Ready, Pending, Error, LinkState, ReusesBy, keeps_alive, SessionView, Entry, Stage, Outcome, payload_of}
+use Rattle.h1_error.specs.declared.progress.Waiting.TheVariants as waiting
+use Rattle.h1_error.specs.declared.progress.End.TheVariants as end
+use Rattle.h1_app.specs.declared.exchange.Stage.TheVariants as stage
+use Rattle.h1_app.specs.declared.exchange.Outcome.TheVariants as outcome
 use Rattle.h1_transfer.specs.Calls.{CallsFew}
 use Rattle.h1_app.specs.Answering.{lent}
 use Rattle.h1_app.specs.Replied.{IsDraining, MayGoOn}
@@ -24,6 +28,19 @@ pub record CalledForReuse (before now : LinkState) (alive done : Bool)
   pub others : CallsFew before now done
   pub faults : FaultsBy before now fault
   pub shut : ShutUnless alive before.shut now.shut
+
+-- where an exchange stands after the call for its link's reuse; `alive` tells whether the
+-- connection is kept
+abbrev pub StandsDrained : {J : Type 0} → Poll (Result Bool Error) → Bool → Stage J → Stage J
+    → Outcome → Type 0
+StandsDrained Pending alive from to result = (to ≡ from) × (result ≡ outcome.Waits waiting.Read)
+StandsDrained (Ready (Ok true)) alive from to result = (to ≡ stage.Next) × (result ≡ outcome.Done)
+StandsDrained (Ready (Ok false)) true from to result =
+    (to ≡ from) × (result ≡ outcome.Ends end.Overread)
+StandsDrained (Ready (Ok false)) false from to result =
+    (to ≡ from) × (result ≡ outcome.Ends end.NotKept)
+StandsDrained (Ready (Err error)) alive from to result =
+    (to ≡ from) × (result ≡ outcome.Ends (end.Failed error))
 
 -- the last exchange of the transcript is over
 abbrev pub LastMayGoOn : {L C : Type 0} → SessionView L C → Option Entry → Type 0

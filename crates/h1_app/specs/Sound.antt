@@ -1,6 +1,6 @@
 -- What always holds of a connection: each stage stands where the session and the last exchange do.
 use Rattle.std.specs.Prelude.{◌≡◌, ℕ, List, [], ◌++◌, false, Option, Some, None, IfSome, IfNone, option_to_list}
-use Rattle.h1_app.specs.Words.{AllByRecursion, End, RequestView, begun, SessionView, AreBegun, IsNextSet, Settings, Request, Reply, Entry, Stage, Given, IsAllowed}
+use Rattle.h1_app.specs.Words.{AllByRecursion, End, RequestView, SessionView, AreBegun, IsNextSet, Settings, Request, Reply, Entry, Stage, Given, IsAllowed}
 use Rattle.h1_transfer.specs.declared.outgoing.Step.TheVariants as step
 use Rattle.h1_app.specs.declared.exchange.Stage.TheVariants as stage
 use Rattle.h1_app.specs.Answering.{IsUnwritten, IsAwaiting, IsAnswering}

@@ -127,6 +127,7 @@ impl<L: Link + Drop, SV: ServeHttp<L, C> + Drop, B: Drop, C: Drop> Connection<L,
     }
 
     // Makes steps until one of them waits or ends the connection.
+    #[inline(always)]
     fn go_on(&mut self, now: u64, shutdown: bool) -> Progress
         requires alive { self.old.end ≡ None }
         requires budget { self.old.session.budget ≡ Some CALL_BUDGET }
@@ -149,6 +150,7 @@ impl<L: Link + Drop, SV: ServeHttp<L, C> + Drop, B: Drop, C: Drop> Connection<L,
 
     // One step of the last exchange, or from it to the next. Where it ends the connection, the
     // connection keeps the end.
+    #[inline(always)]
     fn turn(&mut self, now: u64, shutdown: bool) -> Outcome
         requires alive { self.old.end ≡ None }
         requires budget { IsSome self.old.session.budget }

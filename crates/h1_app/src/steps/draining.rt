@@ -2,7 +2,7 @@
 ghost use Rattle.std.specs.Prelude.{◌≡◌, Bool, ◌<◌, IsSome, true};
 ghost use Rattle.h1_app.specs.declared.exchange.Stage.TheVariants as at;
 ghost use Rattle.h1_transcript.specs.declared.transcript.Entry.{Entry};
-ghost use Rattle.h1_app.specs.Draining.{ReusesAs, CalledForReuse};
+ghost use Rattle.h1_app.specs.Draining.{ReusesAs, CalledForReuse, StandsDrained};
 ghost use Rattle.h1_server.specs.Calls.{is_reused};
 ghost use Rattle.h1_transfer.specs.Calls.{read_fault_of};
 ghost use Rattle.h1_server.specs.Persistence.{is_replied, keeps_alive};
@@ -38,15 +38,28 @@ pub(super) fn drain<L: Link + Drop, SV: ServeHttp<L, C> + Drop, B: Drop, C: Drop
     ensures leaves { LeavesBy L.state exchange.old exchange.new result }
 {
     let entry = exchange.transcript.last_entry();
-    match reuse(alloc, &mut exchange.session, entry, now) {
+    let answer = reuse(alloc, &mut exchange.session, entry, now);
+    stand(&mut exchange.stage, &exchange.session, answer)
+}
+
+/// Where the exchange stands after the call for its link's reuse.
+#[inline(always)]
+fn stand<L: Link + Drop, J: Drop, C: Drop>(
+    stage: &mut Stage<J>,
+    session: &HttpSession<L, C>,
+    answer: Poll<Result<bool, Error>>,
+) -> Outcome
+    ensures { StandsDrained answer (keeps_alive session.now) stage.old stage.new result }
+{
+    match answer {
         Poll::Pending => Outcome::Waits(Waiting::Read),
         Poll::Ready(Err(error)) => Outcome::Ends(End::Failed(error)),
         Poll::Ready(Ok(true)) => {
-            exchange.stage = Stage::Next;
+            *stage = Stage::Next;
             Outcome::Done
         }
         Poll::Ready(Ok(false)) => {
-            if exchange.session.will_keepalive() {
+            if session.will_keepalive() {
                 Outcome::Ends(End::Overread)
             } else {
                 Outcome::Ends(End::NotKept)

@@ -1,6 +1,6 @@
 //! The reply is written: its header, its body, and the end of its body.
-ghost use Rattle.std.specs.Prelude.{◌≡◌, Bool, ◌<◌, IsSome, IfSome, IfOk, IfErr, None, Some};
-ghost use Rattle.h1_error.specs.declared.moment.TheConstants.{YEAR_10000};
+ghost use Rattle.std.specs.Prelude.{◌≡◌, Bool, ◌/◌, IsSome, IfSome, IfOk, IfErr, None, Some};
+ghost use Rattle.h1_head.specs.Date.{IsDateAt};
 ghost use Rattle.h1_error.specs.Memory.{no_memory};
 ghost use Rattle.h1_app.specs.declared.exchange.Stage.TheVariants as at;
 ghost use Rattle.h1_transcript.specs.declared.transcript.Entry.{Entry};
@@ -15,7 +15,7 @@ use bytes::Bytes;
 use futures::task::Poll;
 use h1_body::BodyBytes;
 use h1_error::{End, Error, ErrorType, Waiting};
-use h1_head::{ResponseHeader, get_cached_date};
+use h1_head::ResponseHeader;
 use h1_link::Link;
 use std::alloc::Global;
 
@@ -40,9 +40,10 @@ pub(super) fn take_header<L: Link + Drop, SV: ServeHttp<L, C> + Drop, B: Drop, C
         Err(error) => return Outcome::Ends(End::Failed(error)),
     };
     let answer = exchange.session.poll_write_response_header(&mut head, now);
+    let date = exchange.session.date(now);
     let keep = exchange.session.reply_keeps();
     let written = exchange.session.written_bytes();
-    note_header(entry, &head, sent, now, keep, written);
+    note_header(entry, &head, sent, now, date, keep, written);
     stand(&mut exchange.stage, &answer, Stage::Header, Stage::TakeBody)
 }
 
@@ -165,6 +166,7 @@ fn failure(body_error: Option<Error>, error: Error) -> Error
 }
 
 /// The reply's header, for the exchange and to be handed in.
+#[inline(always)]
 fn headers(entry: &Entry) -> Result<(ResponseHeader, Option<ResponseHeader>), Error>
     requires { IsSome entry.now.reply }
     ensures ok { IfOk result
@@ -179,17 +181,19 @@ fn headers(entry: &Entry) -> Result<(ResponseHeader, Option<ResponseHeader>), Er
     Ok((sent, Some(reply.header.copy()?)))
 }
 
-/// Notes a header that was taken up in a poll at this moment. One that is handed back was not.
+/// Notes a header that was taken up in a poll at this moment, with its date. One that is handed
+/// back was not.
 #[inline(always)]
 fn note_header(
     entry: &mut Entry,
     back: &Option<ResponseHeader>,
     sent: ResponseHeader,
     now: u64,
+    date: [u8; 29],
     keep: bool,
     written: u64,
 )
-    requires { now < YEAR_10000 }
+    requires { IsDateAt (now / 1000) date }
     ensures { NotesHeader back.now sent now keep written entry.old entry.new }
 {
     match back {
@@ -197,7 +201,7 @@ fn note_header(
         None => {
             entry.sent_head = Some(sent);
             entry.date = now / 1000;
-            entry.date_text = get_cached_date(now);
+            entry.date_text = date;
             entry.keep = keep;
             entry.owed = true;
             entry.written = written;
@@ -226,6 +230,7 @@ fn note_body(alloc: Global, entry: &mut Entry) -> Result<Option<Bytes>, Error>
 }
 
 /// The reply's body, to be held by others too.
+#[inline(always)]
 fn shared_body(reply: &mut Option<Reply>) -> Result<Bytes, Error>
     requires { IsSome reply.old }
     ensures ok { IfOk result (λ sent. IfSome reply.old (λ made. sent ≡ made.body)) }
