@@ -32,7 +32,7 @@ use Rattle.h1_echo.specs.Echo.{EchoGives, echo_reply}
 use Rattle.h1_generator.specs.Generated.{asked, generated}
 use Rattle.h1_generator.specs.Kept.{IsKeptOn}
 use Rattle.h1_generator.specs.Messages.{messages}
-use Rattle.h1_generator.specs.declared.generator.TheConstants.{MOST_REQUESTS}
+use Rattle.h1_words.specs.declared.words.TheConstants.{MOST_GENERATED}
 use Rattle.h1_generator.proofs.AskedLemmas.{IsAskedBy, AreAskedFrom, asked_for}
 use Rattle.h1_generator.proofs.EchoLemmas.{IsPlainHead, plain_head, pipelines, out_is, never_short, never_closes}
 use Rattle.h1_generator.proofs.ValidLemmas.{valid}
@@ -178,7 +178,7 @@ all_last P (d ∷ later) e h = all_last P later e h.1
 -- what is known of a connection over these bytes
 pub record Over (count : ℕ) (before old now : LinkState) (done : List Entry)
     (last : Option Entry) : Type 0 where
-  pub few : count ≤ MOST_REQUESTS
+  pub few : count ≤ MOST_GENERATED
   pub gave : GaveOf (generated count) before now
   pub faultless : NoFault old now
   pub agrees : Agrees EchoGives None before now (done ++ option_to_list last)

@@ -1,26 +1,11 @@
 -- The bytes of requests as they are put together.
-use Rattle.std.proofs.Common.{◌≡◌, ℕ, zero, suc, ◌+◌, ◌-◌, ◌<◌, ◌≤◌, ◌^◌, ◌/◌, ◌%◌, List, [], ◌∷◌, ◌++◌, take, refl, sym, ◌∙◌, ap, codes, decimal, arith, append_assoc, append-nil, replicate}
+use Rattle.std.proofs.Common.{◌≡◌, ℕ, zero, suc, ◌+◌, ◌-◌, ◌<◌, ◌≤◌, List, [], ◌∷◌, ◌++◌, take, refl, sym, ◌∙◌, ap, codes, decimal, arith, append_assoc, append-nil, replicate}
 use Rattle.std.proofs.Math.Seq.{take-length}
-use Rattle.std.proofs.lemmas.Fmt.{decimal_digit, decimal_step}
+use Rattle.std.proofs.lemmas.Fmt.{decimal_digit}
 use Rattle.std.proofs.lemmas.List.{length-replicate}
 use Rattle.h1_body.specs.Written.{chunk_bytes, size_digits}
 use Rattle.h1_generator.specs.Generated.{asked, asked_as, print_asked, generated_from}
 use Rattle.h1_generator.specs.declared.generator.Form.TheVariants.{Counted}
-
--- a number is what its tens are and its last digit
-pub digits_on : (n : ℕ) (old mid new : List ℕ) → 10 ≤ n → n < 2 ^ 64 → mid ≡ old ++ decimal (n / 10)
-    → new ≡ mid ++ (48 + n % 10) ∷ [] → new ≡ old ++ decimal n
-digits_on n old mid new some small tens last =
-    last ∙ ap (λ xs. xs ++ (48 + n % 10) ∷ []) tens
-    ∙ append_assoc old (decimal (n / 10)) ((48 + n % 10) ∷ [])
-    ∙ ap (λ xs. old ++ xs) (sym (decimal_step n some small))
-
-pub digit_on : (n : ℕ) (old mid new : List ℕ) → n < 10 → mid ≡ old
-    → new ≡ mid ++ (48 + n % 10) ∷ [] → new ≡ old ++ decimal n
-digit_on n old mid new small same last =
-    let digit : 48 + n % 10 ≡ 48 + n = omega arith in
-    last ∙ ap (λ xs. xs ++ (48 + n % 10) ∷ []) same
-    ∙ ap (λ k. old ++ k ∷ []) digit ∙ ap (λ xs. old ++ xs) (sym (decimal_digit n small))
 
 -- so many bytes are what a body of this length takes of them
 pub take_run : (n b : ℕ) → take n (replicate n b) ≡ replicate n b

@@ -15,7 +15,7 @@ use Rattle.h1_generator.specs.Generated.{Asked, form_of, asked, asked_as, asked_
 use Rattle.h1_generator.specs.Messages.{message_of, messages}
 use Rattle.h1_generator.specs.declared.generator.Form.{Form}
 use Rattle.h1_generator.specs.declared.generator.Form.TheVariants.{Plain, Counted, Chunked}
-use Rattle.h1_generator.specs.declared.generator.TheConstants.{MOST_REQUESTS}
+use Rattle.h1_words.specs.declared.words.TheConstants.{MOST_GENERATED}
 use Rattle.h1_generator.proofs.BodyLemmas.{counted_is_read, chunk_is_read}
 use Rattle.h1_generator.proofs.HeadLemmas.{reads_back}
 
@@ -89,7 +89,7 @@ wished_from (suc count) number small = (
 )
 
 -- the requests that are made are valid input
-pub valid : (count : ℕ) → count ≤ MOST_REQUESTS → IsValid (generated count) (messages count)
+pub valid : (count : ℕ) → count ≤ MOST_GENERATED → IsValid (generated count) (messages count)
 valid count few =
     record {
       parses = parses_from count 1 (omega arith);

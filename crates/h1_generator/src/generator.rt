@@ -6,10 +6,9 @@ ghost use Rattle.h1_body.specs.Written.{chunk_bytes};
 ghost use Rattle.h1_generator.specs.Generated.{form_of, asked, asked_as, print_asked, generated};
 
 use h1_error::Error;
+use h1_words::MOST_GENERATED;
+use itoa::Buffer;
 use std::alloc::Global;
-
-/// How many requests are made at most.
-pub const MOST_REQUESTS: u32 = 20_000;
 
 /// A request has at most so many bytes.
 const MOST_BYTES: usize = 80;
@@ -30,7 +29,7 @@ pub enum Form {
 
 /// The bytes of requests 1 to `count`.
 pub fn generate(alloc: Global, count: u32) -> Result<Vec<u8>, Error>
-    requires { count ≤ MOST_REQUESTS }
+    requires { count ≤ MOST_GENERATED }
     ensures ok { IfOk result (λ bytes. bytes.items ≡ generated count) }
     ensures err { IfErr result (λ error. error ≡ no_memory) }
 {
@@ -143,11 +142,8 @@ fn push_decimal(bytes: &mut Vec<u8>, number: u32) -> Result<(), Error>
     ensures ok { OnOk result (bytes.new.items ≡ bytes.old.items ++ decimal number) }
     ensures err { IfErr result (λ error. error ≡ no_memory) }
 {
-    if number >= 10 {
-        push_decimal(bytes, number / 10)?;
-    }
-    bytes.push(b'0' + (number % 10) as u8)?;
-    Ok(())
+    let mut digits = Buffer::new();
+    push(bytes, digits.format(number).as_bytes())
 }
 
 fn push(bytes: &mut Vec<u8>, piece: &[u8]) -> Result<(), Error>

@@ -4,7 +4,7 @@
 mod generator;
 mod laws;
 
-pub use generator::{MOST_REQUESTS, generate};
+pub use generator::generate;
 pub use laws::generated_input_is_valid;
 
 #[cfg(test)]

@@ -32,7 +32,7 @@ use Rattle.h1_echo.specs.declared.echo.EchoJob.{EchoJob}
 use Rattle.h1_generator.specs.Generated.{generated}
 use Rattle.h1_generator.specs.Kept.{IsKeptOn}
 use Rattle.h1_generator.specs.Messages.{messages}
-use Rattle.h1_generator.specs.declared.generator.TheConstants.{MOST_REQUESTS}
+use Rattle.h1_words.specs.declared.words.TheConstants.{MOST_GENERATED}
 use Rattle.h1_generator.proofs.EndLemmas.{Over, ends_served}
 use Rattle.h1_generator.proofs.LengthLemmas.{never_spent}
 use Rattle.h1_generator.proofs.ValidLemmas.{many}
@@ -139,7 +139,7 @@ all_kept first last link (e ∷ more) none h =
 -- what the call that serves it gives
 pub record IsCalled {C A J : Type 0} (count first last : ℕ) (view : View MemState C A J)
     (answer : Progress) : Type 0 where
-  pub few : count ≤ MOST_REQUESTS
+  pub few : count ≤ MOST_GENERATED
   pub fed : IsFed (generated count) view.session.link
   pub rule : Rule view.session.link
   pub accounted : Accounted link_state new_mem_state.state view.session view.done view.last
@@ -254,7 +254,7 @@ memory_of count first last view (progress.Ready (end.Failed met)) error c some =
 -- a connection that is ready, served by the call
 pub record IsCall (count first last : ℕ) (from to : View MemState (Unit {0}) EchoApp EchoJob)
     (answer : Progress) : Type 0 where
-  pub few : count ≤ MOST_REQUESTS
+  pub few : count ≤ MOST_GENERATED
   pub ready : IsReady count from
   pub rule : Rule to.session.link
   pub limit : to.limit ≡ from.limit

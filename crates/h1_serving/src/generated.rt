@@ -6,15 +6,16 @@ ghost use Rattle.h1_serving.specs.Whole.{failure_of, IsReady, IsServedWhole};
 use crate::serving::{Echoed, serve_link};
 use h1_app::{Connection, EchoApp, HttpServer};
 use h1_error::{End, Error, Progress};
-use h1_generator::{MOST_REQUESTS, generate};
+use h1_generator::generate;
 use h1_link::{MemLink, SetClock};
+use h1_words::MOST_GENERATED;
 use std::alloc::Global;
 use std::sync::Arc;
 
 /// Serves `count` requests over a link in memory that ends after them. Nothing is not ready, so the
 /// connection ends, and where there is memory all requests are served.
 pub fn serve_gen(alloc: Global, count: u32) -> Result<Echoed<MemLink>, Error>
-    requires { count ≤ MOST_REQUESTS }
+    requires { count ≤ MOST_GENERATED }
     ensures ok { IfOk result (IsServedWhole count) }
     ensures err { IfErr result (λ error. error.kind ≡ NoMemory) }
 {
@@ -27,7 +28,7 @@ pub fn serve_gen(alloc: Global, count: u32) -> Result<Echoed<MemLink>, Error>
 
 /// A connection of the echo application over a link that these requests are ahead on.
 fn connect(alloc: Global, count: u32) -> Result<Echoed<MemLink>, Error>
-    requires { count ≤ MOST_REQUESTS }
+    requires { count ≤ MOST_GENERATED }
     ensures ok { IfOk result (IsReady count) }
     ensures err { IfErr result (λ error. error.kind ≡ NoMemory) }
 {
