@@ -1,6 +1,7 @@
 -- Names whose slot is absent.
-use Rattle.std.proofs.Common.{◌≡◌, ℕ, ◌==◌, ◌/◌, ◌%◌, Bool, true, false, List, [], ◌∷◌, ◌++◌, take, length, refl, sym, ap, ◌∙◌, subst}
+use Rattle.std.proofs.Common.{◌≡◌, ℕ, ◌==◌, ◌/◌, ◌%◌, Bool, true, false, List, [], ◌∷◌, ◌++◌, take, length, refl, sym, ap, ◌∙◌, subst, arith}
 use Rattle.std.proofs.lemmas.Bool.{false≢true}
+use Rattle.std.proofs.lemmas.List.{take_all}
 use Rattle.std.proofs.lemmas.List.Elements.{All-nil, All-cons, All-head, All-tail, All-push, All-weaker}
 use Rattle.std.specs.Int.{bit_at}
 use Rattle.h1_fields.specs.Names.{same_name}
@@ -137,3 +138,14 @@ pub marked_without : (text name : List ℕ) (spans left : List Span) (slots : Sl
     → AreMarked text left slots
 marked_without text name spans left slots marked fit are =
     (fit, subst (AllHaveSlots slots) (sym are) (slots_without slots name (lines_of text spans) marked.1))
+
+-- a line that lies in the text is added
+pub marked_found : (text name value : List ℕ) (spans after : List Span) (span : Span)
+    (slots more : Slots) → AreMarked text spans slots → IsPlaceOf text name value span
+    → after ≡ spans ++ span ∷ []
+    → ((other : List ℕ) → has_slot slots other ≡ true → has_slot more other ≡ true)
+    → has_slot more name ≡ true
+    → AreMarked text after more
+marked_found text name value spans after span slots more marked place added keeps has =
+    marked_added text text name value spans after span slots more (take_all _ text (omega arith))
+    marked place added keeps has

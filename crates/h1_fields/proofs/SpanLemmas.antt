@@ -1,11 +1,14 @@
 -- The lines of a text that grows.
-use Rattle.std.proofs.Common.{◌≡◌, ℕ, ◌≤◌, ◌-◌, List, [], ◌∷◌, ◌++◌, length, take, drop, set, refl, sym, ap, ◌∙◌, arith}
-use Rattle.std.proofs.lemmas.List.{length-set, take-append-drop, take-append-le, drop-append-le, length-drop, length-append, map-append}
+use Rattle.std.proofs.Common.{◌≡◌, ℕ, ◌+◌, ◌<◌, ◌≤◌, ◌-◌, List, [], ◌∷◌, ◌++◌, length, map, get_or, take, drop, set, refl, sym, ap, ◌∙◌, arith}
+use Rattle.std.proofs.lemmas.List.{take_all, take_more, length-set, take-append-drop, take-append-le, drop-append-le, length-drop, length-append, map-append}
 use Rattle.std.proofs.lemmas.List.Elements.{All-head, All-tail, All-rest, All-push, All-weaker}
 use Rattle.std.specs.List.{slice_range, refill}
+use Rattle.httparse.specs.declared.spans.HeaderSpan.{HeaderSpan}
+use Rattle.httparse.specs.Spans.{header_bytes}
 use Rattle.smallvec.specs.SmallVec.{SmallVec}
 use Rattle.smallvec.proofs.SmallVecLemmas.{items-with_items}
 use Rattle.h1_fields.specs.declared.span.Span.{Span}
+use Rattle.h1_fields.specs.Lines.{Line}
 use Rattle.h1_fields.specs.Spans.{AllFit, Fits, IsPlaceOf, line_of, lines_of}
 
 -- a part of the old text is the same part of the new one
@@ -18,8 +21,8 @@ part_grown old more start end order within =
 line_grown : (old more : List ℕ) (span : Span) → Fits (length old) span
     → line_of (old ++ more) span ≡ line_of old span
 line_grown old more span fits =
-    let name = part_grown old more span.start span.middle fits.name (omega arith) in
-    let value = part_grown old more span.middle span.end fits.value fits.within in
+    let name = part_grown old more span.name span.name_end fits.name fits.name_within in
+    let value = part_grown old more span.value span.value_end fits.value fits.value_within in
     cc
 
 lines_grown : (old more : List ℕ) (spans : List Span) → AllFit old spans
@@ -52,7 +55,12 @@ fit_kept old new spans kept fit =
     wider : length old ≤ length new → (span : Span) → Fits (length old) span
         → Fits (length new) span
     wider longer span fits =
-        record { name = fits.name; value = fits.value; within = omega arith }
+        record {
+          name = fits.name;
+          name_within = omega (arith, fits.name_within);
+          value = fits.value;
+          value_within = omega (arith, fits.value_within);
+        }
 
 -- a line that was written behind the old text
 pub fit_added : (old new name value : List ℕ) (spans after : List Span) (span : Span)
@@ -83,3 +91,22 @@ places_set spans slice place span is =
     items-with_items spans (set slice place span)
     (length-set slice place span ∙ ap length is)
     ∙ ap (λ items. set items place span) is
+
+-- a line that lies in the text is added
+pub line_found : (text name value : List ℕ) (spans after : List Span) (span : Span)
+    → AllFit text spans → IsPlaceOf text name value span → after ≡ spans ++ span ∷ []
+    → lines_of text after ≡ lines_of text spans ++ (name, value) ∷ []
+line_found text name value spans after span fit place added =
+    lines_added text text name value spans after span (take_all _ text (omega arith)) fit place added
+
+-- the lines at so many places that the parser found, and at one more
+pub found_more : (head : List ℕ) (spans : List HeaderSpan) (place : ℕ) (span : HeaderSpan)
+    (lines : List Line) → place < length spans
+    → lines ≡ map (header_bytes head) (take place spans)
+    → lines ++ header_bytes head (get_or spans place span) ∷ []
+    ≡ map (header_bytes head) (take (place + 1) spans)
+found_more head spans place span lines within are =
+    let next = get_or spans place span in
+    ap (λ front. front ++ header_bytes head next ∷ []) are
+    ∙ sym (map-append (header_bytes head) (take place spans) (next ∷ []))
+    ∙ ap (map (header_bytes head)) (sym (take_more spans place span within))

@@ -1,4 +1,4 @@
--- Sets of slots of names: what has a name has its slot, so a name whose slot is absent is absent.
+-- Sets of slots. Names that are the same have one slot, so no line has a name whose slot is absent.
 use Rattle.std.specs.Prelude.{◌≡◌, ℕ, ◌+◌, ◌*◌, ◌%◌, ◌==◌, Bool, true, List, [], ◌∷◌, map, length}
 use Rattle.std.specs.Char.{to_ascii_lowercase}
 use Rattle.std.specs.Int.{bit_at}

@@ -6,9 +6,10 @@ use Rattle.h1_fields.specs.Lines.{Line}
 
 -- the name and the value lie in a text of that length
 pub record Fits (room : ℕ) (span : Span) : Type 0 where
-  pub name : span.start ≤ span.middle
-  pub value : span.middle ≤ span.end
-  pub within : span.end ≤ room
+  pub name : span.name ≤ span.name_end
+  pub name_within : span.name_end ≤ room
+  pub value : span.value ≤ span.value_end
+  pub value_within : span.value_end ≤ room
 
 abbrev pub AllFit : List ℕ → List Span → Type 0
 AllFit text spans = All (Fits (length text)) spans
@@ -16,7 +17,7 @@ AllFit text spans = All (Fits (length text)) spans
 -- the line that lies there
 abbrev pub line_of : List ℕ → Span → Line
 line_of text span =
-    (slice_range text span.start span.middle, slice_range text span.middle span.end)
+    (slice_range text span.name span.name_end, slice_range text span.value span.value_end)
 
 abbrev pub lines_of : List ℕ → List Span → List Line
 lines_of text spans = map (line_of text) spans

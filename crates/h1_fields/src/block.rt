@@ -63,7 +63,7 @@ impl Block {
         Ok(block)
     }
 
-    /// The lines that are left of an iterator, with room for one more.
+    /// The lines that are left of an iterator, with room for that many in all.
     pub(crate) fn of_lines(alloc: Global, left: FieldsIter<'_>, lines: usize) -> Result<Self, Error>
         ensures ok { IfOk result (λ block. block ≡ left.entry) }
         ensures err { IsOkUnless result no_memory }

@@ -1,6 +1,7 @@
 //! The field lines of a message (RFC 9110, section 5).
-ghost use Rattle.std.specs.Prelude.{◌≡◌, false, ◌≤◌, ◌==◌, ◌∷◌, ◌++◌, [], length, option_map, IfOk, OnOk, OnErr, IsOkUnless};
+ghost use Rattle.std.specs.Prelude.{◌≡◌, false, ◌≤◌, ◌==◌, ◌∷◌, ◌++◌, [], length, map, option_map, All, IfOk, OnOk, OnErr, IsOkUnless};
 ghost use Rattle.std.specs.Arc.{arc_value};
+ghost use Rattle.httparse.specs.Spans.{IsHeaderWithin, header_bytes};
 ghost use Rattle.h1_error.specs.Memory.{no_memory};
 ghost use Rattle.h1_fields.specs.declared.held.TheConstants.{MAX_SHARED_LINES};
 ghost use Rattle.h1_fields.specs.Held.{lines_in};
@@ -12,8 +13,10 @@ use crate::block::Block;
 use crate::gone::{count_lines, count_values, first_value, hide};
 use crate::held::{Held, MAX_SHARED_LINES};
 use crate::iter::{FieldsIter, ValuesIter};
-use crate::span::{FEW_LINES, Span};
+use crate::span::{FEW_LINES, MAX_TEXT, Span};
+use bytes::Bytes;
 use h1_error::Error;
+use httparse::spans::HeaderSpan;
 use std::alloc::Global;
 use std::fmt;
 use std::marker::Model;
@@ -22,11 +25,12 @@ use std::sync::Arc;
 /// The field lines of a message, in order, with names in their spelling. A contract sees the list
 /// of pairs of name and value.
 ///
-/// A copy is one owner more of the same lines, where there are at most 64 and no room was reserved
-/// for more. An owner that isn't the only one adds and replaces in lines of its own, which it
-/// copies first, and removes by marking lines as gone for itself. All names and values stand in one
-/// text, where those of a line that went stay until the last owner is dropped; no call shows them.
-/// A few short lines take one block of memory. A name is searched only where a line may have it.
+/// A copy is one owner more of the same lines, where there never were more than 64 and no room was
+/// reserved for more. An owner that isn't the only one adds and replaces in lines of its own, which
+/// it copies first, and removes by marking lines as gone for itself. All names and values stand in
+/// one text, where those of a line that went stay until the last owner is dropped; no call shows
+/// them. The text of lines that were read may be the head itself, which is then kept as long. A few
+/// short lines take one block of memory. A name is searched only where a line may have it.
 #[derive(Drop)]
 pub struct Fields {
     alloc: Global,
@@ -72,6 +76,32 @@ impl Fields {
             held: Held::with_capacity(alloc, lines)?,
             gone: 0,
         })
+    }
+
+    /// The lines at these places of a head. Its bytes are copied where there are few lines, or more
+    /// than 64, and else shared.
+    #[inline(always)]
+    pub fn of_head(alloc: Global, head: &Bytes, spans: &[HeaderSpan]) -> Result<Self, Error>
+        requires { All (IsHeaderWithin (length head.now)) spans.now }
+        ensures ok { IfOk result (λ fields. fields ≡ map (header_bytes head.now) spans.now) }
+        ensures err { IsOkUnless result no_memory }
+    {
+        let some = FEW_LINES < spans.len() && spans.len() <= MAX_SHARED_LINES;
+        if some && head.len() <= MAX_TEXT {
+            return Ok(Fields {
+                alloc,
+                held: Held::of_head(alloc, head, spans)?,
+                gone: 0,
+            });
+        }
+        let mut fields = Fields::with_capacity(alloc, spans.len())?;
+        for span in spans {
+            fields.append(
+                span.name.of(head.as_slice()),
+                span.value.of(head.as_slice()),
+            )?;
+        }
+        Ok(fields)
     }
 
     /// How many lines there are.
@@ -179,6 +209,10 @@ impl Fields {
             Held::Nothing => {}
             Held::Own(block) => block.remove(name),
             Held::Shared(owner) => self.gone = remove_from(owner, self.gone, name),
+            Held::Read(owner) => {
+                let (head, lines) = owner.parts();
+                self.gone = hide(head, lines, self.gone, name);
+            }
         }
     }
 
@@ -217,6 +251,7 @@ impl Fields {
         match &self.held {
             Held::Nothing => false,
             Held::Shared(owner) => owner.may_have(name),
+            Held::Read(owner) => owner.may_have(name),
             Held::Own(block) => block.may_have(name),
         }
     }
@@ -225,6 +260,9 @@ impl Fields {
     pub fn count_named(&self, name: &[u8]) -> usize
         ensures { result ≡ length (values_of name.now self.now) }
     {
+        if !self.may_have(name) {
+            return 0;
+        }
         let (text, spans) = parts_of(&self.held);
         count_values(text, spans, self.gone, name)
     }
@@ -251,8 +289,8 @@ impl Fields {
         ValuesIter::new(name, text, spans, self.gone)
     }
 
-    /// The same lines again. Takes memory only where there are more than 64, or room was reserved
-    /// for more.
+    /// The same lines again. Takes memory only where there are or were more than 64, or room was
+    /// reserved for more.
     #[inline(always)]
     pub fn copy(&self) -> Result<Self, Error>
         ensures ok { IfOk result (λ copy. copy ≡ self.now) }
@@ -261,6 +299,7 @@ impl Fields {
         let held = match &self.held {
             Held::Nothing => Held::Nothing,
             Held::Shared(owner) => Held::Shared(Arc::try_clone(owner)?),
+            Held::Read(owner) => Held::Read(Arc::try_clone(owner)?),
             Held::Own(_) => return self.own_copy(),
         };
         Ok(Fields {
@@ -330,6 +369,7 @@ fn parts_of(held: &Held) -> (&[u8], &[Span])
     match held {
         Held::Nothing => (&[], &[]),
         Held::Shared(owner) => owner.parts(),
+        Held::Read(owner) => owner.parts(),
         Held::Own(block) => block.parts(),
     }
 }

@@ -1,11 +1,17 @@
 //! The owners of a block of field lines.
-ghost use Rattle.std.specs.Prelude.{◌≡◌, IfOk, IsOkUnless, []};
+ghost use Rattle.std.specs.Prelude.{◌≡◌, ◌≤◌, length, map, All, IfOk, IsOkUnless, []};
+ghost use Rattle.httparse.specs.Spans.{IsHeaderWithin, header_bytes};
 ghost use Rattle.h1_error.specs.Memory.{no_memory};
+ghost use Rattle.h1_fields.specs.declared.held.TheConstants.{MAX_SHARED_LINES};
+ghost use Rattle.h1_fields.specs.declared.span.TheConstants.{MAX_TEXT};
 ghost use Rattle.h1_fields.specs.Held.{lines_in, AreFlags};
 
 use crate::block::Block;
-use crate::span::FEW_LINES;
+use crate::head::HeadLines;
+use crate::span::{FEW_LINES, MAX_TEXT};
+use bytes::Bytes;
 use h1_error::Error;
+use httparse::spans::HeaderSpan;
 use std::alloc::Global;
 use std::sync::Arc;
 
@@ -19,6 +25,8 @@ pub(crate) enum Held {
     Nothing,
     /// At most 64 lines, which may have other owners.
     Shared(Arc<Block>),
+    /// More than 4 and at most 64 lines of a head, which may have other owners.
+    Read(Arc<HeadLines>),
     /// Any lines, with no other owner.
     Own(Box<Block>),
 }
@@ -37,6 +45,7 @@ impl Held {
         Held::with_many(alloc, lines)
     }
 
+    // Kept apart, so that a caller with few lines doesn't make room for many.
     #[inline(never)]
     fn with_many(alloc: Global, lines: usize) -> Result<Self, Error>
         ensures ok { IfOk result (λ held. lines_in held ≡ []) }
@@ -45,6 +54,21 @@ impl Held {
     {
         let block = Block::with_capacity(alloc, lines)?;
         Held::new(alloc, block, lines)
+    }
+
+    /// The owner of the lines at these places of a head.
+    // Kept apart, so that a caller with few lines doesn't clear room for many.
+    #[inline(never)]
+    pub(crate) fn of_head(alloc: Global, head: &Bytes, spans: &[HeaderSpan]) -> Result<Self, Error>
+        requires within { All (IsHeaderWithin (length head.now)) spans.now }
+        requires short { length head.now ≤ MAX_TEXT }
+        requires few { length spans.now ≤ MAX_SHARED_LINES }
+        ensures ok { IfOk result (λ held. lines_in held ≡ map (header_bytes head.now) spans.now) }
+        ensures flags { IfOk result (AreFlags 0) }
+        ensures err { IsOkUnless result no_memory }
+    {
+        let lines = HeadLines::new(alloc, head, spans)?;
+        Ok(Held::Read(Arc::new(alloc, lines)?))
     }
 
     /// The owner of a block that has no other and is to have so many lines.

@@ -9,6 +9,7 @@ mod block;
 mod content_length;
 mod fields;
 mod gone;
+mod head;
 mod held;
 mod iter;
 mod laws;

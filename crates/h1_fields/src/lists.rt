@@ -28,6 +28,7 @@ impl<'a> Model for PartsIter<'a> {
 }
 
 impl<'a> PartsIter<'a> {
+    #[inline(always)]
     pub(crate) fn new(values: ValuesIter<'a>) -> Self
         ensures { result ≡ list_parts values.entry }
     {

@@ -97,6 +97,7 @@ impl Fields {
     }
 
     /// The parts of the lines of that name.
+    #[inline(always)]
     fn parts<'a>(&'a self, name: &'a [u8]) -> PartsIter<'a>
         ensures { result ≡ parts_of name.now self.now }
     {

@@ -12,13 +12,14 @@ pub fn is_same_name(a: &[u8], b: &[u8]) -> bool
         return false;
     }
     // Most names come as they are asked for, and equal bytes need no case.
-    a == b || is_same_in_case(a, b)
+    a == b || is_same_in_any_case(a, b)
 }
 
-/// The same of names of one length, byte by byte.
+// The same of names of one length, byte by byte. Kept apart, since many places call it, and few
+// need it.
 #[inline(never)]
 #[tactic(auto, unfolding(crate::specs::Names::same_name))]
-fn is_same_in_case(a: &[u8], b: &[u8]) -> bool
+fn is_same_in_any_case(a: &[u8], b: &[u8]) -> bool
     requires { length a.now ≡ length b.now }
     ensures { result ≡ same_name a.now b.now }
 {

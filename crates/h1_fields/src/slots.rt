@@ -36,8 +36,8 @@ impl Slots {
     }
 }
 
-/// The slot of a name. The factors give Content-Length, Transfer-Encoding, Connection and Host
-/// slots that no other name has which is common in heads.
+/// The slot of a name, by its first letter and its length. With these factors no name that is
+/// common in heads shares a slot with Content-Length, Transfer-Encoding, Connection or Host.
 #[inline(always)]
 fn slot_of(name: &[u8]) -> u32
     ensures value { result ≡ slot_of name.now }

@@ -1,6 +1,8 @@
 //! The places of field lines in one text.
 ghost use Rattle.std.specs.Prelude.{◌≡◌, ◌≤◌, ◌++◌, length, drop, take, IfOk, IsOkUnless, MatchOption};
+ghost use Rattle.httparse.specs.Spans.{IsHeaderWithin, span_bytes};
 ghost use Rattle.h1_error.specs.Memory.{no_memory};
+ghost use Rattle.h1_fields.specs.declared.span.TheConstants.{MAX_TEXT};
 ghost use Rattle.h1_fields.specs.Lines.{is_named, without};
 ghost use Rattle.h1_fields.specs.Search.{HasNone, IsFirstAt};
 ghost use Rattle.h1_fields.specs.Spans.{AllFit, Fits, IsPlaceOf, line_of, lines_of};
@@ -8,23 +10,46 @@ ghost use Rattle.h1_fields.specs.Spans.{AllFit, Fits, IsPlaceOf, line_of, lines_
 use crate::name::is_same_name;
 use crate::text::Text;
 use h1_error::Error;
+use httparse::spans::HeaderSpan;
 use smallvec::SmallVec;
+use std::alloc::AllocError;
 
-/// How many places a block has in itself.
-pub(crate) const FEW_LINES: usize = 3;
+/// How many bytes a text has at most that lines lie in. A longer one is refused as one that there
+/// is no memory for.
+pub(crate) const MAX_TEXT: usize = 0xFFFF_FFFF;
+
+/// How many places a block has in itself. Of so few lines of a head the text is copied.
+pub(crate) const FEW_LINES: usize = 4;
 
 /// The places of field lines. Few need no block of memory of their own.
 pub(crate) type Places = SmallVec<Span, FEW_LINES>;
 
-/// The place of one line in a text: its name, and right behind it its value.
+/// The place of one line in a text: where its name and its value start and end.
 #[derive(Clone, Copy, Debug, Default)]
 pub(crate) struct Span {
-    start: usize,
-    middle: usize,
-    end: usize,
+    name: u32,
+    name_end: u32,
+    value: u32,
+    value_end: u32,
 }
 
 impl Span {
+    /// The place of a line that the parser found in the text.
+    #[inline(always)]
+    pub(crate) fn of_header(span: HeaderSpan, text: &[u8]) -> Span
+        requires within { IsHeaderWithin (length text.now) span }
+        requires short { length text.now ≤ MAX_TEXT }
+        ensures { IsPlaceOf text.now (span_bytes text.now span.name)
+            (span_bytes text.now span.value) result }
+    {
+        Span {
+            name: span.name.start as u32,
+            name_end: span.name.end as u32,
+            value: span.value.start as u32,
+            value_end: span.value.end as u32,
+        }
+    }
+
     /// Copies the line to the end of the text. With an error a part of it may be there.
     #[inline(always)]
     pub(crate) fn write(text: &mut Text, name: &[u8], value: &[u8]) -> Result<Span, Error>
@@ -37,7 +62,15 @@ impl Span {
         let middle = text.len();
         text.append(value)?;
         let end = text.len();
-        Ok(Span { start, middle, end })
+        if end > MAX_TEXT {
+            return Err(Error::from(AllocError));
+        }
+        Ok(Span {
+            name: start as u32,
+            name_end: middle as u32,
+            value: middle as u32,
+            value_end: end as u32,
+        })
     }
 
     #[inline(always)]
@@ -45,7 +78,7 @@ impl Span {
         requires { Fits (length text.now) self }
         ensures { result.now ≡ (line_of text.now self).0 }
     {
-        &text[self.start..self.middle]
+        &text[self.name as usize..self.name_end as usize]
     }
 
     #[inline(always)]
@@ -53,7 +86,7 @@ impl Span {
         requires { Fits (length text.now) self }
         ensures { result.now ≡ (line_of text.now self).1 }
     {
-        &text[self.middle..self.end]
+        &text[self.value as usize..self.value_end as usize]
     }
 
     /// Whether the line has this name, in any case.

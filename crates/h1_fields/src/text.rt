@@ -13,7 +13,7 @@ const SHORT: usize = 64;
 
 /// The bytes of a text, in place or in a block of memory.
 #[derive(Drop)]
-pub(crate) enum Bytes {
+pub(crate) enum Stored {
     Short(ArrayVec<u8, SHORT>),
     Long(Vec<u8>),
 }
@@ -22,7 +22,7 @@ pub(crate) enum Bytes {
 #[derive(Drop)]
 pub(crate) struct Text {
     alloc: Global,
-    bytes: Bytes,
+    bytes: Stored,
 }
 
 impl Model for Text {
@@ -42,7 +42,7 @@ impl Text {
     {
         Text {
             alloc,
-            bytes: Bytes::Short(ArrayVec::new()),
+            bytes: Stored::Short(ArrayVec::new()),
         }
     }
 
@@ -51,7 +51,7 @@ impl Text {
         ensures same { self.new ≡ self.old }
         ensures err { IsOkUnless result no_memory }
     {
-        self.bytes = Bytes::Long(self.moved(more)?);
+        self.bytes = Stored::Long(self.moved(more)?);
         Ok(())
     }
 
@@ -60,8 +60,8 @@ impl Text {
         ensures { result.now ≡ self.now }
     {
         match &self.bytes {
-            Bytes::Short(short) => short.as_slice(),
-            Bytes::Long(long) => long.as_slice(),
+            Stored::Short(short) => short.as_slice(),
+            Stored::Long(long) => long.as_slice(),
         }
     }
 
@@ -70,8 +70,8 @@ impl Text {
         ensures { result ≡ length self.now }
     {
         match &self.bytes {
-            Bytes::Short(short) => short.len(),
-            Bytes::Long(long) => long.len(),
+            Stored::Short(short) => short.len(),
+            Stored::Long(long) => long.len(),
         }
     }
 
@@ -83,11 +83,11 @@ impl Text {
         ensures same { OnErr result (self.new ≡ self.old) }
     {
         match &mut self.bytes {
-            Bytes::Short(short) if more.len() <= short.remaining_capacity() => {
+            Stored::Short(short) if more.len() <= short.remaining_capacity() => {
                 short.try_extend_from_slice(more).unwrap();
                 return Ok(());
             }
-            Bytes::Long(long) => {
+            Stored::Long(long) => {
                 long.extend_from_slice(more)?;
                 return Ok(());
             }
@@ -106,7 +106,7 @@ impl Text {
     {
         let mut long = self.moved(more.len().saturating_add(2 * SHORT))?;
         long.extend_from_slice(more)?;
-        self.bytes = Bytes::Long(long);
+        self.bytes = Stored::Long(long);
         Ok(())
     }
 

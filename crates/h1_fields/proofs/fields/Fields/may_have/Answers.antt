@@ -11,6 +11,13 @@ returns-in-Shared c =
     (ap (has_line c.args.name.now) (ap lines_in c.in-Shared.is ∙ sym c.deref.ensures)
     ∙ c.may_have.ensures absent)
 
+pub returns-in-Read : goal.returns-in-Read
+returns-in-Read c =
+    λ absent. ap (values_of c.args.name.now) (sym c.self.view_is)
+    ∙ none_living c.args.name.now c.self.inside.gone (lines_in c.self.inside.held)
+    (ap (has_line c.args.name.now) (ap lines_in c.in-Read.is ∙ sym c.deref-in-Read.ensures)
+    ∙ c.may_have-in-Read.ensures absent)
+
 pub returns-in-Own : goal.returns-in-Own
 returns-in-Own c =
     λ absent. ap (values_of c.args.name.now) (sym c.self.view_is)
