@@ -27,8 +27,3 @@ no_values name (line ∷ lines) none = by_test (no_values name lines) (is_named 
         → values_of name (line ∷ lines) ≡ []
     by_test rest true named none = cc
     by_test rest false named none = rw named (rest (rw named at none))
-
--- a request without a Connection line wishes what its version says
-pub unlisted : (request : RequestView) → has_line (codes "Connection") request.fields ≡ false
-    → is_http_11 request.version ≡ wish request false
-unlisted request none = rw (no_values (codes "Connection") request.fields none) refl

@@ -1,6 +1,8 @@
 pub mod SyntaxLemmas
 pub mod CheckLemmas
 pub mod DateLemmas
+pub mod FrontLemmas
+pub mod HeadEndLemmas
 pub mod OwnLineLemmas
 pub mod ReplyLemmas
 pub mod RequestHeadLemmas

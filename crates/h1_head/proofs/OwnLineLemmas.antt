@@ -2,6 +2,7 @@
 use Rattle.std.proofs.Common.{◌≡◌, ℕ, Bool, true, false, List, [], ◌∷◌, ◌++◌, codes, refl, sym, ap, ◌∙◌, append_assoc, append-nil}
 use Rattle.std.specs.Prelude.{if◌then◌else◌}
 use Rattle.std.proofs.lemmas.Grind.{flat_map-append}
+use Rattle.h1_head.specs.Wire.{keep_option}
 use Rattle.h1_fields.specs.Names.{same_name}
 use Rattle.h1_fields.specs.Lines.{Line, is_named, with_line, without, print_line, print_lines}
 
@@ -95,26 +96,23 @@ missing_printed date option out end printed all dated connected lines none print
     ∙ ap (λ l. out ++ print_lines (own_left date option dated connected l) ++ end) (sym none)
     ∙ ap (λ bytes. bytes ++ end) before
 
--- two lines and an empty one, from the three texts that they are printed in
+-- two lines and an empty one, from the texts that they are printed in
 two_printed : (out first colon value end second option : List ℕ)
-    → ((out ++ (first ++ colon)) ++ value)
-    ++ (((end ++ (second ++ colon)) ++ option) ++ (end ++ end))
+    → out
+    ++ (((first ++ colon) ++ value) ++ (((end ++ (second ++ colon)) ++ option) ++ (end ++ end)))
     ≡ (out
     ++ ((((first ++ colon) ++ value) ++ end)
     ++ ((((second ++ colon) ++ option) ++ end) ++ [])))
     ++ end
 two_printed out first colon value end second option = simp (append_assoc, append-nil)
 
-pub both_printed : (out one two three date end option : List ℕ)
-    → one ≡ out ++ codes "Date: " → two ≡ one ++ date
-    → end ≡ codes "\r\nConnection: " ++ option ++ codes "\r\n\r\n"
-    → three ≡ two ++ end
-    → three
-    ≡ out ++ print_lines ((codes "Date", date) ∷ (codes "Connection", option) ∷ [])
+-- Date, Connection and an empty line, of a connection that is kept
+pub kept_printed : (out printed date : List ℕ)
+    → printed ≡ out ++ (codes "Date: " ++ date ++ codes "\r\nConnection: keep-alive\r\n\r\n")
+    → printed
+    ≡ out ++ print_lines ((codes "Date", date) ∷ (codes "Connection", keep_option true) ∷ [])
     ++ (13 ∷ 10 ∷ [])
-both_printed out one two three date end option first second tail third =
-    third
-    ∙ ap (λ bytes. two ++ bytes) tail
-    ∙ ap (λ bytes. bytes ++ (codes "\r\nConnection: " ++ option ++ codes "\r\n\r\n"))
-    (second ∙ ap (λ bytes. bytes ++ date) first)
-    ∙ two_printed out (codes "Date") (codes ": ") date (13 ∷ 10 ∷ []) (codes "Connection") option
+kept_printed out printed date prints =
+    prints
+    ∙ two_printed out (codes "Date") (codes ": ") date (13 ∷ 10 ∷ []) (codes "Connection")
+    (codes "keep-alive")

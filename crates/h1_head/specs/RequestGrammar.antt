@@ -1,5 +1,5 @@
 -- Which bytes are the head of a request (RFC 9112, sections 2.2, 3 and 5).
-use Rattle.std.specs.Prelude.{◌≡◌, ℕ, ◌≤◌, ◌⊎◌, Some, List, [], length, map}
+use Rattle.std.specs.Prelude.{◌≡◌, ℕ, ◌≤◌, ◌⊎◌, Bool, true, false, Some, List, [], length, map}
 use Rattle.httparse.specs.Grammar.{RequestHead, ReadsRequest}
 use Rattle.httparse.specs.Spans.{name_and_value}
 use Rattle.h1_escape.specs.Escape.{esc}
@@ -25,6 +25,11 @@ IsHead bytes request =
 -- the bytes are no head
 abbrev pub HasNoHead : List ℕ → Type 0
 HasNoHead bytes = (spelled : RequestHead) → ¬ (IsHeadOf bytes spelled)
+
+-- whether the bytes are a head, and then it says this
+abbrev pub IsParsedAs : List ℕ → RequestView → Bool → Type 0
+IsParsedAs bytes request true = IsHead bytes request
+IsParsedAs bytes request false = HasNoHead bytes
 
 -- what is read in the place of these bytes: they themselves if they are a head, else their escape
 abbrev pub IsReadAs : List ℕ → List ℕ → Type 0

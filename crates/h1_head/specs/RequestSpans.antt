@@ -4,6 +4,8 @@ use Rattle.httparse.specs.Grammar.{RequestHead}
 use Rattle.httparse.specs.declared.spans.HeaderSpan.{HeaderSpan}
 use Rattle.httparse.specs.declared.spans.RequestSpans.{RequestSpans}
 use Rattle.httparse.specs.Spans.{IsRequestOf, IsRequestWithin, header_bytes, span_bytes}
+use Rattle.h1_cut.specs.Limit.{CutsAt}
+use Rattle.h1_head.specs.declared.limits.TheConstants.{MAX_HEADER_SIZE}
 use Rattle.h1_head.specs.declared.request_grammar.Found.{Found}
 use Rattle.h1_head.specs.declared.request_grammar.Found.TheVariants.{Head, NoHead, NoRoom}
 use Rattle.h1_head.specs.Request.{request_read}
@@ -21,6 +23,11 @@ pub record IsHeadAt (bytes : List ℕ) (spans : List HeaderSpan) (head : Request
   pub within : IsRequestWithin bytes spans head
   pub parsed : IsRequestOf bytes spans head
   pub says : IsHead bytes (request_at bytes spans head)
+
+-- the bytes begin with a head within the limit, and its parts lie at these places
+pub record IsFrontAt (bytes : List ℕ) (spans : List HeaderSpan) (head : RequestSpans) : Type 0 where
+  pub cuts : CutsAt MAX_HEADER_SIZE bytes head.len
+  pub front : IsHeadAt (take head.len bytes) spans head
 
 -- the bytes are no head that has so few lines
 abbrev pub HasMoreLines : ℕ → List ℕ → Type 0

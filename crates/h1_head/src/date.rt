@@ -20,12 +20,12 @@ pub fn get_cached_date(now: u64) -> [u8; 29]
 /// The date of the second that was asked for last, which is printed once for all its requests. A
 /// contract sees that second.
 #[derive(Debug, Drop)]
-pub struct DateCache {
+pub struct CacheableDate {
     second: u64,
     text: [u8; 29],
 }
 
-impl Model for DateCache {
+impl Model for CacheableDate {
     ghost use Rattle.std.specs.Prelude.{ℕ};
     ghost use Rattle.h1_head.specs.Date.{IsDateAt};
 
@@ -36,41 +36,39 @@ impl Model for DateCache {
     ghost invariant = { λ cache. IsDateAt cache.second cache.text };
 }
 
-impl DateCache {
-    /// The date of the first second of 1970.
-    pub fn new() -> Self
-        ensures { result ≡ 0 }
+impl CacheableDate {
+    /// The date of a moment, in milliseconds since 1970, up to the year 9999.
+    // Kept apart, since most calls of `update` print nothing.
+    #[inline(never)]
+    pub fn new(now: u64) -> Self
+        requires { now < YEAR_10000 }
+        ensures { result ≡ now / 1000 }
     {
-        DateCache {
-            second: 0,
-            text: get_cached_date(0),
+        CacheableDate {
+            second: now / 1000,
+            text: get_cached_date(now),
         }
     }
 
-    /// The IMF-fixdate of a moment, in milliseconds since 1970, up to the year 9999.
+    /// Keeps the date of this moment, which is printed only where another second is kept.
     #[inline(always)]
-    pub fn get(&mut self, now: u64) -> [u8; 29]
+    pub fn update(&mut self, now: u64)
+        requires { now < YEAR_10000 }
+        ensures { self.new ≡ now / 1000 }
+    {
+        if self.second != now / 1000 {
+            *self = CacheableDate::new(now);
+        }
+    }
+
+    /// The IMF-fixdate of a moment, as `get_cached_date` gives it. It is kept.
+    #[inline(always)]
+    pub fn get_date(&mut self, now: u64) -> [u8; 29]
         requires { now < YEAR_10000 }
         ensures date { IsDateAt (now / 1000) result }
         ensures second { self.new ≡ now / 1000 }
     {
-        let text = self.text_of(now);
-        *self = DateCache {
-            second: now / 1000,
-            text,
-        };
-        text
-    }
-
-    #[inline(always)]
-    fn text_of(&self, now: u64) -> [u8; 29]
-        requires { now < YEAR_10000 }
-        ensures { IsDateAt (now / 1000) result }
-    {
-        if self.second == now / 1000 {
-            self.text
-        } else {
-            get_cached_date(now)
-        }
+        self.update(now);
+        self.text
     }
 }

@@ -21,7 +21,7 @@ mod tests;
 mod version;
 mod wire;
 
-pub use date::{DateCache, get_cached_date};
+pub use date::{CacheableDate, get_cached_date};
 pub use h1_authority::{
     RawTargetAuthority, has_ambiguous_port_suffix, is_http_family_scheme, raw_target_authority,
 };
@@ -30,13 +30,14 @@ pub use h1_fields::{ContentLength, Fields, FieldsIter, ValuesIter};
 pub use laws::{dates_are_unique, replies_keep_their_framing};
 pub use limits::{MAX_HEADER_SIZE, MAX_HEADERS};
 pub use reading_laws::{
-    request_heads_are_stable, request_heads_are_unique, request_heads_have_no_front,
+    request_heads_are_stable, request_heads_are_unique, request_heads_end_with_their_grammar,
+    request_heads_have_no_front,
 };
 pub use request::RequestHeader;
 pub use request_checks::validate_request_authority;
 pub use request_head::{
-    HeadEnd, HeadStep, RequestHead, Verdict, find_head_end, judge_head, read_request_head,
-    search_request_head,
+    HeadEnd, HeadStep, RequestHead, Verdict, find_head_end, judge_front, judge_head,
+    read_request_head, search_request_head,
 };
 pub use response::ResponseHeader;
 pub use room::Room;

@@ -1,6 +1,8 @@
-//! Laws of the head at the front of a stream: the answer for the same bytes is one, and a decided
-//! one stays (RFC 9112, section 2.2).
-ghost use Rattle.std.specs.Prelude.{◌≡◌, ◌<◌, ◌++◌, ℕ, List, [], Bool, length, take};
+//! Laws of the head at the front of a stream: the answer for the same bytes is one, a decided one
+//! stays, and a head ends where its grammar does (RFC 9112, section 2.2).
+ghost use Rattle.std.specs.Prelude.{◌≡◌, ◌<◌, ◌++◌, ℕ, List, [], Bool, Some, length, take};
+ghost use Rattle.httparse.specs.Grammar.{ReadsRequest, RequestHead, print_request};
+ghost use Rattle.h1_cut.specs.Cut.{cut};
 ghost use Rattle.h1_error.specs.declared.head_fault.HeadFault.{HeadFault};
 ghost use Rattle.h1_head.specs.RequestGrammar.{IsReadAs};
 ghost use Rattle.h1_head.specs.RequestHead.{HeadAt, NotYetAt, RefusedAt};
@@ -39,4 +41,11 @@ pub fn request_heads_have_no_front()
     ensures prefix_free { (head more : List ℕ) (one other : RequestView) (b c : Bool)
         → HeadAt head (length head) one b → HeadAt (head ++ more) (length (head ++ more)) other c
         → more ≡ [] }
+{}
+
+/// Bytes that begin with a head of the grammar are cut where it ends: the grammar has an empty line
+/// behind the field lines, and no other behind the request line.
+pub fn request_heads_end_with_their_grammar()
+    ensures { (bytes rest : List ℕ) (head : RequestHead) → ReadsRequest bytes head rest
+        → cut bytes ≡ Some (length (print_request head)) }
 {}

@@ -1,5 +1,5 @@
 //! The head of a request (RFC 9112, section 3).
-ghost use Rattle.std.specs.Prelude.{◌≡◌, ◌++◌, ◌∷◌, [], IsTrue, IfOk, OnOk, OnErr, IsOkUnless, option_map};
+ghost use Rattle.std.specs.Prelude.{◌≡◌, ◌++◌, ◌∷◌, [], IsTrue, IfOk, OnOk, OnErr, IsOkUnless, codes, option_map};
 ghost use Rattle.httparse.specs.Grammar.{IsToken, is_token};
 ghost use Rattle.h1_error.specs.Memory.{no_memory};
 ghost use Rattle.h1_fields.specs.Lines.{has_line, first_value, values_of, with_line, without};
@@ -91,29 +91,43 @@ impl RequestHeader {
         })
     }
 
-    /// A request that was read, of version 1.0 or 1.1 by its last digit.
+    /// A request of version 1.1 for no target, with no fields. Takes no memory.
     #[inline(always)]
-    pub(crate) fn from_read(
-        alloc: Global,
+    pub fn new(alloc: Global) -> Self
+        ensures { result ≡ new_request (codes "GET") [] }
+    {
+        RequestHeader {
+            alloc,
+            method: Method::GET,
+            target: Bytes::new(),
+            version: Version::HTTP_11,
+            authority: None,
+            fields: Fields::new(alloc),
+            send_end_stream: true,
+        }
+    }
+
+    /// Puts a request that was read in the place of this one, of version 1.0 or 1.1 by its last
+    /// digit.
+    #[inline(always)]
+    pub(crate) fn put_read(
+        &mut self,
         method: &[u8],
         target: Bytes,
         minor: u8,
         fields: Fields,
-    ) -> Result<Self, Error>
+    ) -> Result<(), Error>
         requires { IsTrue (is_token method.now) }
-        ensures ok { IfOk result (λ head. head ≡ request_read method.now target minor fields) }
+        ensures ok { OnOk result (self.new ≡ request_read method.now target minor fields) }
         ensures err { IsOkUnless result no_memory }
     {
-        let method = method_of(alloc, method)?;
-        Ok(RequestHeader {
-            alloc,
-            method,
-            target,
-            version: with_minor(minor),
-            authority: None,
-            fields,
-            send_end_stream: true,
-        })
+        self.method = method_named(self.alloc, method)?;
+        self.target = target;
+        self.version = with_minor(minor);
+        self.authority = None;
+        self.fields = fields;
+        self.send_end_stream = true;
+        Ok(())
     }
 
     #[inline(always)]
@@ -254,16 +268,26 @@ impl RequestHeader {
     }
 }
 
-/// The method that these bytes name. A token is refused only where there is no memory.
-#[inline(always)]
+/// The method that these bytes name.
 fn method_of(alloc: Global, method: &[u8]) -> Result<Method, Error>
     ensures ok { IfOk result (λ made. made ≡ method.now) }
     ensures refused { RefusedFor (method_fault method.now) result }
 {
-    if !is_token(method) {
-        return Err(refuse(HeadFault::BadMethod));
+    if is_token(method) {
+        method_named(alloc, method)
+    } else {
+        Err(refuse(HeadFault::BadMethod))
     }
-    match Method::from_bytes(alloc, method) {
+}
+
+/// The method that a token names. Out of memory is the one error.
+#[inline(always)]
+fn method_named(alloc: Global, token: &[u8]) -> Result<Method, Error>
+    requires { IsTrue (is_token token.now) }
+    ensures ok { IfOk result (λ made. made ≡ token.now) }
+    ensures err { IsOkUnless result no_memory }
+{
+    match Method::from_bytes(alloc, token) {
         Ok(made) => Ok(made),
         Err(_) => Err(Error::from(ErrorType::NoMemory)),
     }

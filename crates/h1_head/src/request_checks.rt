@@ -33,14 +33,10 @@ impl RequestHeader {
     pub fn wishes_keep_alive(&self, both: bool) -> bool
         ensures { result ≡ wish self.now both }
     {
-        // Most heads have no such line, and no lists have to be searched.
-        if !both && !self.fields().contains(b"Connection") {
-            return is_http_11(self.version());
-        }
         if both || self.fields().lists_close() {
             false
         } else {
-            self.fields().lists_keep_alive() || is_http_11(self.version())
+            is_http_11(self.version()) || self.fields().lists_keep_alive()
         }
     }
 
@@ -75,6 +71,7 @@ impl RequestHeader {
         self.coding_fault(coded)
     }
 
+    #[inline(always)]
     fn host_fault(&self) -> Option<HeadFault>
         ensures { result ≡ host_fault self.now }
     {
@@ -88,6 +85,7 @@ impl RequestHeader {
         .err()
     }
 
+    #[inline(always)]
     fn coding_fault(&self, coded: bool) -> Option<HeadFault>
         requires { coded ≡ has_coding_line self.now.fields }
         ensures { result ≡ coding_fault self.now }

@@ -2,20 +2,22 @@
 //!
 //! What came so far goes in, and what is known of the head comes out. The answer depends on nothing
 //! but these bytes, and an accepted or refused head stays so whatever comes after it.
-ghost use Rattle.std.specs.Prelude.{IfOk, IsOkUnless};
+ghost use Rattle.std.specs.Prelude.{IfOk, IfSome, IsOkUnless};
+ghost use Rattle.h1_cut.specs.Limit.{CutsAt};
 ghost use Rattle.h1_cut.specs.Search.{HasLooked};
 ghost use Rattle.h1_error.specs.Memory.{no_memory};
 ghost use Rattle.h1_head.specs.RequestHead.{IsEndIn, IsStepOf};
-ghost use Rattle.h1_head.specs.RequestGrammar.{HasNoHead, IsHead, IsReadAs};
-ghost use Rattle.h1_head.specs.RequestVerdict.{IsVerdictOn};
+ghost use Rattle.h1_head.specs.RequestGrammar.{HasNoHead};
+ghost use Rattle.h1_head.specs.RequestVerdict.{IsEscapedAs, IsSettled, IsVerdictAt, IsVerdictOn};
 
 use crate::limits::MAX_HEADER_SIZE;
-use crate::request_grammar::parse_head;
+use crate::request_grammar::{FEW_HEADERS, find_front, parse_head, put_request};
 use crate::{RequestHeader, Room};
 use bytes::Bytes;
 use h1_cut::HeadSearch;
 use h1_error::{Error, HeadFault};
 use h1_escape::escape_head;
+use httparse::spans::EMPTY_HEADER_SPAN;
 use std::alloc::Global;
 
 /// An accepted head.
@@ -52,9 +54,10 @@ pub enum HeadEnd {
 }
 
 /// What becomes of a whole head.
-#[derive(Debug, Drop)]
+#[derive(Clone, Copy, Debug, PartialEq, Eq)]
 pub enum Verdict {
-    Accepted(RequestHead),
+    /// `both` says whether Content-Length lines went (RFC 9112, section 6.3).
+    Accepted { both: bool },
     Refused(HeadFault),
 }
 
@@ -81,15 +84,32 @@ pub fn search_request_head(
     match find_head_end(search, bytes) {
         HeadEnd::NotYet => Ok(HeadStep::NotYet),
         HeadEnd::TooLong => Ok(HeadStep::Refused(HeadFault::TooLong)),
-        HeadEnd::At(len) => match judge_head(alloc, &bytes[..len], &mut Room::new(alloc))? {
-            Verdict::Accepted(head) => Ok(HeadStep::Whole(head, len)),
-            Verdict::Refused(fault) => Ok(HeadStep::Refused(fault)),
-        },
+        HeadEnd::At(len) => read_whole(alloc, bytes, len),
     }
 }
 
-/// Looks for the end of the head at the front of the bytes, which grow from call to call: the
-/// search has looked at a front of them, and goes on from there.
+/// Reads a head that ends after so many of the bytes.
+fn read_whole(alloc: Global, bytes: &[u8], len: usize) -> Result<HeadStep, Error>
+    requires { CutsAt MAX_HEADER_SIZE bytes.now len }
+    ensures ok { IfOk result (IsStepOf bytes.now) }
+    ensures err { IsOkUnless result no_memory }
+{
+    let mut header = RequestHeader::new(alloc);
+    let mut raw = Bytes::new();
+    match judge_head(
+        alloc,
+        &bytes[..len],
+        &mut Room::new(alloc),
+        &mut header,
+        &mut raw,
+    )? {
+        Verdict::Accepted { both } => Ok(HeadStep::Whole(RequestHead { header, both, raw }, len)),
+        Verdict::Refused(fault) => Ok(HeadStep::Refused(fault)),
+    }
+}
+
+/// Looks for the end of the head at the front of the bytes (RFC 9112, section 2.2), which grow from
+/// call to call: the search has looked at a front of them, and goes on from there.
 #[inline(always)]
 pub fn find_head_end(search: &mut HeadSearch, bytes: &[u8]) -> HeadEnd
     requires { HasLooked MAX_HEADER_SIZE search.old bytes.now }
@@ -103,48 +123,80 @@ pub fn find_head_end(search: &mut HeadSearch, bytes: &[u8]) -> HeadEnd
     }
 }
 
-/// Accepts or refuses a whole head of a request, or else its escape. The head's bytes are kept in
-/// the room.
+/// Accepts or refuses the head at the front of the bytes, without a search for its end, where its
+/// grammar is complete in them (RFC 9112, section 3), and says how many of the bytes it takes. Where
+/// the answer is none, a search tells more. What is put in both places is as in `judge_head`.
 #[inline(always)]
-pub fn judge_head(alloc: Global, head: &[u8], room: &mut Room) -> Result<Verdict, Error>
-    ensures ok { IfOk result (IsVerdictOn head.now) }
+pub fn judge_front(
+    alloc: Global,
+    bytes: &[u8],
+    room: &mut Room,
+    header: &mut RequestHeader,
+    raw: &mut Bytes,
+) -> Result<Option<(Verdict, usize)>, Error>
+    ensures ok { IfOk result (λ found. IfSome found (IsVerdictAt bytes.now header.new raw.new)) }
     ensures err { IsOkUnless result no_memory }
 {
-    let raw = room.copy(head)?;
-    match parse_head(alloc, &raw)? {
-        Some(header) => Ok(settle(header, raw, head)),
-        None => judge_escape(alloc, head),
+    let mut spans = [EMPTY_HEADER_SPAN; FEW_HEADERS];
+    let Some(front) = find_front(bytes, &mut spans) else {
+        return Ok(None);
+    };
+    *raw = room.copy(&bytes[..front.len])?;
+    put_request(alloc, raw, &spans, front, header)?;
+    Ok(Some((settle(header), front.len)))
+}
+
+/// Accepts or refuses a whole head of a request, or else its escape. What an accepted head says is
+/// put in the place of the header, and its bytes as they were parsed in the place of `raw`: a copy
+/// in the room's memory, or the escape. Where no head is accepted, what stands in both places has no
+/// meaning.
+#[inline(always)]
+pub fn judge_head(
+    alloc: Global,
+    head: &[u8],
+    room: &mut Room,
+    header: &mut RequestHeader,
+    raw: &mut Bytes,
+) -> Result<Verdict, Error>
+    ensures ok { IfOk result (IsVerdictOn head.now header.new raw.new) }
+    ensures err { IsOkUnless result no_memory }
+{
+    *raw = room.copy(head)?;
+    if parse_head(alloc, raw, header)? || parse_escape(alloc, head, header, raw)? {
+        Ok(settle(header))
+    } else {
+        Ok(Verdict::Refused(HeadFault::NotAHead))
     }
 }
 
-/// The same of the escape of a head that isn't one itself.
+/// Whether the escape of a head is a head, where the head is none.
 #[inline(never)]
-fn judge_escape(alloc: Global, head: &[u8]) -> Result<Verdict, Error>
+fn parse_escape(
+    alloc: Global,
+    head: &[u8],
+    header: &mut RequestHeader,
+    raw: &mut Bytes,
+) -> Result<bool, Error>
     requires { HasNoHead head.now }
-    ensures ok { IfOk result (IsVerdictOn head.now) }
+    ensures ok { IfOk result (IsEscapedAs head.now raw.new header.new) }
     ensures err { IsOkUnless result no_memory }
 {
     let Some(escaped) = escape_head(alloc, head)? else {
-        return Ok(Verdict::Refused(HeadFault::NotAHead));
+        return Ok(false);
     };
-    let raw = Bytes::from_vec(escaped)?;
-    match parse_head(alloc, &raw)? {
-        Some(header) => Ok(settle(header, raw, head)),
-        None => Ok(Verdict::Refused(HeadFault::NotAHead)),
-    }
+    *raw = Bytes::from_vec(escaped)?;
+    parse_head(alloc, raw, header)
 }
 
-/// Drops Content-Length lines beside Transfer-Encoding, and judges what is left. The header is what
-/// `raw` says, which is read in the place of the head.
+/// Drops Content-Length lines beside Transfer-Encoding, and judges what is left.
 #[inline(always)]
-fn settle(mut header: RequestHeader, raw: Bytes, head: &[u8]) -> Verdict
-    requires { IsReadAs head.now raw × IsHead raw header }
-    ensures { IsVerdictOn head.now result }
+fn settle(header: &mut RequestHeader) -> Verdict
+    ensures { IsSettled header.old header.new result }
 {
     let coded = header.fields().has_transfer_encoding();
     let both = header.settle_length(coded);
     match header.first_fault(coded) {
         Some(fault) => Verdict::Refused(fault),
-        None => Verdict::Accepted(RequestHead { header, both, raw }),
+        None => Verdict::Accepted { both },
     }
 }

@@ -8,7 +8,6 @@ ghost use Rattle.h1_head.specs.Response.{new_response, reason_of};
 ghost use Rattle.h1_head.specs.Parts.{response_of_parts};
 
 use crate::parts::lines_of;
-use crate::request::copy_bytes;
 use crate::syntax::{check_line, check_phrase, refuse};
 use crate::wire::push_lines;
 use bytes::BytesMut;
@@ -25,7 +24,8 @@ pub struct ResponseHeader {
     alloc: Global,
     status: StatusCode,
     version: Version,
-    reason: Option<Vec<u8>>,
+    /// Most heads have none, so it stands in a block of its own.
+    reason: Option<Box<Vec<u8>>>,
     fields: Fields,
 }
 
@@ -38,7 +38,7 @@ impl Model for ResponseHeader {
     ghost view = { λ r. record {
       status = r.status;
       version = r.version;
-      reason = option_map (λ bytes. bytes.items) r.reason;
+      reason = option_map (λ phrase. phrase.value.items) r.reason;
       fields = r.fields;
     } };
 }
@@ -242,7 +242,7 @@ impl ResponseHeader {
             alloc,
             status: self.status,
             version: self.version,
-            reason: copy_bytes(alloc, &self.reason)?,
+            reason: copy_phrase(alloc, &self.reason)?,
             fields: self.fields.copy()?,
         })
     }
@@ -272,13 +272,29 @@ fn canonical_phrase(status: StatusCode) -> Option<&'static [u8]>
 }
 
 /// A copy of the bytes, where there are some.
-fn own_bytes(alloc: Global, bytes: Option<&[u8]>) -> Result<Option<Vec<u8>>, Error>
-    ensures ok { IfOk result (λ copy. option_map (λ bytes. bytes.items) copy
+fn own_bytes(alloc: Global, bytes: Option<&[u8]>) -> Result<Option<Box<Vec<u8>>>, Error>
+    ensures ok { IfOk result (λ copy. option_map (λ bytes. bytes.value.items) copy
         ≡ option_map (λ bytes. bytes.now) bytes.entry) }
     ensures err { IsOkUnless result no_memory }
 {
     match bytes {
-        Some(bytes) => Ok(Some(Vec::from_slice(alloc, bytes)?)),
+        Some(bytes) => {
+            let own = Vec::from_slice(alloc, bytes)?;
+            Ok(Some(Box::new(alloc, own)?))
+        }
+        None => Ok(None),
+    }
+}
+
+/// The same phrase again, where there is one.
+#[inline(always)]
+fn copy_phrase(alloc: Global, phrase: &Option<Box<Vec<u8>>>) -> Result<Option<Box<Vec<u8>>>, Error>
+    ensures ok { IfOk result (λ copy. option_map (λ bytes. bytes.value.items) copy
+        ≡ option_map (λ bytes. bytes.value.items) phrase.now) }
+    ensures err { IsOkUnless result no_memory }
+{
+    match phrase {
+        Some(phrase) => own_bytes(alloc, Some(phrase.as_slice())),
         None => Ok(None),
     }
 }

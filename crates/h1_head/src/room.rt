@@ -7,7 +7,7 @@ use h1_error::Error;
 use std::alloc::Global;
 use std::marker::Model;
 
-/// The blocks of a room grow up to this many bytes.
+/// Blocks grow up to this many bytes, but for one piece that is longer.
 const MOST_BLOCK: usize = 4096;
 
 /// Bytes that are put together and then handed out. What is handed out shares a block of memory with
@@ -60,8 +60,9 @@ impl Room {
         ensures err { IsOkUnless result no_memory }
     {
         let twice = self.block.saturating_mul(2).min(MOST_BLOCK);
-        self.block = more.max(twice);
-        self.bytes.reserve(self.block)?;
+        let wanted = more.max(twice);
+        self.bytes.reserve(wanted)?;
+        self.block = wanted;
         Ok(())
     }
 
@@ -85,7 +86,7 @@ impl Room {
         self.bytes.clear();
     }
 
-    /// A copy of these bytes, in place of those that were put together.
+    /// Hands out a copy of these bytes. Those that were put together are dropped.
     #[inline(always)]
     pub fn copy(&mut self, bytes: &[u8]) -> Result<Bytes, Error>
         ensures ok { IfOk result (λ copy. copy ≡ bytes.now) }

@@ -1,6 +1,6 @@
 //! Heads by example.
 use crate::{
-    DateCache, RequestHeader, ResponseHeader, get_cached_date, http_req_header_to_wire,
+    CacheableDate, RequestHeader, ResponseHeader, get_cached_date, http_req_header_to_wire,
     print_reply_head, push_response_head,
 };
 use bytes::BytesMut;
@@ -97,7 +97,7 @@ fn a_reply_gets_date_and_connection(rt: HostRuntime) -> Result<(), Error> {
 
 #[test]
 fn a_date_is_kept_for_its_second_alone(rt: HostRuntime) -> Result<(), Error> {
-    let mut cache = DateCache::new();
+    let mut cache = CacheableDate::new(0);
     let dates = [
         (784_111_777_999, b"Sun, 06 Nov 1994 08:49:37 GMT"),
         (784_111_777_000, b"Sun, 06 Nov 1994 08:49:37 GMT"),
@@ -105,7 +105,7 @@ fn a_date_is_kept_for_its_second_alone(rt: HostRuntime) -> Result<(), Error> {
         (999, b"Thu, 01 Jan 1970 00:00:00 GMT"),
     ];
     for (now, date) in dates {
-        assert_eq!(rt; cache.get(now).as_slice(), date.as_slice());
+        assert_eq!(rt; cache.get_date(now).as_slice(), date.as_slice());
     }
     Ok(())
 }

@@ -155,7 +155,7 @@ pub(crate) fn push_lines(out: &mut Vec<u8>, fields: &Fields) -> Result<(), Error
 fn push_reply_lines(
     out: &mut Vec<u8>,
     fields: &Fields,
-    date: &[u8],
+    date: &[u8; 29],
     keep: bool,
 ) -> Result<(), Error>
     ensures ok { let dated = with_line (codes "Date") date.now fields.now in
@@ -185,7 +185,7 @@ fn push_reply_lines(
 fn push_end(
     out: &mut Vec<u8>,
     dated: bool,
-    date: &[u8],
+    date: &[u8; 29],
     connected: bool,
     keep: bool,
 ) -> Result<(), Error>
@@ -195,28 +195,26 @@ fn push_end(
         OnOk result (out.new.items ≡ out.old.items ++ lines ++ (13 ∷ 10 ∷ [])) }
     ensures err { IsOkUnless result no_memory }
 {
-    if dated || connected {
-        push_once(out, dated, b"Date", date)?;
-        push_once(out, connected, b"Connection", option_of(keep))?;
-        out.extend_from_slice(b"\r\n")?;
-    } else {
-        out.extend_from_slice(b"Date: ")?;
-        out.extend_from_slice(date)?;
-        out.extend_from_slice(end_of(keep))?;
+    // Of most replies neither is written yet, and the connection is kept.
+    if let (false, false, true) = (dated, connected, keep) {
+        out.extend_from_slice(&kept_end(date))?;
+        return Ok(());
     }
+    push_once(out, dated, b"Date", date)?;
+    push_once(out, connected, b"Connection", option_of(keep))?;
+    out.extend_from_slice(b"\r\n")?;
     Ok(())
 }
 
-/// What stands behind the value of Date in a head whose last line is Connection.
-fn end_of(keep: bool) -> &'static [u8]
-    ensures { result.now
-        ≡ codes "\r\nConnection: " ++ keep_option keep ++ codes "\r\n\r\n" }
+/// The end of a head whose last lines are Date and Connection, of a connection that is kept.
+#[inline(always)]
+fn kept_end(date: &[u8; 29]) -> [u8; 63]
+    ensures { result
+        ≡ codes "Date: " ++ date.now ++ codes "\r\nConnection: keep-alive\r\n\r\n" }
 {
-    if keep {
-        b"\r\nConnection: keep-alive\r\n\r\n"
-    } else {
-        b"\r\nConnection: close\r\n\r\n"
-    }
+    let mut end = *b"Date: .............................\r\nConnection: keep-alive\r\n\r\n";
+    end[6..35].copy_from_slice(date);
+    end
 }
 
 /// Appends one line, if it isn't written yet.
@@ -238,9 +236,20 @@ fn push_line(out: &mut Vec<u8>, name: &[u8], value: &[u8]) -> Result<(), Error>
     ensures err { IsOkUnless result no_memory }
 {
     out.extend_from_slice(name)?;
-    out.extend_from_slice(b": ")?;
+    push_two(out, b':', b' ')?;
     out.extend_from_slice(value)?;
-    out.extend_from_slice(b"\r\n")?;
+    push_two(out, b'\r', b'\n')
+}
+
+/// Appends two bytes.
+#[inline(always)]
+fn push_two(out: &mut Vec<u8>, first: u8, second: u8) -> Result<(), Error>
+    ensures ok { OnOk result (out.new.items ≡ out.old.items ++ first ∷ second ∷ []) }
+    ensures err { IsOkUnless result no_memory }
+{
+    out.reserve(2)?;
+    out.push_reserved(first);
+    out.push_reserved(second);
     Ok(())
 }
 
