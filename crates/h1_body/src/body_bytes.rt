@@ -182,7 +182,6 @@ impl BodyBytes {
 }
 
 /// A block of its own with the bytes of both.
-#[cold]
 #[inline(never)]
 fn joined(alloc: Global, front: &[u8], back: &[u8]) -> Result<Vec<u8>, Error>
     ensures ok { IfOk result (λ own. own.items ≡ front.now ++ back.now) }

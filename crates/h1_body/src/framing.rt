@@ -37,12 +37,14 @@ pub fn reply_framing(method: &Method, head: &ResponseHeader) -> Framing
     }
 }
 
+#[inline(always)]
 fn has_no_reply_body(method: &Method, status: u16) -> bool
     ensures { result ≡ has_no_body method.now status }
 {
     method.as_str() == "HEAD" || status == 204 || status == 304
 }
 
+#[inline(always)]
 fn framing_by(fields: &Fields, otherwise: Framing) -> Framing
     ensures { result ≡ by_fields otherwise fields.now }
 {

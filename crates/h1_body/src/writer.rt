@@ -50,6 +50,7 @@ impl BodyWriter {
     }
 
     /// Takes the next piece of payload, and gives what is to be written for it. It takes no memory.
+    #[inline(always)]
     pub fn piece(&mut self, payload: Bytes) -> Result<Wire, Error>
         ensures ok { IsOkAnd result (λ wire. wire ≡ piece_bytes self.old payload) }
         ensures after { self.new ≡ after_piece self.old payload }
