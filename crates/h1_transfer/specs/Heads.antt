@@ -6,8 +6,8 @@ use Rattle.h1_transfer.specs.Budget.{allowance}
 use Rattle.h1_transfer.specs.Calls.{Fault, no_fault, read_fault}
 use Rattle.h1_transfer.specs.Moved.{Received}
 use Rattle.h1_transfer.specs.TransferView.{TransferView}
-use Rattle.h1_transfer.specs.declared.head.Look.{Look}
-use Rattle.h1_transfer.specs.declared.head.Look.TheVariants as look
+use Rattle.h1_transfer.specs.declared.head.HeadFound.{HeadFound}
+use Rattle.h1_transfer.specs.declared.head.HeadFound.TheVariants as head
 use Rattle.h1_transfer.specs.declared.reading_head.HeadRead.{HeadRead}
 use Rattle.h1_transfer.specs.declared.reading_head.HeadRead.TheVariants as h
 use Rattle.h1_transfer.specs.declared.reading_head.HeadStop.{HeadStop}
@@ -16,10 +16,10 @@ use Rattle.h1_transfer.specs.declared.reading_head.HeadStop.TheVariants as s
 -- what a search says of the bytes, and what it found
 abbrev pub FoundIn : {H : Type 0} → (List ℕ → ℕ → H → Type 0) → (List ℕ → HeadFault → Type 0)
     → (List ℕ → Type 0)
-    → List ℕ → Option H → Look → Type 0
-FoundIn is_at refuses lacks bytes found (look.Whole n) = IsSomeAnd found (is_at bytes n)
-FoundIn is_at refuses lacks bytes found (look.Refused fault) = refuses bytes fault × (found ≡ None)
-FoundIn is_at refuses lacks bytes found look.NotYet = lacks bytes × (found ≡ None)
+    → List ℕ → Option H → HeadFound → Type 0
+FoundIn is_at refuses lacks bytes found (head.Whole n) = IsSomeAnd found (is_at bytes n)
+FoundIn is_at refuses lacks bytes found (head.Refused fault) = refuses bytes fault × (found ≡ None)
+FoundIn is_at refuses lacks bytes found head.NotYet = lacks bytes × (found ≡ None)
 
 -- when the reading of a head stops, with the bytes that are received and not used then
 abbrev pub StopCause : (List ℕ → HeadFault → Type 0) → (List ℕ → Type 0) → LinkState → LinkState

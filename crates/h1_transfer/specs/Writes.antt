@@ -3,7 +3,7 @@ use Rattle.std.specs.Prelude.{◌≡◌, ℕ, ◌+◌, ◌^◌, min, ◌-◌, Li
 use Rattle.h1_transfer.specs.Words.{Poll, Error, ErrorType, LinkState, Delivery, Outgoing, Step}
 use Rattle.h1_transfer.specs.Moved.{Sent}
 use Rattle.h1_transfer.specs.Budget.{allowance}
-use Rattle.h1_transfer.specs.Writing.{IsDone, Waits, RefusesWrite, DeliveryAnswer, sent_after}
+use Rattle.h1_transfer.specs.Writing.{OwesNothing, Waits, RefusesWrite, DeliveryAnswer, sent_after}
 use Rattle.h1_transfer.specs.TransferView.{TransferView, Holds}
 
 -- one call that writes: what was owed and what it takes up now is written in front
@@ -30,7 +30,7 @@ pub record IsSameMessage (old new : Outgoing) : Type 0 where
 
 -- no write is in progress, nothing is owed, and no write was refused
 abbrev pub IsFree : Outgoing → Type 0
-IsFree outgoing = IsDone None outgoing
+IsFree outgoing = OwesNothing None outgoing
 
 -- a write that waits, where none was refused
 abbrev pub IsWaiting : LinkState → LinkState → Outgoing → Step → ℕ → Type 0

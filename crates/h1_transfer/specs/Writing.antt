@@ -36,7 +36,7 @@ abbrev pub sent_after : ℕ → List ℕ → List ℕ → ℕ
 sent_after sent before owed = min (sent + (length before - length owed)) (2 ^ 64 - 1)
 
 -- Nothing is owed, and no write is in progress. The refusal from before, where there is one, stays.
-pub record IsDone (was : Option Error) (outgoing : Outgoing) : Type 0 where
+pub record OwesNothing (was : Option Error) (outgoing : Outgoing) : Type 0 where
   pub owed : outgoing.owed ≡ []
   pub free : outgoing.step ≡ Free
   pub refused : outgoing.refused ≡ was
@@ -62,7 +62,7 @@ RefusesWrite was before now new step error _ = ⊥
 abbrev pub DeliveryAnswer : Delivery → Option Error → LinkState → LinkState → Outgoing → Step → ℕ
     → Poll (Result (Unit {0}) Error) → Type 0
 DeliveryAnswer how was before now new step left (Ready (Ok done)) =
-    IsDone was new × IsDelivered how now
+    OwesNothing was new × IsDelivered how now
 DeliveryAnswer how was before now new step left Pending =
     Waits was before now new step left × Owes how new.owed
 DeliveryAnswer how was before now new step left (Ready (Err error)) =

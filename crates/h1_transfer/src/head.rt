@@ -11,9 +11,9 @@ use h1_error::{Error, HeadFault};
 use h1_head::Room;
 use std::alloc::Global;
 
-/// What is known of the head at the front of a stream.
+/// What a search for the head at the front of a stream found.
 #[derive(Clone, Copy, Debug, PartialEq, Eq)]
-pub enum Look {
+pub enum HeadFound {
     /// A head is there and accepted. It takes so many of the bytes that came.
     Whole(usize),
     Refused(HeadFault),
@@ -32,15 +32,15 @@ pub trait Head: Sized + Drop {
 
     /// Looks for the head at the front of the bytes, and puts one that is accepted in the place of
     /// none. The bytes grow from call to call, and the search goes on from the front that it has
-    /// looked at. What is kept of the bytes is copied into the room. Out of memory is the one error,
-    /// and then nothing is put.
+    /// looked at. What is kept of the bytes is a copy in the room's memory. Out of memory is the one
+    /// error, and then nothing is put.
     fn search(
         alloc: Global,
         search: &mut HeadSearch,
         bytes: &[u8],
         room: &mut Room,
         found: &mut Option<Self>,
-    ) -> Result<Look, Error>
+    ) -> Result<HeadFound, Error>
         requires looked { HasLooked MAX_HEADER_SIZE search.old bytes.now }
         requires none { found.old ≡ None }
         ensures ok { IfOk result (FoundIn is_at refuses lacks bytes.now found.new) }

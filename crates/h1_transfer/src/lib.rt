@@ -21,7 +21,7 @@ pub use answering::refuse;
 pub use body::BodyState;
 pub use budget::{CALL_BUDGET, allowance_of, budget_left};
 pub use delivering::{Delivery, deliver, with_count};
-pub use head::{Head, Look};
+pub use head::{Head, HeadFound};
 pub use outgoing::{Outgoing, Step};
 pub use owed::Owed;
 pub use reading_body::{BodyRead, BodyStop, drain_body, read_body};

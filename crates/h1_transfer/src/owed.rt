@@ -7,7 +7,8 @@ use std::marker::Model;
 use std::mem;
 
 /// What was taken up and isn't written yet: the bytes of a head, or those of a part of a body.
-/// Contracts see the bytes that are left. The room of a head that was sent is kept for the next.
+/// Contracts see the bytes that are left. The buffer of a head that was sent is kept for
+/// the next.
 #[derive(Drop)]
 pub struct Owed {
     alloc: Global,
@@ -40,13 +41,16 @@ impl Owed {
         }
     }
 
-    /// Hands out the room of the last head, where nothing is owed.
-    pub fn take_room(&mut self) -> Vec<u8>
+    /// Hands out the buffer of the last head, with nothing in it, where nothing is owed.
+    pub fn take_buffer(&mut self) -> Vec<u8>
         requires { self.old ≡ [] }
-        ensures { self.new ≡ [] }
+        ensures empty { result.items ≡ [] }
+        ensures same { self.new ≡ [] }
     {
         self.sent = 0;
-        mem::replace(&mut self.head, Vec::new(self.alloc))
+        let mut buffer = mem::replace(&mut self.head, Vec::new(self.alloc));
+        buffer.clear();
+        buffer
     }
 
     /// Owes a head, where nothing is owed.
@@ -64,7 +68,7 @@ impl Owed {
         ensures { self.new ≡ wire }
     {
         self.sent = self.head.len();
-        // Most bodies end with no bytes.
+        // The end of most bodies has no bytes, and then nothing needs to be put.
         if !wire.is_empty() || !self.wire.is_empty() {
             self.wire = wire;
         }

@@ -1,5 +1,5 @@
 //! Reading a part of a request's body off the link (RFC 9112, section 6).
-ghost use Rattle.std.specs.Prelude.{◌≡◌, ◌<◌, ◌≤◌, ◌+◌, ◌-◌, ℕ, List, []};
+ghost use Rattle.std.specs.Prelude.{◌≡◌, ◌<◌, ◌≤◌, ◌+◌, ℕ, List, []};
 ghost use Rattle.h1_body.specs.Body.{unfinished};
 ghost use Rattle.h1_body.specs.Reader.{reads};
 ghost use Rattle.h1_transfer.specs.Decoding.{ReadsBody, BodyCause, StopCause, IsUnfinished, payload_of};

@@ -5,7 +5,7 @@ ghost use Rattle.h1_head.specs.declared.limits.TheConstants.{MAX_HEADER_SIZE};
 ghost use Rattle.h1_transfer.specs.Heads.{ReceivesHead, HeadCause, is_whole_head, fault_of_head};
 ghost use Rattle.h1_transfer.specs.Calls.{Called};
 
-use crate::head::{Head, Look};
+use crate::head::{Head, HeadFound};
 use crate::receiving::{Filled, fill};
 use bytes::BytesMut;
 use h1_cut::HeadSearch;
@@ -61,9 +61,9 @@ pub fn read_head<H: Head, L: Link>(
 {
     'reads: loop {
         match H::search(alloc, search, received.as_slice(), room, found) {
-            Ok(Look::Whole(used)) => return HeadRead::Whole(used),
-            Ok(Look::Refused(fault)) => return HeadRead::Stopped(HeadStop::Refused(fault)),
-            Ok(Look::NotYet) => {}
+            Ok(HeadFound::Whole(used)) => return HeadRead::Whole(used),
+            Ok(HeadFound::Refused(fault)) => return HeadRead::Stopped(HeadStop::Refused(fault)),
+            Ok(HeadFound::NotYet) => {}
             Err(_) => return HeadRead::Stopped(HeadStop::NoMemory),
         }
         if *budget == 0 {

@@ -1,5 +1,5 @@
 //! Sending the bytes that are owed.
-ghost use Rattle.std.specs.Prelude.{◌≡◌, ◌<◌, ◌-◌};
+ghost use Rattle.std.specs.Prelude.{◌≡◌, ◌<◌};
 ghost use Rattle.h1_transfer.specs.Moved.{Sent};
 ghost use Rattle.h1_transfer.specs.Writing.{SendCause, sent_after};
 ghost use Rattle.h1_transfer.specs.Calls.{Called, is_all, fault_of_send};

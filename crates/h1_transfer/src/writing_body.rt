@@ -1,6 +1,5 @@
 //! Taking up the pieces and the end of a body (RFC 9112, sections 6 and 7).
-ghost use Rattle.std.specs.Prelude.{◌≡◌, ◌⊎◌, None, Some};
-ghost use Rattle.h1_transfer.specs.ReplyFraming.{is_begun, admits};
+ghost use Rattle.std.specs.Prelude.{◌≡◌, None, Some};
 ghost use Rattle.h1_transfer.specs.BodyWrites.{piece_count, IsEndStep, TakesUpPiece, TakesUpEnd};
 
 use crate::{Outgoing, Step};

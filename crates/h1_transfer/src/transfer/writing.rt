@@ -24,13 +24,14 @@ impl<L: Link + Drop> Transfer<L> {
     ghost use Rattle.h1_transfer.specs.declared.outgoing.Step.TheVariants.{Free, Head};
     ghost use Rattle.std.specs.Prelude.{◌&&◌};
 
-    /// Room for the bytes of a head: that of the head before.
-    pub fn head_room(&mut self) -> Vec<u8>
+    /// The buffer for the bytes of a head, with nothing in it: that of the head before.
+    pub fn head_buffer(&mut self) -> Vec<u8>
         requires free { self.old.outgoing.step ≡ Free }
         requires unrefused { self.old.outgoing.refused ≡ None }
-        ensures { self.new ≡ self.old }
+        ensures empty { result.items ≡ [] }
+        ensures same { self.new ≡ self.old }
     {
-        self.outgoing.owed.take_room()
+        self.outgoing.owed.take_buffer()
     }
 
     /// Takes up a head, whose body has this framing.
