@@ -1,5 +1,5 @@
 -- Writing the head of a reply (RFC 9112, section 4).
-use Rattle.std.specs.Prelude.{◌≡◌, ℕ, ◌<◌, ◌≤◌, ◌/◌, List, [], length, Bool, true, false, Option, Some, None, Result, Ok, Err, IsTrue}
+use Rattle.std.specs.Prelude.{◌≡◌, ℕ, ◌<◌, ◌≤◌, ◌/◌, List, [], length, Bool, true, false, Option, Some, None, Result, Ok, Err, IsTrue, if◌then◌else◌}
 use Rattle.h1_server.specs.Words.{Poll, Ready, Pending, Error, ErrorType, LinkState, ResponseView, is_http_1, head_bytes, reply_head, IsDateAt, flushes_head, Request, Outgoing, Head}
 use Rattle.h1_error.specs.declared.error.ErrorType.TheVariants as kind
 use Rattle.h1_error.specs.declared.head_fault.HeadFault.TheVariants.{UnsupportedVersion}
@@ -97,6 +97,10 @@ pub record PassesHeader {L C : Type 0} (old new : SessionView L C) (kept : Optio
 abbrev pub is_passed_over : Option ResponseView → Bool → Bool
 is_passed_over None headed = false
 is_passed_over (Some header) headed = headed
+
+-- what of a header that was handed in is left to hand in, by whether a final one is taken up then
+abbrev pub kept_by : Option ResponseView → Bool → Option ResponseView
+kept_by header headed = if headed then None else header
 
 -- one call with a header that isn't passed over: it is written, or stays handed in
 abbrev pub HeaderWrite : {L C : Type 0} → (L → LinkState) → SessionView L C → SessionView L C

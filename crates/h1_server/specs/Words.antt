@@ -8,6 +8,7 @@ pub use Rattle.h1_cut.specs.Search.{HasLooked}
 pub use Rattle.h1_cut.specs.declared.search.HeadSearch.{HeadSearch}
 pub use Rattle.h1_error.specs.declared.error.Error.{Error}
 pub use Rattle.h1_error.specs.declared.error.ErrorType.{ErrorType}
+pub use Rattle.h1_error.specs.declared.head_fault.HeadFault.{HeadFault}
 pub use Rattle.h1_head.specs.Date.{IsDateAt}
 pub use Rattle.h1_head.specs.RequestGrammar.{IsReadAs}
 pub use Rattle.h1_head.specs.RequestHead.{HeadAt, NotYetAt, RefusedAt}
@@ -16,7 +17,6 @@ pub use Rattle.h1_head.specs.Views.{ResponseView}
 pub use Rattle.h1_head.specs.Wire.{head_bytes, reply_head}
 pub use Rattle.h1_head.specs.Wish.{wish}
 pub use Rattle.h1_head.specs.declared.limits.TheConstants.{MAX_HEADER_SIZE}
-pub use Rattle.h1_head.specs.declared.request_head.RequestHead.{RequestHead}
 pub use Rattle.h1_link.specs.LinkState.{LinkState}
 pub use Rattle.h1_server.specs.declared.request.ReadRequest.{ReadRequest}
 pub use Rattle.h1_server.specs.declared.request.Request.{Request}

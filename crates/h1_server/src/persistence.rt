@@ -31,6 +31,7 @@ impl<L: Link + Drop, C: Drop> HttpSession<L, C> {
     }
 
     /// Whether the connection persists, and the reply to this request is whole.
+    #[inline(always)]
     pub(crate) fn may_go_on(&self) -> bool
         ensures { result ≡ may_go_on self.now }
     {

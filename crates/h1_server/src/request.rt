@@ -1,9 +1,14 @@
 //! The request of one exchange, and what reading its head answers.
-ghost use Rattle.h1_server.specs.RequestMade.{IsMadeOf};
+ghost use Rattle.std.specs.Prelude.{◌≡◌, IfOk, IfSome, IsOkUnless};
+ghost use Rattle.h1_error.specs.Memory.{no_memory};
+ghost use Rattle.h1_server.specs.RequestMade.{IsFrontRead, IsReadFrom};
+ghost use Rattle.h1_server.specs.Words.{framing, wish};
 
 use bytes::Bytes;
 use h1_body::{Framing, framing_of};
-use h1_head::{RequestHead, RequestHeader};
+use h1_error::{Error, HeadFault};
+use h1_head::{RequestHeader, Room, Verdict, judge_front, judge_head};
+use std::alloc::Global;
 
 /// A request as it was read. Its wish, framing and raw bytes don't change with its header.
 #[derive(Drop)]
@@ -36,18 +41,73 @@ pub enum NoRequest {
     IdleTimeout,
 }
 
-/// The request that a head begins.
-#[inline(always)]
-pub(crate) fn request_of(head: RequestHead) -> Request
-    ensures { IsMadeOf head result }
-{
-    let wish = head.header.wishes_keep_alive(head.both);
-    let framing = framing_of(&head.header);
-    Request {
-        header: head.header,
-        both: head.both,
-        raw: head.raw,
-        wish,
-        framing,
+impl Request {
+    /// The place of a request that is to be read. Takes no memory.
+    #[inline(always)]
+    pub(crate) fn new(alloc: Global) -> Self {
+        Request {
+            header: RequestHeader::new(alloc),
+            both: false,
+            raw: Bytes::new(),
+            wish: false,
+            framing: Framing::Counted(0),
+        }
+    }
+
+    /// Puts the request that a whole head begins in the place of this one, or tells the fault for
+    /// which the head is refused.
+    #[inline(always)]
+    pub(crate) fn read(
+        &mut self,
+        alloc: Global,
+        head: &[u8],
+        room: &mut Room,
+    ) -> Result<Option<HeadFault>, Error>
+        ensures ok { IfOk result (IsReadFrom head.now self.new) }
+        ensures err { IsOkUnless result no_memory }
+    {
+        match judge_head(alloc, head, room, &mut self.header, &mut self.raw)? {
+            Verdict::Accepted { both } => {
+                self.note(both);
+                Ok(None)
+            }
+            Verdict::Refused(fault) => Ok(Some(fault)),
+        }
+    }
+
+    /// The same for the head at the front of the bytes, where the grammar tells its end. Says how
+    /// many of the bytes it takes.
+    #[inline(always)]
+    pub(crate) fn read_front(
+        &mut self,
+        alloc: Global,
+        bytes: &[u8],
+        room: &mut Room,
+    ) -> Result<Option<(Option<HeadFault>, usize)>, Error>
+        ensures ok { IfOk result (λ found. IfSome found (IsFrontRead bytes.now self.new)) }
+        ensures err { IsOkUnless result no_memory }
+    {
+        match judge_front(alloc, bytes, room, &mut self.header, &mut self.raw)? {
+            Some((Verdict::Accepted { both }, len)) => {
+                self.note(both);
+                Ok(Some((None, len)))
+            }
+            Some((Verdict::Refused(fault), len)) => Ok(Some((Some(fault), len))),
+            None => Ok(None),
+        }
+    }
+
+    /// Notes what the header of an accepted head fixes.
+    #[inline(always)]
+    fn note(&mut self, both: bool)
+        ensures header { self.new.header ≡ self.old.header }
+        ensures raw { self.new.raw ≡ self.old.raw }
+        ensures both { self.new.both ≡ both }
+        ensures wish { self.new.wish ≡ wish self.old.header both }
+        ensures framing { self.new.framing ≡ framing self.old.header }
+    {
+        self.both = both;
+        self.wish = self.header.wishes_keep_alive(both);
+        self.framing = framing_of(&self.header);
     }
 }

@@ -11,7 +11,7 @@ use crate::settings::with_keepalive;
 use crate::{Request, Settings, Step};
 use h1_body::BodyBytes;
 use h1_error::Error;
-use h1_head::{DateCache, RequestHeader, Room};
+use h1_head::{CacheableDate, RequestHeader, Room};
 use h1_link::Link;
 use h1_transfer::Transfer;
 use std::alloc::Global;
@@ -32,8 +32,8 @@ pub struct HttpSession<L: Link + Drop, C: Drop> {
     pub(crate) keep: bool,
     reusable: bool,
     context: Option<C>,
-    /// Stays from one request to the next.
-    dates: DateCache,
+    /// The date that was printed last, which requests of the same second share.
+    dates: CacheableDate,
 }
 
 impl<L: Link + Drop, C: Drop> Model for HttpSession<L, C> {
@@ -75,7 +75,7 @@ impl<L: Link + Drop, C: Drop> HttpSession<L, C> {
             keep: false,
             reusable: false,
             context: None,
-            dates: DateCache::new(),
+            dates: CacheableDate::new(0),
         })
     }
 

@@ -6,10 +6,10 @@ ghost use Rattle.h1_server.specs.Reuse.{next_settings, one_less};
 /// How a session treats its connection. Times are in seconds.
 #[derive(Clone, Copy, Debug, PartialEq, Eq)]
 pub struct Settings {
-    /// Nothing may follow the reply.
-    pub keep_off: bool,
     /// The deadline of the next head where keep-alive is on; 0 is none.
     pub keepalive: u64,
+    /// Nothing may follow the reply.
+    pub keep_off: bool,
     /// A header that is taken up before the request's body ends closes the connection.
     pub closing: bool,
     /// Bytes after the request begin the next one.

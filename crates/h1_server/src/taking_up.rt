@@ -1,5 +1,5 @@
 //! Taking up the head, a piece and the end of a reply (RFC 9112, sections 4 to 7).
-ghost use Rattle.std.specs.Prelude.{◌≡◌, ◌<◌, None, IfNone, IfSome, Ok};
+ghost use Rattle.std.specs.Prelude.{◌≡◌, ◌<◌, None, IfNone, IfSome, Ok, option_map};
 ghost use Rattle.h1_error.specs.declared.moment.TheConstants.{YEAR_10000};
 ghost use Rattle.h1_server.specs.HeaderWrites.{IsHeaderStep, is_passed_over, keep_after};
 ghost use Rattle.h1_server.specs.HeadBytes.{IsHeadOf};
@@ -8,58 +8,51 @@ ghost use Rattle.h1_server.specs.TakingUp.{TakesUpHeader, head_delivery};
 use crate::Request;
 use h1_body::{BodyWriter, Framing, reply_framing};
 use h1_error::{Error, ErrorType, HeadFault};
-use h1_head::{DateCache, ResponseHeader, is_http_1, print_reply_head};
+use h1_head::{CacheableDate, ResponseHeader, is_http_1, print_reply_head};
 use h1_link::Link;
 use h1_transfer::{Delivery, Transfer};
 
 /// Whether a final header went before the one that is handed in.
-pub(crate) fn is_passed_over(header: &Option<ResponseHeader>, headed: bool) -> bool
-    ensures { result ≡ is_passed_over header.now headed }
+pub(crate) fn is_passed_over(header: Option<&ResponseHeader>, headed: bool) -> bool
+    ensures { result ≡ is_passed_over (option_map (λ head. head.now) header.entry) headed }
 {
-    match header {
-        Some(_) => headed,
-        None => false,
-    }
+    header.is_some() && headed
 }
 
 /// The flag that is noted: that of the header that is handed in.
-pub(crate) fn keep_after(header: &Option<ResponseHeader>, keep: bool, flag: bool) -> bool
-    ensures { result ≡ keep_after header.now keep flag }
+pub(crate) fn keep_after(header: Option<&ResponseHeader>, keep: bool, flag: bool) -> bool
+    ensures { result ≡ keep_after (option_map (λ head. head.now) header.entry) keep flag }
 {
-    match header {
-        Some(_) => flag,
-        None => keep,
-    }
+    if header.is_some() { flag } else { keep }
 }
 
-/// Takes up the header that is handed in, with the date of this moment and this flag. Where it can't
-/// be written it stays. Its bytes take the room of the head before.
+/// Takes up the header that is handed in, with the date of this moment and this flag. Its bytes
+/// take the room of the head before. Where it can't be written nothing changes.
 #[inline(always)]
 pub(crate) fn take_header<L: Link + Drop>(
     transfer: &mut Transfer<L>,
     request: &Request,
     keep: bool,
-    header: &mut Option<ResponseHeader>,
+    header: Option<&ResponseHeader>,
     now: u64,
-    dates: &mut DateCache,
+    dates: &mut CacheableDate,
 ) -> Result<(), Error>
-    requires free { IsHeaderStep header.old transfer.old.outgoing.step }
+    requires free { IsHeaderStep (option_map (λ head. head.now) header)
+        transfer.old.outgoing.step }
     requires unrefused { transfer.old.outgoing.refused ≡ None }
     requires moment { now < YEAR_10000 }
-    ensures goes_on { IfNone header.old ((result ≡ Ok tt) × (transfer.new ≡ transfer.old)
-        × (header.new ≡ None)) }
-    ensures takes { IfSome header.old
-        (λ view. TakesUpHeader transfer.old transfer.new request.now keep view header.new now
-        result) }
+    ensures goes_on { IfNone (option_map (λ head. head.now) header.entry)
+        ((result ≡ Ok tt) × (transfer.new ≡ transfer.old)) }
+    ensures takes { IfSome (option_map (λ head. head.now) header.entry)
+        (λ view. TakesUpHeader transfer.old transfer.new request.now keep view now result) }
 {
     let Some(head) = header else {
         return Ok(());
     };
-    let mut bytes = transfer.head_room();
+    let mut bytes = transfer.head_buffer();
     print_head(head, keep, now, dates, &mut bytes)?;
     let framing = reply_framing(request.header.method(), head);
     transfer.take_up_head(bytes, framing);
-    *header = None;
     Ok(())
 }
 
@@ -69,7 +62,7 @@ fn print_head(
     head: &ResponseHeader,
     keep: bool,
     now: u64,
-    dates: &mut DateCache,
+    dates: &mut CacheableDate,
     out: &mut Vec<u8>,
 ) -> Result<(), Error>
     requires { now < YEAR_10000 }
@@ -78,7 +71,7 @@ fn print_head(
     if !is_http_1(head.version()) {
         return Err(Error::from(ErrorType::InvalidHTTPHeader(HeadFault::UnsupportedVersion)));
     }
-    let date = dates.get(now);
+    let date = dates.get_date(now);
     print_reply_head(head, &date, keep, out)
 }
 

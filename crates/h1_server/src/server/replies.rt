@@ -1,5 +1,5 @@
 //! Writing a reply: its head, its body and its end.
-ghost use Rattle.std.specs.Prelude.{◌≡◌, ◌<◌, ◌≤◌, ◌/◌, ◌⊎◌, IsSome, IfSome, IfNone, None, Some, true, false};
+ghost use Rattle.std.specs.Prelude.{◌≡◌, ◌<◌, ◌≤◌, ◌/◌, IsSome, IfSome, IfNone, None, Some, true, false, option_map};
 ghost use Rattle.h1_error.specs.declared.moment.TheConstants.{YEAR_10000};
 ghost use Rattle.futures.specs.declared.task.Poll.TheVariants.{Ready};
 ghost use Rattle.h1_head.specs.Date.{IsDateAt};
@@ -15,7 +15,7 @@ use h1_link::Link;
 
 impl<L: Link + Drop, C: Drop> HttpSession<L, C> {
     ghost use Rattle.h1_transfer.specs.Calls.{Called, succeeds, write_fault_of};
-    ghost use Rattle.h1_server.specs.Replies.{HeaderCall, is_passed_over, WritesPiece, EndCall, stage_of, IsHeaderStep};
+    ghost use Rattle.h1_server.specs.Replies.{HeaderCall, is_passed_over, WritesPiece, EndCall, stage_of, IsHeaderStep, kept_by};
     ghost use Rattle.h1_transfer.specs.BodyWrites.{IsPieceStep, IsEndStep};
 
     /// The value of Date at a moment, in milliseconds since 1970. It is printed once for a second.
@@ -24,7 +24,7 @@ impl<L: Link + Drop, C: Drop> HttpSession<L, C> {
         ensures date { IsDateAt (now / 1000) result }
         ensures same { self.new ≡ self.old }
     {
-        self.dates.get(now)
+        self.dates.get_date(now)
     }
 
     /// Writes a final header, with its date and whether the connection is kept (RFC 9112,
@@ -52,17 +52,50 @@ impl<L: Link + Drop, C: Drop> HttpSession<L, C> {
         if let Some(error) = self.transfer.outgoing().refused {
             return Poll::Ready(Err(error));
         }
-        if is_passed_over(header, self.transfer.outgoing().headed) {
+        let answer = self.poll_write_response_header_ref(header.as_ref(), now);
+        if self.is_headed() {
             *header = None;
+        }
+        answer
+    }
+
+    /// The same with a header that stays with its owner. It was taken up where a final header was
+    /// taken up then and not before.
+    #[inline(always)]
+    pub fn poll_write_response_header_ref(
+        &mut self,
+        resp: Option<&ResponseHeader>,
+        now: u64,
+    ) -> Poll<Result<(), Error>>
+        requires request { IsSome self.old.request }
+        requires free { IsHeaderStep (option_map (λ head. head.now) resp) self.old.reply.step }
+        requires is_final { IfSome (option_map (λ head. head.now) resp)
+            (λ view. 200 ≤ view.status) }
+        requires moment { now < YEAR_10000 }
+        ensures again { IfSome self.old.reply.refused (λ error. (result ≡ Ready (Err error))
+            × (self.new ≡ self.old)) }
+        ensures writes { let header = option_map (λ head. head.now) resp.entry in
+            IfNone self.old.reply.refused (IfSome self.old.request
+            (λ request. HeaderCall L.state self.old self.new request header
+            (kept_by header self.new.reply.headed) now result
+            (is_passed_over header self.old.reply.headed))) }
+        ensures calls { Called (L.state self.old.link) (L.state self.new.link) false
+            (write_fault_of result) }
+        ensures plan { L.same_plan self.old.link self.new.link }
+    {
+        if let Some(error) = self.transfer.outgoing().refused {
+            return Poll::Ready(Err(error));
+        }
+        if is_passed_over(resp, self.transfer.outgoing().headed) {
             return Poll::Ready(Ok(()));
         }
         let Some(request) = &self.asked.request else {
             unreachable!()
         };
         let flag = keep_flag(request.wish, self.settings, self.transfer.body());
-        let keep = keep_after(header, self.keep, flag);
+        let keep = keep_after(resp, self.keep, flag);
         let dates = &mut self.dates;
-        if let Err(error) = take_header(&mut self.transfer, request, keep, header, now, dates) {
+        if let Err(error) = take_header(&mut self.transfer, request, keep, resp, now, dates) {
             return Poll::Ready(Err(error));
         }
         self.keep = keep;

@@ -23,7 +23,6 @@ impl<L: Link + Drop, C: Drop> HttpSession<L, C> {
     ghost use Rattle.h1_transfer.specs.Calls.{Called, succeeds, read_fault_of};
 
     /// Reads the rest of the request's body (RFC 9112, section 9.3).
-    #[inline(always)]
     pub fn poll_drain_request_body(&mut self, now: u64) -> Poll<Result<(), Error>>
         requires { IsSome self.old.request }
         ensures again { IfSome self.old.body.refused (λ error. (result ≡ Ready (Err error))
