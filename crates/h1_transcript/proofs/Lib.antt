@@ -1,6 +1,7 @@
 pub mod BehindLemmas
 pub mod AloneLemmas
 pub mod CompleteLemmas
+pub mod EntryLemmas
 pub mod ServedLemmas
 pub mod GrowthLemmas
 pub mod Words

@@ -1,11 +1,19 @@
 -- The exchanges of a transcript, and how many of them have a reply.
 use Rattle.std.specs.Prelude.{ℕ, List, [], ◌++◌, option_to_list, Option, Some, None, ◌+◌, ◌∷◌}
 use Rattle.h1_transcript.specs.Words.{Entry, Reply}
-use Rattle.h1_transcript.specs.declared.transcript.Transcript.{Transcript}
+
+-- the exchanges that ended, and the one that goes on
+pub record TranscriptView : Type 0 where
+  pub done : List Entry
+  pub last : Option Entry
 
 -- the transcript as it is kept
-abbrev pub transcript_entries : Transcript → List Entry
-transcript_entries transcript = transcript.done.items ++ option_to_list transcript.last
+abbrev pub transcript_entries : TranscriptView → List Entry
+transcript_entries transcript = transcript.done ++ option_to_list transcript.last
+
+-- the transcript with this exchange as the one that goes on
+abbrev pub with_last : TranscriptView → Entry → TranscriptView
+with_last transcript e = record transcript { last = Some e }
 
 -- how many of these exchanges have a reply
 abbrev pub replies : List Entry → ℕ

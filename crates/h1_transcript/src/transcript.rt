@@ -1,15 +1,16 @@
 //! What a connection read and wrote, exchange by exchange.
-ghost use Rattle.std.specs.Prelude.{◌≡◌, ◌<◌, ◌++◌, [], None, Some, IsSome, OnOk, OnErr, IfErr, length, slice_get, option_to_list};
+ghost use Rattle.std.specs.Prelude.{◌≡◌, ◌++◌, [], None, Some, IsSome, OnOk, OnErr, IfErr, length, slice_get, option_to_list};
 ghost use Rattle.h1_error.specs.Memory.{no_memory};
 ghost use Rattle.std.specs.Borrow.{sem};
 ghost use Rattle.std.specs.Option.{option_copied};
 
 use crate::Reply;
 use h1_body::BodyBytes;
-use h1_error::{Error, ErrorType};
+use h1_error::Error;
 use h1_head::{RequestHeader, ResponseHeader};
 use h1_server::Settings;
 use std::alloc::Global;
+use std::marker::Model;
 
 /// How a request's body stood when its reply was made.
 #[derive(Clone, Copy, Debug, PartialEq, Eq)]
@@ -59,80 +60,90 @@ pub struct Entry {
     pub date_text: [u8; 29],
 }
 
-/// The exchanges of a connection, in order.
+/// The exchanges of a connection, in order. Contracts see those that ended as `done`, and the one
+/// that goes on as `last`.
 #[derive(Drop)]
 pub struct Transcript {
-    /// The exchanges that ended.
-    pub done: Vec<Entry>,
-    /// The exchange that goes on.
-    pub last: Option<Entry>,
+    entries: Vec<Entry>,
+    /// How many of them ended: all, or all but the last.
+    ended: usize,
+}
+
+impl Model for Transcript {
+    ghost use Rattle.std.specs.Prelude.{◌≤◌, ◌+◌, take, length, slice_get};
+    ghost use Rattle.h1_transcript.specs.Entries.{TranscriptView};
+
+    ghost Value = { TranscriptView };
+
+    ghost view = { λ t. record {
+      done = take t.ended t.entries.items;
+      last = slice_get t.entries.items t.ended;
+    } };
+
+    // The exchange that goes on is the last.
+    ghost invariant = { λ t. (t.ended ≤ length t.entries.items)
+        × (length t.entries.items ≤ t.ended + 1) };
 }
 
 impl Transcript {
-    ghost use Rattle.h1_transcript.specs.Entries.{transcript_entries};
+    ghost use Rattle.h1_transcript.specs.Entries.{transcript_entries, with_last};
     ghost use Rattle.h1_transcript.specs.Lending.{LendsLast};
 
     /// No exchange yet.
     pub fn new(alloc: Global) -> Self
-        ensures done { result.done.items ≡ [] }
+        ensures done { result.done ≡ [] }
         ensures last { result.last ≡ None }
     {
         Transcript {
-            done: Vec::new(alloc),
-            last: None,
+            entries: Vec::new(alloc),
+            ended: 0,
         }
     }
 
+    /// An exchange begins, where none goes on.
+    #[inline(always)]
+    pub fn begin(&mut self, entry: Entry) -> Result<(), Error>
+        requires { self.old.last ≡ None }
+        ensures ok { OnOk result (self.new ≡ with_last self.old entry) }
+        ensures err { OnErr result (self.new ≡ self.old) }
+        ensures memory { IfErr result (λ error. error ≡ no_memory) }
+    {
+        // Room is made first, so that no entry has to come back.
+        self.entries.reserve(1)?;
+        self.entries.push_reserved(entry);
+        Ok(())
+    }
+
     /// The exchange that goes on.
+    #[inline(always)]
     pub fn last_entry(&mut self) -> &mut Entry
         requires { IsSome self.old.last }
         ensures* lends { sem 𝓛 (LendsLast self.entry result) }
         ensures value { self.old.last ≡ Some result.now }
     {
-        match &mut self.last {
-            Some(entry) => entry,
-            None => unreachable!(),
-        }
+        &mut self.entries[self.ended]
     }
 
-    /// The last exchange joins those that ended.
-    #[inline(always)]
-    pub fn end_last(&mut self) -> Result<(), Error>
+    /// The exchange that goes on joins those that ended.
+    pub fn end_last(&mut self)
         requires { IsSome self.old.last }
-        ensures ok { OnOk result
-            ((self.new.done.items ≡ self.old.done.items ++ option_to_list self.old.last)
-            × (self.new.last ≡ None)) }
-        ensures err { OnErr result ((self.new.done.items ≡ self.old.done.items)
-            × (self.new.last ≡ self.old.last)) }
-        ensures memory { IfErr result (λ error. error ≡ no_memory) }
+        ensures done { self.new.done ≡ self.old.done ++ option_to_list self.old.last }
+        ensures last { self.new.last ≡ None }
     {
-        let Some(entry) = self.last.take() else {
-            unreachable!()
-        };
-        match self.done.push(entry) {
-            Ok(()) => Ok(()),
-            Err(failed) => {
-                self.last = Some(failed.value);
-                Err(Error::from(ErrorType::NoMemory))
-            }
-        }
+        self.ended += 1;
     }
 
     /// How many exchanges there are.
     pub fn len(&self) -> usize
         ensures { result ≡ length (transcript_entries self.now) }
     {
-        self.done.len() + usize::from(self.last.is_some())
+        self.entries.len()
     }
 
     /// The exchange with this index, counted from 0.
     pub fn get(&self, i: usize) -> Option<&Entry>
         ensures { option_copied result ≡ slice_get (transcript_entries self.now) i }
     {
-        if i == self.done.len() {
-            self.last.as_ref()
-        } else {
-            self.done.get(i)
-        }
+        self.entries.get(i)
     }
 }
