@@ -2,7 +2,7 @@
 use Rattle.std.proofs.Common.{◌≡◌, ℕ, ◌+◌, ◌*◌, ◌<◌, ◌≤◌, List, [], ◌∷◌, Bool, true, false, Option, Some, None, option_map, Ok, refl, sym, ◌∙◌, ap, subst, lit<, arith}
 use Rattle.std.proofs.lemmas.Bool.{false≢true}
 use Rattle.std.proofs.lemmas.Option.{same_Some}
-use Rattle.h1_app.specs.Words.{Ready, LinkState, RequestView, body, reads, framing, SessionView, allowance, Request, Settings, Reply, Entry, Exchange, Transcript, Outgoing, Stage, Outcome, Given, IsSetAlike, IsAllowed, keepalive_set, replies}
+use Rattle.h1_app.specs.Words.{Ready, LinkState, RequestView, body, reads, framing, SessionView, allowance, Request, Settings, Reply, Entry, Exchange, TranscriptView, Outgoing, Stage, Outcome, Given, IsSetAlike, IsAllowed, keepalive_set, replies}
 use Rattle.h1_server.specs.declared.request.ReadRequest.TheVariants as read
 use Rattle.h1_app.specs.declared.exchange.Stage.TheVariants as stage
 use Rattle.h1_app.specs.declared.exchange.Outcome.TheVariants as outcome
@@ -86,7 +86,7 @@ new_allowed gives request settings e is = record {
 pub begun_stepped : {L C J : Type 0} (state : L → LinkState) (begins : J → Type 0) (pends : J → ℕ)
     (gives : Given → Reply → Type 0)
     (runs : J → RequestView → Settings → Settings → List ℕ → Type 0) (now : ℕ) (shutdown : Bool)
-    (x : Exchange L J C) (mid : SessionView L C) (transcript : Transcript) (to : Stage J) (n : ℕ)
+    (x : Exchange L J C) (mid : SessionView L C) (transcript : TranscriptView) (to : Stage J) (n : ℕ)
     (result : Outcome)
     → x.stage ≡ stage.Head → AtHead state x.session mid x.transcript.last (Ready (Ok (read.Head n)))
     → BegunAs begins runs

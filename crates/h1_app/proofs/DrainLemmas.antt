@@ -1,5 +1,5 @@
 -- What the rest of a request's body comes to after its reply, and why a connection isn't kept.
-use Rattle.std.proofs.Common.{◌≡◌, ℕ, ◌+◌, ◌-◌, ◌<◌, ◌≤◌, ◌⊎◌, inl, inr, zero, suc, List, [], ◌∷◌, ◌++◌, length, Bool, true, false, Some, None, IfSome, IsSome, Result, Ok, Err, option_map, unwrap_or, refl, sym, ◌∙◌, ap, subst, append-nil, arith, ◌&&◌}
+use Rattle.std.proofs.Common.{◌≡◌, ℕ, ◌+◌, ◌-◌, ◌<◌, ◌≤◌, ◌⊎◌, inl, inr, zero, suc, List, [], ◌∷◌, ◌++◌, length, Bool, true, false, Option, Some, None, IfSome, IsSome, Result, Ok, Err, option_map, unwrap_or, refl, sym, ◌∙◌, ap, subst, append-nil, arith, ◌&&◌}
 use Rattle.h1_app.specs.Words.{Poll, Ready, Pending, Error, LinkState, Rose, Body, whole, unfinished, broken, ahead, chunked, reads, read_as, Chunking, BodyReader, Reading, Decoded, Lacks, Moved, BodyRefusal, is_whole, ReusesBy, keeps_alive, may_go_on, is_replied, SessionView, allowance, BodyState, Entry, How, Open, Whole, Failed, payload_of}
 use Rattle.std.proofs.lemmas.Bool.{false≢true}
 use Rattle.h1_link.specs.Steps.{after_shutdown}
@@ -302,3 +302,80 @@ reuses_as {L} {C} state old asked behind new e payload answer replied lent_is re
   session = session;
   entry = ap (λ xs. record e { body = xs }) is;
 }
+
+-- a call that reads the rest of a body does the same with a session that is lent a payload
+drains_lent : {L C : Type 0} (state : L → LinkState) (old drained : SessionView L C)
+    (payload : List ℕ) (outcome : Poll (Result (Unit {0}) Error))
+    → (d : DrainsBody state old drained outcome)
+    → DrainsBody state (lent old payload) (lent drained (payload ++ d.payload)) outcome
+drains_lent {L} {C} state old drained payload outcome d = record {
+  payload = d.payload;
+  left = d.left;
+  parsed = d.parsed;
+  reads = record {
+    used = d.reads.used;
+    received = d.reads.received;
+    decoded = d.reads.decoded;
+    keeps_payload = refl;
+  };
+  budget = d.budget;
+  rest = ap (λ (s : SessionView L C). lent s (payload ++ d.payload)) d.rest;
+  few = d.few;
+  answer = by_outcome outcome d.answer;
+}
+  where
+    by_outcome : (o : Poll (Result (Unit {0}) Error)) → DrainAnswer state old drained d.left o
+        → DrainAnswer state (lent old payload) (lent drained (payload ++ d.payload)) d.left o
+    by_outcome (Ready (Ok done)) h = h
+    by_outcome (Ready (Err error)) h = h
+    by_outcome Pending h = h
+
+-- of a body that was read to its end nothing is read, so nothing has to be lent
+pub reuses_read : {L C : Type 0} (state : L → LinkState) (old new : SessionView L C) (e : Entry)
+    (answer : Poll (Result Bool Error)) → is_replied old.reply ≡ true → old.body.kept ≡ None
+    → is_whole (reads old.body.reader []) ≡ true → ReusesBy state old new answer (may_go_on old)
+    → ReusesAs state old new e e answer
+reuses_read {L} {C} state old new e answer replied none read reuses =
+    by_alive (keeps_alive old) refl (subst (λ t. ReusesBy state old new answer t)
+    (alive_replied (keeps_alive old) (is_replied old.reply) replied) reuses)
+  where
+    back : (kept : Option (List ℕ)) → new.body.kept ≡ kept → kept ≡ None
+        → new ≡ record new { body = record new.body { kept = None } }
+    back kept is nothing =
+        ap (λ (k : Option (List ℕ)). record new { body = record new.body { kept = k } })
+        (is ∙ nothing)
+
+    asked : (payload : List ℕ) (outcome : Poll (Result (Unit {0}) Error))
+        → ReuseAnswer new outcome answer → ReuseAnswer (lent new payload) outcome answer
+    asked payload (Ready (Ok done)) h = h
+    asked payload (Ready (Err error)) h = h
+    asked payload Pending h = h
+
+    by_alive : (t : Bool) → keeps_alive old ≡ t → ReusesBy state old new answer t
+        → ReusesAs state old new e e answer
+    by_alive true is r =
+        let all = e.body ++ r.2.payload in
+        let ends = decoded_end old.body.reader r.0.body.reader r.2.reads.used r.2.payload
+        r.2.reads.decoded read in
+        record {
+          behind = lent new all;
+          reuses = subst (λ t. ReusesBy state (lent old e.body) (lent new all) answer t) (sym is) (
+            lent r.0 all,
+            r.1,
+            drains_lent state old r.0 e.body r.1 r.2,
+            ap (λ (s : SessionView L C). lent s all) r.3,
+            asked all r.1 r.4,
+          );
+          session = back r.0.body.kept (ap (λ (s : SessionView L C). s.body.kept) r.3)
+              (r.2.reads.keeps_payload
+              ∙ ap (λ (k : Option (List ℕ)). option_map (λ front. front ++ r.2.payload) k) none);
+          entry = ap (λ xs. record e { body = xs })
+              (sym (ap (λ xs. e.body ++ xs) ends.0 ∙ append-nil e.body));
+        }
+    by_alive false is r = record {
+      behind = lent new e.body;
+      reuses = subst (λ t. ReusesBy state (lent old e.body) (lent new e.body) answer t) (sym is)
+          (r.0, r.1, ap (λ (s : SessionView L C). lent s e.body) r.2);
+      session = back old.body.kept (ap (λ (s : SessionView L C). s.body.kept) r.2) none;
+      entry = refl;
+    }

@@ -1,6 +1,6 @@
 -- The step that drains a request's body, whole.
 use Rattle.std.proofs.Common.{◌≡◌, ℕ, List, [], ◌∷◌, Bool, true, false, inl, Some, Result, Ok, Err, sym, ◌∙◌, ap, subst, ◌+◌, ◌≤◌, arith, ◌-◌, ◌<◌, Option, None, option_map, refl}
-use Rattle.h1_app.specs.Words.{Poll, Ready, Pending, Error, FaultsBy, LinkState, RequestView, keeps_alive, SessionView, Settings, Reply, Entry, Exchange, Transcript, Stage, Outcome, Given, IsAllowed, replies}
+use Rattle.h1_app.specs.Words.{Poll, Ready, Pending, Error, FaultsBy, LinkState, RequestView, keeps_alive, SessionView, Settings, Reply, Entry, Exchange, TranscriptView, Stage, Outcome, Given, IsAllowed, replies}
 use Rattle.h1_app.proofs.Words.{ReusesAs, IsDraining, JobFrom, Leaves, StepReady, Stepped, OutcomeCause, FewReadsNotReady, outcome_end, ahead, CalledForReuse, ShutUnless, StandsDrained, Continues, OthersFew}
 use Rattle.h1_app.proofs.DrainEnds.{at_drain, drain_moves, drain_accounted, drain_allowed, drain_kept, drain_grows, drain_waits, drain_fails, drain_overread, drain_more, drain_shut, draining_on, drain_over}
 use Rattle.h1_app.proofs.DrainLemmas.{Answered, Reused, answered, reused}
@@ -96,7 +96,7 @@ module _ {L C J : Type 0} (state : L → LinkState) (gives : Given → Reply →
           (at_some (IsAllowed gives) x.transcript.last e was ready.allowed) (sym a.0 ∙ lives) s)
 
   -- the rest of the request's body is read
-  pub drain_stepped : (pends : J → ℕ) (shutdown : Bool) (transcript : Transcript)
+  pub drain_stepped : (pends : J → ℕ) (shutdown : Bool) (transcript : TranscriptView)
       → transcript.last ≡ Some f → Stepped state pends gives runs now shutdown x
       (record { session = new; transcript = transcript; stage = to }) result
   drain_stepped pends shutdown transcript is =
@@ -111,7 +111,7 @@ module _ {L C J : Type 0} (state : L → LinkState) (gives : Given → Reply →
 
   -- what continues through the step
   pub drain_continues : (same_plan : L → L → Type 0) (begins : J → Type 0) (pends : J → ℕ)
-      (transcript : Transcript) → transcript.done ≡ x.transcript.done
+      (transcript : TranscriptView) → transcript.done ≡ x.transcript.done
       → same_plan x.session.link new.link → Continues state same_plan begins pends x
       (record { session = new; transcript = transcript; stage = to }) result
   drain_continues same_plan begins pends transcript same plan =

@@ -1,9 +1,9 @@
 -- What steps leave of the link, one after the other.
 use Rattle.std.proofs.Common.{◌≡◌, ◌⊎◌, inl, inr, ℕ, List, Bool, Option, Some, None, IfNone, sym, ap, ◌∙◌, subst, refl, true, false, Result, arith}
-use Rattle.h1_app.specs.Words.{ErrorType, End, LinkState, Entry, ExtendsLast, SessionView, Error, Poll, Called, FaultsBy, ReusesBy, is_replied, keeps_alive, may_go_on, Asked, no_memory}
+use Rattle.h1_app.specs.Words.{ErrorType, End, LinkState, Entry, ExtendsLast, SessionView, Error, Poll, Called, FaultsBy, ReusesBy, is_replied, keeps_alive, may_go_on, Asked}
 use Rattle.h1_error.specs.declared.error.ErrorType.TheVariants as kind
 use Rattle.h1_error.specs.declared.progress.End.TheVariants as end
-use Rattle.h1_app.proofs.Words.{View, AsksAs, failure_of, lent, Leaves, LeavesOn, CalledForReuse, NotesFault, ReadsHeld, ReadsHeldBy, ShutBy, WritesHeld, WritesHeldBy}
+use Rattle.h1_app.proofs.Words.{View, AsksAs, failure_of, Leaves, LeavesOn, CalledForReuse, NotesFault, ReadsHeld, ReadsHeldBy, ShutBy, WritesHeld, WritesHeldBy}
 use Rattle.h1_transfer.specs.Calls.{no_fault, read_fault_of, read_fault_of_kind, write_fault_of_kind}
 use Rattle.h1_application.specs.Application.{fault_met}
 use Rattle.h1_server.specs.Calls.{is_reused}
@@ -58,11 +58,6 @@ leaves_further state a b c first alive second = record {
 -- a body without an error notes no fault
 pub never_noted : (e : Entry) → e.body_error ≡ None → NotesFault (Some e) → ⊥
 never_noted e none noted = let clash = sym none ∙ noted.1 in cc
-
--- out of memory, nothing happens
-pub leaves_starved : (s : LinkState) (last : Option Entry) (reason : End)
-    → reason ≡ end.Failed no_memory → Leaves s s last (Some reason)
-leaves_starved s last reason is = rw is (record { writes = refl; reads = inl refl; shut = refl })
 
 pub given_none : {T : Type 0} (o : Option T) (P : Type 0) → P → IfNone o P
 given_none None P p = p
@@ -137,13 +132,13 @@ asked_fails state old new e e2 e3 answer error asks like =
 
 -- the session was asked for its link's reuse
 pub called_reuse : {L C : Type 0} (state : L → LinkState) (old asked behind : SessionView L C)
-    (payload : List ℕ) (answer : Poll (Result Bool Error))
-    → asked ≡ lent old payload → is_replied old.reply ≡ true
+    (kept : Option (List ℕ)) (answer : Poll (Result Bool Error))
+    → asked ≡ record old { body = record old.body { kept = kept } } → is_replied old.reply ≡ true
     → ReusesBy state asked behind answer (may_go_on asked) → (may_go_on asked ≡ true
     → Called (state asked.link) (state behind.link) (is_reused answer) (read_fault_of answer))
     → CalledForReuse (state old.link) (state behind.link) (keeps_alive old) (is_reused answer)
     (read_fault_of answer)
-called_reuse {L} {C} state old asked behind payload answer lent_is replied reuses called =
+called_reuse {L} {C} state old asked behind kept answer lent_is replied reuses called =
     subst (λ t. CalledForReuse (state old.link) (state behind.link) t (is_reused answer) (read_fault_of answer))
     (alive_replied (keeps_alive old) (is_replied old.reply) replied)
     (subst (λ (x : SessionView L C). CalledForReuse (state x.link) (state behind.link) (may_go_on x)

@@ -1,13 +1,11 @@
 -- What becomes of a connection where its last exchange is over and the next head is awaited.
-use Rattle.std.proofs.Common.{◌≡◌, ℕ, ◌+◌, ◌*◌, ◌<◌, ◌≤◌, List, [], ◌∷◌, ◌++◌, length, Bool, true, false, Option, Some, None, refl, sym, ◌∙◌, ap, subst, append-nil, length-append, arith}
+use Rattle.std.proofs.Common.{◌≡◌, ℕ, ◌+◌, ◌<◌, List, [], ◌∷◌, ◌++◌, length, Bool, true, false, Option, Some, None, refl, sym, ◌∙◌, ap, subst, append-nil, length-append, arith}
 use Rattle.std.proofs.lemmas.Bool.{false≢true}
-use Rattle.h1_app.specs.Words.{End, LinkState, RequestView, AwaitsNext, AfterRead, WithinRead, may_follow, one_less, SessionView, Settings, Reply, Entry, Exchange, Stage, Outcome, Given, AreBegun, IfTold, IsNextSet, reuses_at, IsAllowed, Extends}
+use Rattle.h1_app.specs.Words.{End, LinkState, RequestView, AwaitsNext, AfterRead, WithinRead, may_follow, one_less, SessionView, Settings, Reply, Entry, Exchange, Stage, Given, AreBegun, IfTold, IsNextSet, reuses_at, IsAllowed, Extends}
 use Rattle.h1_app.specs.declared.exchange.Stage.TheVariants as stage
 use Rattle.h1_app.specs.declared.exchange.Outcome.TheVariants as outcome
-use Rattle.h1_app.proofs.Words.{Accounted, LastMayGoOn, JoinsNext, ReadSo, Turned, TurnCause, outcome_end, stops, still_calls, entries, IsDoneIn, IsRestarted, Sound, SoundStage, IsDraining, MayGoOn, IsUnwritten, View, view_of, ahead}
-use Rattle.h1_app.proofs.AccountedLemmas.{memory_ends}
-use Rattle.h1_app.proofs.GoneLemmas.{turned_stays}
-use Rattle.h1_app.proofs.LeavesLemmas.{leaves_itself, leaves_starved, never_noted}
+use Rattle.h1_app.proofs.Words.{Accounted, LastMayGoOn, JoinsNext, ReadSo, Turned, TurnCause, IsDoneIn, IsRestarted, Sound, SoundStage, IsDraining, MayGoOn, IsUnwritten, View, view_of, ahead}
+use Rattle.h1_app.proofs.LeavesLemmas.{leaves_itself, never_noted}
 use Rattle.h1_app.proofs.ReplyLemmas.{moves_none}
 use Rattle.h1_transcript.proofs.AloneLemmas.{within_all}
 use Rattle.h1_transcript.proofs.BehindLemmas.{told_map}
@@ -178,63 +176,36 @@ over_next gives runs limit session done last at sound is = over_at sound.stage w
 
 pub sound_next : {L C J : Type 0} (gives : Given → Reply → Type 0)
     (runs : J → RequestView → Settings → Settings → List ℕ → Type 0) (limit : Option ℕ)
-    (x y : Exchange L J C) (result : Outcome)
-    → Sound gives runs limit x.session x.transcript.done.items x.transcript.last x.stage None
-    → x.stage ≡ stage.Next → JoinsNext x y result
-    → Sound gives runs limit y.session y.transcript.done.items y.transcript.last y.stage
-    (outcome_end result)
-sound_next gives runs limit x y outcome.Done s is h =
-    let over = over_next gives runs limit x.session x.transcript.done.items x.transcript.last
-    x.stage s is in
-    rw (h.1, over.1, h.2, h.3) (sound_joined gives runs limit x.session y.session
-    x.transcript.done.items over.0 (rw (is, over.1) at s) over.2 h.0)
-sound_next gives runs limit x y (outcome.Ends reason) s is h =
-    rw (h.1, h.2, h.3, h.4) (record {
-      ended = s.ended;
-      allowed = s.allowed;
-      kept = s.kept;
-      begun = s.begun;
-      stage = tt;
-      next = tt;
-    })
-sound_next gives runs limit x y (outcome.Waits what) s is h = absurd h
+    (x y : Exchange L J C)
+    → Sound gives runs limit x.session x.transcript.done x.transcript.last x.stage None
+    → x.stage ≡ stage.Next → JoinsNext x y
+    → Sound gives runs limit y.session y.transcript.done y.transcript.last y.stage None
+sound_next gives runs limit x y s is h =
+    let over = over_next gives runs limit x.session x.transcript.done x.transcript.last x.stage s is in
+    rw (h.done, over.1, h.last, h.stage) (sound_joined gives runs limit x.session y.session
+    x.transcript.done over.0 (rw (is, over.1) at s) over.2 h.awaits)
 
--- what the step to the next exchange leaves: it joined, or there is no memory
+-- what the step to the next exchange leaves
 pub turned_next : {L C A J : Type 0} (state : L → LinkState) (same_plan : L → L → Type 0)
     (now : ℕ) (shutdown : Bool) (app : A) (limit : Option ℕ)
-    (x y : Exchange L J C) (first : Option End) (result : Outcome)
+    (x y : Exchange L J C) (first : Option End)
     → same_plan x.session.link x.session.link → LastMayGoOn x.session x.transcript.last
-    → x.stage ≡ stage.Next → JoinsNext x y result
-    → Turned state same_plan now shutdown (view_of app limit x first)
-    (view_of app limit y (outcome_end result)) (stops result)
-turned_next state same_plan now shutdown app limit x y first outcome.Done plan over is
-    h = rw (h.1, over.1, h.2, h.3, is) (turned_joined state same_plan now shutdown
-    (view_of app limit x first) y.session over.0 plan over.2 over.3 h.0)
-turned_next state same_plan now shutdown app limit x y first
-    (outcome.Ends reason) plan over is h =
-    let more : still_calls (view_of app limit x first) false
-    ≤ 3 * length (entries (view_of app limit x first)) + 1 =
-    rw (over.1, is) (omega (arith, length-append x.transcript.done.items (over.0 ∷ []))) in
-    rw (h.1, h.2, h.3, h.4) (turned_stays state same_plan now shutdown
-    (view_of app limit x first) (Some reason) true plan more
-    (leaves_starved (state x.session.link) x.transcript.last reason h.0))
-turned_next state same_plan now shutdown app limit x y first (outcome.Waits what) plan over is h =
-    absurd h
+    → x.stage ≡ stage.Next → JoinsNext x y
+    → Turned state same_plan now shutdown (view_of app limit x first) (view_of app limit y None)
+    false
+turned_next state same_plan now shutdown app limit x y first plan over is h =
+    rw (h.done, over.1, h.last, h.stage, is) (turned_joined state same_plan now shutdown
+    (view_of app limit x first) y.session over.0 plan over.2 over.3 h.awaits)
 
--- and why it goes on or ends
+-- and why it goes on
 pub caused_next : {L C A J : Type 0} (state : L → LinkState) (begins : J → Type 0) (pends : J → ℕ)
     (app : A) (limit : Option ℕ) (x y : Exchange L J C) (first second : Option End)
-    (result : Outcome) → LastMayGoOn x.session x.transcript.last → x.stage ≡ stage.Next
-    → JoinsNext x y result
-    → TurnCause state begins pends (view_of app limit x first) (view_of app limit y second) result
-caused_next {J = J} state begins pends app limit x y first second outcome.Done over is h =
-    rw (h.1, over.1, h.3, is) (
-      nearer x.session.budget y.session.budget J (ap (λ s. s.budget) h.0.rest),
-      (λ same. absurd (omega (arith, same, length-append x.transcript.done.items (over.0 ∷ [])))),
+    → LastMayGoOn x.session x.transcript.last → x.stage ≡ stage.Next → JoinsNext x y
+    → TurnCause state begins pends (view_of app limit x first) (view_of app limit y second)
+    outcome.Done
+caused_next {J = J} state begins pends app limit x y first second over is h =
+    rw (h.done, over.1, h.stage, is) (
+      nearer x.session.budget y.session.budget J (ap (λ s. s.budget) h.awaits.rest),
+      (λ same. absurd (omega (arith, same, length-append x.transcript.done (over.0 ∷ [])))),
       tt,
     )
-caused_next state begins pends app limit x y first second (outcome.Ends reason) over is h =
-    λ since s. memory_ends since (state x.session.link) (state y.session.link)
-    y.transcript.done.items y.transcript.last reason h.0
-caused_next state begins pends app limit x y first second (outcome.Waits what) over is
-    h = absurd h

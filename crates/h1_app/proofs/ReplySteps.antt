@@ -126,27 +126,25 @@ module _ {L C J : Type 0} (state : L → LinkState) (pends : J → ℕ) (gives :
       stands
 
   -- the header is taken up, or it is handed back
-  pub taken_header_stepped : (sent : ResponseView) (header kept : Option ResponseView)
+  pub taken_header_stepped : (sent : ResponseView) (kept : Option ResponseView)
       (answer : Poll (Result (Unit {0}) Error)) (keep : Bool) (written : ℕ) (f : Entry)
       (h : SoundStage runs x.session x.transcript.last at.TakeHeader)
       → x.stage ≡ at.TakeHeader
-      → IfSome x.transcript.last (λ e. IfSome e.reply (λ reply. (sent ≡ reply.header)
-      × (header ≡ Some reply.header)))
+      → IfSome x.transcript.last (λ e. IfSome e.reply (λ reply. sent ≡ reply.header))
       → IfSome x.transcript.last (λ e. NotesHeader kept sent now keep written e f)
       → y.transcript.last ≡ Some f
       → IfNone x.session.reply.refused (IfSome x.session.request
-      (λ request. HeaderCall state x.session y.session request header kept now answer
-      (is_passed_over header x.session.reply.headed)))
+      (λ request. HeaderCall state x.session y.session request (Some sent) kept now answer
+      (is_passed_over (Some sent) x.session.reply.headed)))
       → keep ≡ y.session.keep → written ≡ y.session.reply.sent
       → StandsAfter answer at.Header at.TakeBody x.stage y.stage result
       → Stepped state pends gives runs now shutdown x y result
-  taken_header_stepped sent header kept answer keep written f h stage headers notes is call keeps
-      count stands =
-      let b = at_some (λ reply. (sent ≡ reply.header) × (header ≡ Some reply.header)) h.0.reply
-      h.3 h.4.is (rw h.1 at headers) in
-      by_back b.0 kept
-      (taking_header state x.session y.session h.2 h.3 header kept now answer h.4.asked.is h.5 b.1
-      call)
+  taken_header_stepped sent kept answer keep written f h stage copied notes is call keeps count
+      stands =
+      let same = at_some (λ reply. sent ≡ reply.header) h.0.reply h.3 h.4.is (rw h.1 at copied) in
+      by_back same kept
+      (taking_header state x.session y.session h.2 h.3 (Some sent) kept now answer h.4.asked.is h.5
+      (ap Some same) call)
       (rw h.1 at notes)
     where
       by_back : sent ≡ h.3.header → (kept : Option ResponseView)

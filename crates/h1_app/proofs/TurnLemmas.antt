@@ -1,5 +1,5 @@
 -- What one step makes of a connection: the exchange that is last goes on, or the next one is awaited.
-use Rattle.std.proofs.Common.{◌≡◌, ℕ, ◌+◌, ◌<◌, ◌≤◌, inl, inr, List, [], ◌∷◌, ◌++◌, length, Bool, false, Option, Some, None, IfNone, option_to_list, refl, sym, ◌∙◌, ap, subst, append-nil, arith}
+use Rattle.std.proofs.Common.{◌≡◌, ℕ, ◌+◌, ◌<◌, ◌≤◌, inl, inr, List, [], ◌∷◌, ◌++◌, length, Bool, false, Option, Some, None, IfNone, option_to_list, refl, sym, ◌∙◌, subst, append-nil, arith}
 use Rattle.h1_app.specs.Words.{AllByRecursion, End, LinkState, RequestView, SessionView, Settings, Reply, Entry, Exchange, Stage, Outcome, Given, AreBegun, BeginsWith, IsNextSet, IsSetAlike, ExtendsLast, replies}
 use Rattle.h1_app.specs.declared.exchange.Stage.TheVariants as stage
 use Rattle.h1_app.specs.declared.exchange.Outcome.TheVariants as outcome
@@ -98,26 +98,26 @@ pub sound_stepped : {L C J : Type 0} (gives : Given → Reply → Type 0)
     (runs : J → RequestView → Settings → Settings → List ℕ → Type 0) (limit : Option ℕ)
     (state : L → LinkState) (pends : J → ℕ) (now : ℕ) (shutdown : Bool) (x y : Exchange L J C)
     (result : Outcome)
-    → Sound gives runs limit x.session x.transcript.done.items x.transcript.last x.stage None
+    → Sound gives runs limit x.session x.transcript.done x.transcript.last x.stage None
     → Stepped state pends gives runs now shutdown x y result → y.transcript.done ≡ x.transcript.done
-    → Sound gives runs limit y.session y.transcript.done.items y.transcript.last y.stage
+    → Sound gives runs limit y.session y.transcript.done y.transcript.last y.stage
     (outcome_end result)
 sound_stepped gives runs limit state pends now shutdown x y result s made same = rw same (record {
   ended = s.ended;
   allowed = made.allowed;
   kept = made.kept;
   begun = begun_stepped limit now shutdown (state x.session.link) (state y.session.link)
-      x.session.settings y.session.settings x.transcript.done.items x.transcript.last
+      x.session.settings y.session.settings x.transcript.done x.transcript.last
       y.transcript.last s.begun made.extends made.begins_with next;
   stage = staged;
   next = if_none (outcome_end result) (SoundStage runs y.session y.transcript.last y.stage)
-      (IfAwaiting y.stage (IsNextSet limit x.transcript.done.items y.session.settings))
+      (IfAwaiting y.stage (IsNextSet limit x.transcript.done y.session.settings))
       (λ h. next_stepped runs limit now shutdown (state x.session.link) (state y.session.link)
-      x.session.settings y.session x.transcript.done.items x.transcript.last y.transcript.last
+      x.session.settings y.session x.transcript.done x.transcript.last y.transcript.last
       y.stage h made.extends made.begins_with next) staged;
 }) where
   next : x.transcript.last ≡ None
-      → IsNextSet limit x.transcript.done.items x.session.settings
+      → IsNextSet limit x.transcript.done x.session.settings
   next none =
       rw (awaits_head runs x.session x.transcript.last x.stage s.stage none) at s.next
 
@@ -151,21 +151,21 @@ turned_stepped {runs = runs} state begins pends same_plan now shutdown app limit
     sound s c leaves =
     let from = view_of app limit x first in
     let to = record (view_of app limit y (outcome_end result))
-    { done = x.transcript.done.items } in
+    { done = x.transcript.done } in
     let made : Turned state same_plan now shutdown from to (stops result) = record {
       gone = record {
         app = refl;
         limit = refl;
         plan = c.plan;
         moves = s.moves;
-        accounted = λ before h. s.accounted before x.transcript.done.items h;
-        alone = λ before h. join_none before (state x.session.link) x.transcript.done.items;
+        accounted = λ before h. s.accounted before x.transcript.done h;
+        alone = λ before h. join_none before (state x.session.link) x.transcript.done;
         extends = extends_last now shutdown (state x.session.link) (state y.session.link)
-            x.transcript.done.items x.transcript.last y.transcript.last s.extends;
+            x.transcript.done x.transcript.last y.transcript.last s.extends;
         longer = omega arith;
       };
       reads_not_ready = few_stepped (state x.session.link) (state y.session.link)
-          x.transcript.done.items x.transcript.last y.transcript.last result s.reads_not_ready;
+          x.transcript.done x.transcript.last y.transcript.last result s.reads_not_ready;
       others = others_stepped (state x.session.link) (state y.session.link) from to result refl
           (still_last runs x.session now shutdown (state x.session.link) (state y.session.link)
           x.transcript.last y.transcript.last x.stage sound s.extends) c.others;
@@ -176,7 +176,7 @@ turned_stepped {runs = runs} state begins pends same_plan now shutdown app limit
       };
     } in
     subst (λ done. Turned state same_plan now shutdown from
-    (record to { done = done }) (stops result)) (sym (ap (λ done. done.items) c.done)) made
+    (record to { done = done }) (stops result)) (sym c.done) made
 
 -- a step that is done came nearer to the end of the exchange, so it asked no job that it leaves
 new_job : {J : Type 0} (begins : J → Type 0) (pends : J → ℕ) (from to : Stage J)
@@ -197,6 +197,6 @@ pub caused_stepped : {L C A J : Type 0} (state : L → LinkState) (begins : J �
 caused_stepped state begins pends runs same_plan app limit x y first second outcome.Done c h =
     (h.2, (λ _. h.1), new_job begins pends x.stage y.stage h.1 c.job)
 caused_stepped state begins pends runs same_plan app limit x y first second (outcome.Waits what) c
-    h = (ap (λ done. done.items) c.done, h.1)
+    h = (c.done, h.1)
 caused_stepped state begins pends runs same_plan app limit x y first second (outcome.Ends reason) c
-    h = λ since s. h since y.transcript.done.items s
+    h = λ since s. h since y.transcript.done s

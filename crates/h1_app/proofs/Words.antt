@@ -7,7 +7,7 @@ pub use Rattle.h1_app.specs.Joins.{IsDoneIn, IsRestarted, JoinsNext}
 pub use Rattle.h1_app.specs.Leaves.{Leaves, LeavesOn, NotesFault, ReadsHeld, ReadsHeldBy, ShutBy, WritesHeld, WritesHeldBy}
 pub use Rattle.h1_app.specs.Outcome.{JobPends, OutcomeCause, WaitsOn}
 pub use Rattle.h1_app.specs.Pace.{ahead, place, rank}
-pub use Rattle.h1_app.specs.Answering.{IsAnswering, IsAsked, IsAwaiting, IsUnwritten, lent}
+pub use Rattle.h1_app.specs.Answering.{IsAnswering, IsAwaiting, IsUnwritten, lent}
 pub use Rattle.h1_app.specs.Replied.{IsDraining, IsFinishing, IsHeaded, IsReplied, MayGoOn, filled, fresh}
 pub use Rattle.h1_app.specs.Sound.{IfAwaiting, IsKept, Sound, SoundStage}
 pub use Rattle.h1_app.specs.Beginning.{BegunAs, IsNewEntry, IsPieceOf, failure_of, head_time}

@@ -62,9 +62,6 @@ pub record IsAskedIn (e : Entry) (session : Bare) (request : Request) : Type 0 w
   pub written : e.written ≡ session.reply.sent
   pub limit : e.written < 2 ^ 64
 
-abbrev pub IsAsked : {L C : Type 0} → Entry → SessionView L C → Request → Type 0
-IsAsked e session request = IsAskedIn e (bare session) request
-
 -- the application runs, and nothing of its reply is there
 pub record IsAnsweringIn (e : Entry) (session : Bare) : Type 0 where
   pub request : Request

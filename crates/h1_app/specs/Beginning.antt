@@ -47,6 +47,14 @@ abbrev pub head_time : Bool → Option ℕ
 head_time true = None
 head_time false = Some 60
 
+-- the exchange of this request goes on, with a job that began for it
+abbrev pub StartedAs : {J : Type 0} → (J → Type 0)
+    → (J → RequestView → Settings → Settings → List ℕ → Type 0) → Request → Settings
+    → Option Entry → J → Type 0
+StartedAs begins runs request settings last job =
+    (e : Entry) × (last ≡ Some e) × IsNewEntry request settings e × begins job
+    × runs job request.header settings settings []
+
 -- what becomes of a head that was read: the exchange begins and the application is started, or
 -- there is no memory
 abbrev pub BegunAs : {L C J : Type 0} → (J → Type 0)

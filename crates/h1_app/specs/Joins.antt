@@ -1,9 +1,7 @@
 -- How an exchange that is over joins those before it (RFC 9112, section 9.3.2).
 use Rattle.std.specs.Prelude.{◌≡◌, ◌++◌, [], true, false, None, IsSome, option_to_list}
-use Rattle.h1_app.specs.Words.{whole, reads, AwaitsNext, no_memory, SessionView, Entry, Exchange, Outcome, is_until_close, is_short}
-use Rattle.h1_error.specs.declared.progress.End.TheVariants as end
+use Rattle.h1_app.specs.Words.{whole, reads, AwaitsNext, SessionView, Entry, Exchange, is_until_close, is_short}
 use Rattle.h1_app.specs.declared.exchange.Stage.TheVariants as stage
-use Rattle.h1_app.specs.declared.exchange.Outcome.TheVariants as outcome
 use Rattle.h1_app.specs.Accounted.{coming}
 
 -- the request was read whole, and the reply was written whole and flushed
@@ -28,14 +26,9 @@ pub record IsRestarted {L C : Type 0} (old new : SessionView L C) : Type 0 where
   pub owed : new.reply.owed ≡ []
   pub sent : new.reply.sent ≡ 0
 
--- the last exchange joined those that ended, and the next head is awaited; or there is no memory
-abbrev pub JoinsNext : {L C J : Type 0} → Exchange L J C → Exchange L J C → Outcome → Type 0
-JoinsNext old new outcome.Done =
-    AwaitsNext old.session new.session
-    × (new.transcript.done.items ≡ old.transcript.done.items ++ option_to_list old.transcript.last)
-    × (new.transcript.last ≡ None) × (new.stage ≡ stage.Head)
-JoinsNext old new (outcome.Ends reason) =
-    (reason ≡ end.Failed no_memory) × (new.session ≡ old.session)
-    × (new.transcript.done.items ≡ old.transcript.done.items)
-    × (new.transcript.last ≡ old.transcript.last) × (new.stage ≡ old.stage)
-JoinsNext old new (outcome.Waits what) = ⊥
+-- the last exchange joined those that ended, and the next head is awaited
+pub record JoinsNext {L C J : Type 0} (old new : Exchange L J C) : Type 0 where
+  pub awaits : AwaitsNext old.session new.session
+  pub done : new.transcript.done ≡ old.transcript.done ++ option_to_list old.transcript.last
+  pub last : new.transcript.last ≡ None
+  pub stage : new.stage ≡ stage.Head

@@ -46,7 +46,7 @@ pub use Rattle.h1_transcript.specs.Alone.{JoinAlone, WithinRead}
 pub use Rattle.h1_transcript.specs.Begun.{AreBegun, BeginsWith, IsNextSet, IsSetAlike, reuses_at}
 pub use Rattle.h1_transcript.specs.Behind.{AfterRead, AfterWrote, DoneBehind, FlushedBy, IsBelow, ReadBehind, StoodAs, WroteBehind, is_until_close, written_of}
 pub use Rattle.h1_transcript.specs.Ends.{AreAllDone, EndCause, FailureCause, IsComplete, IsWrittenShort, LacksSo, LastStands, OfLast}
-pub use Rattle.h1_transcript.specs.Entries.{replies}
+pub use Rattle.h1_transcript.specs.Entries.{TranscriptView, replies}
 pub use Rattle.h1_transcript.specs.Exchange.{IsAllowed, IsDated, given_to, is_short, may_keep, render, render_parts, shown}
 pub use Rattle.h1_transcript.specs.Given.{Given}
 pub use Rattle.h1_transcript.specs.Growth.{Extends, ExtendsLast, Grows, Stays}
@@ -56,7 +56,6 @@ pub use Rattle.h1_transcript.specs.declared.reply.Reply.{Reply}
 pub use Rattle.h1_transcript.specs.declared.transcript.Entry.{Entry}
 pub use Rattle.h1_transcript.specs.declared.transcript.How.{How}
 pub use Rattle.h1_transcript.specs.declared.transcript.How.TheVariants.{Failed, Open, Whole}
-pub use Rattle.h1_transcript.specs.declared.transcript.Transcript.{Transcript}
 pub use Rattle.h1_transfer.specs.Budget.{allowance}
 pub use Rattle.h1_transfer.specs.Calls.{Called, Fault, FaultsBy}
 pub use Rattle.h1_transfer.specs.Decoding.{Decoded, Lacks}

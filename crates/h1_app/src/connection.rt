@@ -37,7 +37,7 @@ impl<L: Link + Drop, SV: ServeHttp<L, C> + Drop, B: Drop, C: Drop> Model
       session = c.exchange.session;
       app = (arc_value c.server).app;
       limit = limit_of (arc_value c.server).server_options;
-      done = c.exchange.transcript.done.items;
+      done = c.exchange.transcript.done;
       last = c.exchange.transcript.last;
       stage = c.exchange.stage;
       end = c.end;
@@ -46,7 +46,7 @@ impl<L: Link + Drop, SV: ServeHttp<L, C> + Drop, B: Drop, C: Drop> Model
     ghost invariant = { λ c. Sound (SV.gives (arc_value c.server).app)
         (SV.runs (arc_value c.server).app)
         (limit_of (arc_value c.server).server_options) c.exchange.session
-        c.exchange.transcript.done.items c.exchange.transcript.last c.exchange.stage c.end };
+        c.exchange.transcript.done c.exchange.transcript.last c.exchange.stage c.end };
 }
 
 impl<L: Link + Drop, SV: ServeHttp<L, C> + Drop, B: Drop, C: Drop> Connection<L, SV, B, C> {
@@ -164,10 +164,13 @@ impl<L: Link + Drop, SV: ServeHttp<L, C> + Drop, B: Drop, C: Drop> Connection<L,
         ensures outcome { TurnCause L.state SV.begins SV.pends self.old self.new result }
     {
         let outcome = match self.exchange.stage {
-            Stage::Next => next_exchange(&mut self.exchange),
+            Stage::Next => {
+                next_exchange(&mut self.exchange);
+                Outcome::Done
+            }
             _ => step(self.alloc, &self.server, &mut self.exchange, now, shutdown),
         };
-        self.end = end_of(outcome);
+        keep_end(&mut self.end, outcome);
         outcome
     }
 
@@ -238,11 +241,13 @@ impl<L: Link + Drop, SV: ServeHttp<L, C> + Drop, B: Drop, C: Drop> Connection<L,
     }
 }
 
-fn end_of(outcome: Outcome) -> Option<End>
-    ensures { result ≡ outcome_end outcome }
+/// Keeps the end that a step came to, where the connection goes on so far.
+#[inline(always)]
+fn keep_end(end: &mut Option<End>, outcome: Outcome)
+    requires { end.old ≡ None }
+    ensures { end.new ≡ outcome_end outcome }
 {
-    match outcome {
-        Outcome::Ends(end) => Some(end),
-        Outcome::Done | Outcome::Waits(_) => None,
+    if let Outcome::Ends(reason) = outcome {
+        *end = Some(reason);
     }
 }

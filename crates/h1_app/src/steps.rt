@@ -16,6 +16,7 @@ pub(crate) use joining::next_exchange;
 use std::alloc::Global;
 
 /// Makes one step: the calls of the stage at which the exchange stands.
+#[inline(always)]
 pub(crate) fn step<L: Link + Drop, SV: ServeHttp<L, C> + Drop, B: Drop, C: Drop>(
     alloc: Global,
     server: &HttpServer<SV, B>,

@@ -1,5 +1,5 @@
 //! The reply is written: what is left of the request's body is read, where the connection is kept.
-ghost use Rattle.std.specs.Prelude.{◌≡◌, Bool, ◌<◌, IsSome, true};
+ghost use Rattle.std.specs.Prelude.{◌≡◌, Bool, ◌<◌, IsSome, None, true};
 ghost use Rattle.h1_app.specs.declared.exchange.Stage.TheVariants as at;
 ghost use Rattle.h1_transcript.specs.declared.transcript.Entry.{Entry};
 ghost use Rattle.h1_app.specs.Draining.{ReusesAs, CalledForReuse, StandsDrained};
@@ -68,7 +68,8 @@ fn stand<L: Link + Drop, J: Drop, C: Drop>(
     }
 }
 
-/// Asks the session for its link's reuse. The payload that the exchange has is lent to it meanwhile.
+/// Asks the session for its link's reuse. The payload that the exchange has is lent to it meanwhile,
+/// where more of the body may be read.
 fn reuse<L: Link + Drop, C: Drop>(
     alloc: Global,
     session: &mut HttpSession<L, C>,
@@ -78,11 +79,15 @@ fn reuse<L: Link + Drop, C: Drop>(
     requires request { IsSome session.old.request }
     requires free { session.old.reply.step ≡ Free }
     requires replied { is_replied session.old.reply ≡ true }
+    requires kept { session.old.body.kept ≡ None }
     ensures reuses { ReusesAs L.state session.old session.new entry.old entry.new result }
     ensures calls { CalledForReuse (L.state session.old.link) (L.state session.new.link)
         (keeps_alive session.old) (is_reused result) (read_fault_of result) }
     ensures plan { L.same_plan session.old.link session.new.link }
 {
+    if session.is_body_read() {
+        return session.poll_reuse(now);
+    }
     session.keep_payload(mem::replace(&mut entry.body, BodyBytes::new(alloc)));
     let answer = session.poll_reuse(now);
     if let Some(body) = session.take_payload() {

@@ -1,15 +1,14 @@
 //! A head is awaited; with it the exchange begins.
-ghost use Rattle.std.specs.Prelude.{◌≡◌, ◌+◌, ◌<◌, IsSome, IfOk, IfErr, None, Some};
+ghost use Rattle.std.specs.Prelude.{◌≡◌, ◌+◌, ◌<◌, IsSome, IfOk, IfErr, None};
 ghost use Rattle.h1_error.specs.Memory.{no_memory};
-ghost use Rattle.h1_transcript.specs.declared.transcript.Entry.{Entry};
 ghost use Rattle.h1_server.specs.Keepalive.{keepalive_set};
-ghost use Rattle.h1_app.specs.Beginning.{IsNewEntry, BegunAs, head_time};
+ghost use Rattle.h1_app.specs.Beginning.{StartedAs, BegunAs, head_time};
 ghost use Rattle.h1_app.specs.declared.exchange.Stage.TheVariants as at;
 ghost use Rattle.h1_app.specs.Turn.{LeavesBy};
 ghost use Rattle.h1_app.specs.Step.{StepReady, Stepped, Continues};
 
 use crate::exchange::{Exchange, Outcome, Stage};
-use crate::{Entry, How, HttpServer, ServeHttp};
+use crate::{Entry, How, HttpServer, ServeHttp, Transcript};
 use futures::task::Poll;
 use h1_body::BodyBytes;
 use h1_error::{End, Error, Waiting};
@@ -43,7 +42,7 @@ pub(super) fn read_head<L: Link + Drop, SV: ServeHttp<L, C> + Drop, B: Drop, C: 
             alloc,
             server,
             &mut exchange.session,
-            &mut exchange.transcript.last,
+            &mut exchange.transcript,
             &mut exchange.stage,
             shutdown,
         ),
@@ -53,35 +52,32 @@ pub(super) fn read_head<L: Link + Drop, SV: ServeHttp<L, C> + Drop, B: Drop, C: 
 }
 
 /// Begins the exchange of the head that was read.
+#[inline(always)]
 fn begin<L: Link + Drop, SV: ServeHttp<L, C> + Drop, B: Drop, C: Drop>(
     alloc: Global,
     server: &HttpServer<SV, B>,
     session: &mut HttpSession<L, C>,
-    last: &mut Option<Entry>,
+    transcript: &mut Transcript,
     stage: &mut Stage<SV::Job>,
     shutdown: bool,
 ) -> Outcome
     requires read { IsSome session.old.request }
     requires unread { (session.old.body.kept ≡ None) × (session.old.body.refused ≡ None) }
-    requires at { (stage.old ≡ at.Head) × (last.old ≡ None) }
+    requires at { (stage.old ≡ at.Head) × (transcript.old.last ≡ None) }
     ensures session { session.new
         ≡ record session.old
         { settings = keepalive_set session.old.settings (head_time shutdown) } }
     ensures begun { BegunAs SV.begins
-        (SV.runs server.now.app) session.new last.new stage.new result }
+        (SV.runs server.now.app) session.new transcript.new.last stage.new result }
+    ensures done { transcript.new.done ≡ transcript.old.done }
 {
     session.set_server_keepalive(keepalive(shutdown));
     let settings = session.settings();
     let Some(request) = session.request() else {
         unreachable!()
     };
-    let entry = match new_entry(alloc, request, settings) {
-        Ok(entry) => entry,
-        Err(error) => return Outcome::Ends(End::Failed(error)),
-    };
-    match server.app.start(alloc) {
+    match start(alloc, &server.app, request, settings, transcript) {
         Ok(job) => {
-            put(last, entry);
             *stage = Stage::Answer(job);
             Outcome::Done
         }
@@ -89,39 +85,28 @@ fn begin<L: Link + Drop, SV: ServeHttp<L, C> + Drop, B: Drop, C: Drop>(
     }
 }
 
-/// Puts the exchange where none goes on.
+/// Starts the application for a request, and puts the exchange where none goes on.
 #[inline(always)]
-fn put(last: &mut Option<Entry>, entry: Entry)
-    requires { last.old ≡ None }
-    ensures { last.new ≡ Some entry }
+fn start<L: Link + Drop, SV: ServeHttp<L, C> + Drop, C: Drop>(
+    alloc: Global,
+    app: &SV,
+    request: &Request,
+    settings: Settings,
+    transcript: &mut Transcript,
+) -> Result<SV::Job, Error>
+    requires { transcript.old.last ≡ None }
+    ensures ok { IfOk result (λ job. StartedAs SV.begins (SV.runs app.now) request.now settings
+        transcript.new.last job) }
+    ensures err { IfErr result (λ error. (error ≡ no_memory) × (transcript.new.last ≡ None)) }
+    ensures done { transcript.new.done ≡ transcript.old.done }
 {
-    match last {
-        None => *last = Some(entry),
-        Some(_) => unreachable!(),
-    }
-}
-
-/// Keep-alive with the time for the next head, or off.
-fn keepalive(shutdown: bool) -> Option<u64>
-    ensures { result ≡ head_time shutdown }
-{
-    if shutdown {
-        None
-    } else {
-        Some(KEEPALIVE_SECONDS)
-    }
-}
-
-/// The exchange of a request of which no body was read yet.
-#[inline(always)]
-fn new_entry(alloc: Global, request: &Request, settings: Settings) -> Result<Entry, Error>
-    ensures ok { IfOk result (IsNewEntry request.now settings) }
-    ensures err { IfErr result (λ error. error ≡ no_memory) }
-{
-    Ok(Entry {
-        head: request.header.copy()?,
+    let head = request.header.copy()?;
+    let filtered = request.header.copy()?;
+    let job = app.start(alloc)?;
+    transcript.begin(Entry {
+        head,
         both: request.both,
-        filtered: Some(request.header.copy()?),
+        filtered: Some(filtered),
         body: BodyBytes::new(alloc),
         handed: 0,
         body_error: None,
@@ -136,5 +121,17 @@ fn new_entry(alloc: Global, request: &Request, settings: Settings) -> Result<Ent
         left: settings,
         owed: false,
         date_text: [0; 29],
-    })
+    })?;
+    Ok(job)
+}
+
+/// Keep-alive with the time for the next head, or off.
+fn keepalive(shutdown: bool) -> Option<u64>
+    ensures { result ≡ head_time shutdown }
+{
+    if shutdown {
+        None
+    } else {
+        Some(KEEPALIVE_SECONDS)
+    }
 }

@@ -8,6 +8,7 @@ ghost use Rattle.h1_app.specs.Beginning.{IsPieceOf, failure_of};
 ghost use Rattle.h1_app.specs.Turn.{LeavesBy};
 ghost use Rattle.h1_app.specs.Step.{StepReady, Stepped, Continues};
 ghost use Rattle.h1_app.specs.Replying.{NotesHeader, StandsAfter};
+ghost use Rattle.h1_server.specs.Replies.{kept_by};
 
 use crate::exchange::{Exchange, Outcome, Stage};
 use crate::{Entry, HttpServer, Reply, ServeHttp};
@@ -35,15 +36,18 @@ pub(super) fn take_header<L: Link + Drop, SV: ServeHttp<L, C> + Drop, B: Drop, C
     ensures leaves { LeavesBy L.state exchange.old exchange.new result }
 {
     let entry = exchange.transcript.last_entry();
-    let (sent, mut head) = match headers(entry) {
-        Ok(headers) => headers,
+    let sent = match header_of(entry) {
+        Ok(header) => header,
         Err(error) => return Outcome::Ends(End::Failed(error)),
     };
-    let answer = exchange.session.poll_write_response_header(&mut head, now);
+    let answer = exchange
+        .session
+        .poll_write_response_header_ref(Some(&sent), now);
+    let headed = exchange.session.is_headed();
     let date = exchange.session.date(now);
     let keep = exchange.session.reply_keeps();
     let written = exchange.session.written_bytes();
-    note_header(entry, &head, sent, now, date, keep, written);
+    note_header(entry, headed, sent, now, date, keep, written);
     stand(&mut exchange.stage, &answer, Stage::Header, Stage::TakeBody)
 }
 
@@ -165,28 +169,26 @@ fn failure(body_error: Option<Error>, error: Error) -> Error
     }
 }
 
-/// The reply's header, for the exchange and to be handed in.
+/// A copy of the reply's header.
 #[inline(always)]
-fn headers(entry: &Entry) -> Result<(ResponseHeader, Option<ResponseHeader>), Error>
+fn header_of(entry: &Entry) -> Result<ResponseHeader, Error>
     requires { IsSome entry.now.reply }
     ensures ok { IfOk result
-        (λ headers. IfSome entry.now.reply (λ reply. (headers.0 ≡ reply.header)
-        × (headers.1 ≡ Some reply.header))) }
+        (λ header. IfSome entry.now.reply (λ reply. header ≡ reply.header)) }
     ensures err { IfErr result (λ error. error ≡ no_memory) }
 {
     let Some(reply) = &entry.reply else {
         unreachable!()
     };
-    let sent = reply.header.copy()?;
-    Ok((sent, Some(reply.header.copy()?)))
+    reply.header.copy()
 }
 
-/// Notes a header that was taken up in a poll at this moment, with its date. One that is handed
-/// back was not.
+/// Notes a header that was taken up in a poll at this moment, with its date. One behind which no
+/// final header is taken up was not.
 #[inline(always)]
 fn note_header(
     entry: &mut Entry,
-    back: &Option<ResponseHeader>,
+    headed: bool,
     sent: ResponseHeader,
     now: u64,
     date: [u8; 29],
@@ -194,18 +196,15 @@ fn note_header(
     written: u64,
 )
     requires { IsDateAt (now / 1000) date }
-    ensures { NotesHeader back.now sent now keep written entry.old entry.new }
+    ensures { NotesHeader (kept_by (Some sent) headed) sent now keep written entry.old entry.new }
 {
-    match back {
-        Some(_) => {}
-        None => {
-            entry.sent_head = Some(sent);
-            entry.date = now / 1000;
-            entry.date_text = date;
-            entry.keep = keep;
-            entry.owed = true;
-            entry.written = written;
-        }
+    if headed {
+        entry.sent_head = Some(sent);
+        entry.date = now / 1000;
+        entry.date_text = date;
+        entry.keep = keep;
+        entry.owed = true;
+        entry.written = written;
     }
 }
 

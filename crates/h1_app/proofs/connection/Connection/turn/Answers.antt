@@ -13,10 +13,10 @@ invariant_of-self g c =
     let sound = rw alive at c.self.invariant in
     let old = c.self.inside.exchange in
     elim c.match-self.branch [
-      | in-Next w ↦ rw (c.end_of-self-inside.ensures, w.outcome-is, w.self-inside-is)
-          (sound_next _ _ _ old w.next_exchange-outcome.new.exchange w.next_exchange-outcome.result
-          sound w.in-Next.is w.next_exchange-outcome.ensures)
-      | in_default w ↦ rw (c.end_of-self-inside.ensures, w.outcome-is, w.self-inside-is)
+      | in-Next w ↦ rw (c.keep_end.ensures, w.outcome-is, w.self-inside-is)
+          (sound_next _ _ _ old w.next_exchange.new.exchange sound w.in-Next.is
+          w.next_exchange.ensures)
+      | in_default w ↦ rw (c.keep_end.ensures, w.outcome-is, w.self-inside-is)
           (sound_stepped _ _ _ g.L.Link.state g.SV.ServeHttp.pends c.args.now c.args.shutdown old
           w.step-outcome.new.exchange w.step-outcome.result sound
           (rw w.deref.ensures at w.step-outcome.ensures.stepped)
@@ -35,17 +35,17 @@ returns-clause-turned g c =
     elim c.match-self.branch [
       | in-Next w ↦ rw (
         ← c.self.view_is,
-        c.end_of-self-inside.ensures,
+        c.keep_end.ensures,
         w.outcome-is,
         w.self-inside-is,
       ) (turned_next g.L.Link.state g.L.Link.same_plan c.args.now
           c.args.shutdown server.app (limit_of server.server_options) old
-          w.next_exchange-outcome.new.exchange c.self.inside.end w.next_exchange-outcome.result
+          w.next_exchange.new.exchange c.self.inside.end
           (g.met.L.Link.plan_itself _) (over_next _ _ _ _ _ _ _ sound w.in-Next.is) w.in-Next.is
-          w.next_exchange-outcome.ensures)
+          w.next_exchange.ensures)
       | in_default w ↦ rw (
         ← c.self.view_is,
-        c.end_of-self-inside.ensures,
+        c.keep_end.ensures,
         w.outcome-is,
         w.self-inside-is,
       ) (turned_stepped g.L.Link.state g.SV.ServeHttp.begins
@@ -64,14 +64,13 @@ returns-clause-outcome g c =
     elim c.match-self.branch [
       | in-Next w ↦ rw (← c.self.view_is, w.outcome-is, w.self-inside-is)
           (caused_next g.L.Link.state g.SV.ServeHttp.begins g.SV.ServeHttp.pends server.app
-          (limit_of server.server_options) old w.next_exchange-outcome.new.exchange
-          c.self.inside.end c.end_of-self-inside.result
-          w.next_exchange-outcome.result (over_next _ _ _ _ _ _ _ sound w.in-Next.is) w.in-Next.is
-          w.next_exchange-outcome.ensures)
+          (limit_of server.server_options) old w.next_exchange.new.exchange
+          c.self.inside.end c.keep_end.new.end
+          (over_next _ _ _ _ _ _ _ sound w.in-Next.is) w.in-Next.is w.next_exchange.ensures)
       | in_default w ↦ rw (← c.self.view_is, w.outcome-is, w.self-inside-is)
           (caused_stepped g.L.Link.state g.SV.ServeHttp.begins g.SV.ServeHttp.pends
           (g.SV.ServeHttp.runs w.deref.result.now.app) _ server.app
           (limit_of server.server_options) old w.step-outcome.new.exchange c.self.inside.end
-          c.end_of-self-inside.result w.step-outcome.result w.step-outcome.ensures.continues
+          c.keep_end.new.end w.step-outcome.result w.step-outcome.ensures.continues
           w.step-outcome.ensures.stepped.outcome)
     ]

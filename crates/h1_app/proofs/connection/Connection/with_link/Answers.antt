@@ -10,7 +10,7 @@ pub returns-clause-accounted : goal.returns-clause-accounted
 returns-clause-accounted g c = λ before s.
     let rest = c.with_link.ensures.rest in
     accounted_linked g.L.Link.state c.self.inside.exchange.session c.with_link.new.self
-    c.self.inside.exchange.transcript.last before c.self.inside.exchange.transcript.done.items
+    c.self.inside.exchange.transcript.last before c.self.inside.exchange.transcript.done
     c.with_link.ensures.keeps (ap (λ v. v.received) rest) (ap (λ v. v.request) rest)
     (ap (λ v. v.body) rest) (ap (λ v. v.reply) rest)
     (rw (← c.self.view_is) at s)

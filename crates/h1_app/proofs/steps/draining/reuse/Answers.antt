@@ -1,7 +1,7 @@
 -- The session was lent the payload, and gave it back.
-use Rattle.std.proofs.Common.{List, ℕ, [], Option, unwrap_or, ◌∙◌, ap, sym}
+use Rattle.std.proofs.Common.{List, ℕ, [], Option, Some, unwrap_or, ◌∙◌, ap, sym}
 use Rattle.h1_app.proofs.Words.{lent}
-use Rattle.h1_app.proofs.DrainLemmas.{reuses_as}
+use Rattle.h1_app.proofs.DrainLemmas.{reuses_as, reuses_read}
 use Rattle.h1_app.proofs.LeavesLemmas.{called_reuse}
 use Rattle.h1_app.proofs.steps.draining.reuse.Goals as goal
 
@@ -17,14 +17,14 @@ returns-in-Some-clause-reuses g c =
 pub returns-in-Some-clause-calls : goal.returns-in-Some-clause-calls
 returns-in-Some-clause-calls g c =
     rw c.take_payload.ensures.rest (called_reuse g.L.Link.state c.args.session.now c.keep_payload.new.self
-    c.poll_reuse-answer.new.self c.args.entry.now.body c.poll_reuse-answer.result
+    c.poll_reuse-answer.new.self (Some c.args.entry.now.body) c.poll_reuse-answer.result
     (c.keep_payload.ensures ∙ ap (lent c.args.session.now) c.replace.ensures.value) c.requires.replied
     c.poll_reuse-answer.ensures.reuse c.poll_reuse-answer.ensures.calls)
 
 pub returns-in_default-clause-calls : goal.returns-in_default-clause-calls
 returns-in_default-clause-calls g c =
     rw c.take_payload.ensures.rest (called_reuse g.L.Link.state c.args.session.now c.keep_payload.new.self
-    c.poll_reuse-answer.new.self c.args.entry.now.body c.poll_reuse-answer.result
+    c.poll_reuse-answer.new.self (Some c.args.entry.now.body) c.poll_reuse-answer.result
     (c.keep_payload.ensures ∙ ap (lent c.args.session.now) c.replace.ensures.value) c.requires.replied
     c.poll_reuse-answer.ensures.reuse c.poll_reuse-answer.ensures.calls)
 
@@ -36,3 +36,9 @@ returns-in_default-clause-reuses g c =
     c.poll_reuse-answer.ensures.reuse c.take_payload.ensures.rest
     (c.replace.ensures.after ∙ c.new.ensures ∙ ap (λ (kept : Option (List ℕ)). unwrap_or kept [])
     (sym c.in_default.is ∙ c.take_payload.ensures.taken))
+
+pub returns-then-is_body_read-clause-reuses : goal.returns-then-is_body_read-clause-reuses
+returns-then-is_body_read-clause-reuses g c =
+    reuses_read g.L.Link.state c.args.session.now c.poll_reuse.new.self c.args.entry.now
+    c.poll_reuse.result c.requires.replied c.requires.kept
+    (sym c.is_body_read.ensures ∙ c.if-is_body_read.true) c.poll_reuse.ensures.reuse

@@ -15,21 +15,22 @@ pub returns-clause-stepped : goal.returns-clause-stepped
 returns-clause-stepped g c = λ shutdown.
     let same = c.date-date.ensures.same in
     rw same (taken_header_stepped g.L.Link.state _ _ _ c.args.now shutdown _ _ _ c.requires.ready
-    c.in-Ok.headers.0 c.in-Ok.headers.1 c.poll_write_response_header-answer.new.header _ _ _
-    c.note_header.new.entry (rw c.requires.at at c.requires.ready.sound) c.requires.at
+    c.in-Ok.header _ _ _ _ c.note_header.new.entry
+    (rw c.requires.at at c.requires.ready.sound) c.requires.at
     (rw c.last_entry-entry.ensures.value c.in-Ok.ensures.ok)
-    (rw c.last_entry-entry.ensures.value c.note_header.ensures) refl
-    c.poll_write_response_header-answer.ensures.writes (rw same at c.reply_keeps-keep.ensures)
+    (rw c.last_entry-entry.ensures.value
+    (rw c.is_headed-headed.ensures at c.note_header.ensures)) refl
+    c.poll_write_response_header_ref-answer.ensures.writes (rw same at c.reply_keeps-keep.ensures)
     (rw same at c.written_bytes-written.ensures) c.stand.ensures)
 
 pub returns-clause-continues : goal.returns-clause-continues
 returns-clause-continues g c =
-    let call = c.poll_write_response_header-answer.ensures in
-    rw c.date-date.ensures.same (call_continues g.L.Link.state _ _ _ _ _ _ _ (λ done. false) at.TakeHeader at.Header at.TakeBody
-    c.requires.at refl call.plan tt tt tt call.calls (λ few. few) (λ few. omega (arith, few))
+    let call = c.poll_write_response_header_ref-answer.ensures in
+    rw c.date-date.ensures.same (call_continues g.L.Link.state _ _ _ _ _ _ _ (λ done. false)
+    at.TakeHeader at.Header at.TakeBody c.requires.at refl call.plan tt tt tt call.calls (λ few. few) (λ few. omega (arith, few))
     c.stand.ensures)
 
 pub returns-clause-leaves : goal.returns-clause-leaves
 returns-clause-leaves g c =
     rw c.date-date.ensures.same (call_leaves _ _ _ _ _ _ _ _ _ _
-    c.poll_write_response_header-answer.ensures.calls c.stand.ensures)
+    c.poll_write_response_header_ref-answer.ensures.calls c.stand.ensures)
