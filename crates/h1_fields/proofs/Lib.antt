@@ -7,4 +7,5 @@ pub mod LengthLemmas
 pub mod CodingLemmas
 pub mod SpanLemmas
 pub mod LivingLemmas
-pub mod SlotLemmas
+pub mod KindLemmas
+pub mod PlainLemmas

@@ -8,5 +8,6 @@ pub mod Held
 pub mod Search
 pub mod Pieces
 pub mod Spans
-pub mod Slots
+pub mod Kinds
+pub mod Lone
 pub mod Text

@@ -1,11 +1,12 @@
 //! A block of field lines: one text, and the places of the lines in it.
-ghost use Rattle.std.specs.Prelude.{◌≡◌, false, ◌∷◌, ◌++◌, [], length, IfOk, OnOk, OnErr, IsOkUnless};
+ghost use Rattle.std.specs.Prelude.{◌≡◌, ◌∷◌, ◌++◌, [], length, IfOk, OnOk, OnErr, IsOkUnless};
 ghost use Rattle.h1_error.specs.Memory.{no_memory};
-ghost use Rattle.h1_fields.specs.Lines.{has_line, without, with_line};
+ghost use Rattle.h1_fields.specs.Lines.{without, with_line};
+ghost use Rattle.h1_fields.specs.Kinds.{ArePlaced};
 ghost use Rattle.h1_fields.specs.Spans.{AllFit, lines_of};
 
 use crate::iter::FieldsIter;
-use crate::slots::Slots;
+use crate::kinds::Kinds;
 use crate::span::{FEW_LINES, Places, Span, first_named, remove_named};
 use crate::text::Text;
 use h1_error::Error;
@@ -22,19 +23,19 @@ const TEXT_PER_LINE: usize = 48;
 pub(crate) struct Block {
     text: Text,
     lines: Places,
-    slots: Slots,
+    kinds: Kinds,
 }
 
 impl Model for Block {
     ghost use Rattle.std.specs.Prelude.{ℕ, List};
     ghost use Rattle.h1_fields.specs.Spans.{lines_of};
-    ghost use Rattle.h1_fields.specs.Slots.{AreMarked};
+    ghost use Rattle.h1_fields.specs.Kinds.{AreKnown};
 
     ghost Value = { List (List ℕ × List ℕ) };
 
     ghost view = { λ b. lines_of b.text b.lines.items };
 
-    ghost invariant = { λ b. AreMarked b.text b.lines.items b.slots };
+    ghost invariant = { λ b. AreKnown b.text b.lines.items b.kinds };
 }
 
 impl Block {
@@ -46,7 +47,7 @@ impl Block {
         Block {
             text: Text::new(alloc),
             lines: SmallVec::new(alloc),
-            slots: Slots::none(),
+            kinds: Kinds::none(),
         }
     }
 
@@ -91,12 +92,12 @@ impl Block {
         (self.text.as_slice(), self.lines.as_slice())
     }
 
-    /// False only where no line has that name.
+    /// Where the lines of each kind stand.
     #[inline(always)]
-    pub(crate) fn may_have(&self, name: &[u8]) -> bool
-        ensures { (result ≡ false) → has_line name.now self.now ≡ false }
+    pub(crate) fn kinds(&self) -> Kinds
+        ensures { ArePlaced self.now result }
     {
-        self.slots.has(name)
+        self.kinds
     }
 
     /// Adds a line at the end.
@@ -106,9 +107,10 @@ impl Block {
         ensures err { IsOkUnless result no_memory }
         ensures same { OnErr result (self.new ≡ self.old) }
     {
+        let at = self.lines.len();
         let span = Span::write(&mut self.text, name, value)?;
         self.lines.push(span)?;
-        self.slots = self.slots.with(name);
+        self.kinds.note(name, at);
         Ok(())
     }
 
@@ -123,7 +125,7 @@ impl Block {
             None => self.append(name, value),
             Some(at) => {
                 let span = Span::write(&mut self.text, name, value)?;
-                self.slots = self.slots.with(name);
+                self.kinds = Kinds::moved();
                 remove_named(self.text.as_slice(), &mut self.lines, at + 1, name);
                 self.lines.as_mut_slice()[at] = span;
                 Ok(())
@@ -135,6 +137,7 @@ impl Block {
     pub(crate) fn remove(&mut self, name: &[u8])
         ensures { self.new ≡ without name.now self.old }
     {
+        self.kinds = Kinds::moved();
         remove_named(self.text.as_slice(), &mut self.lines, 0, name);
     }
 }

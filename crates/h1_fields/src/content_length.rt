@@ -42,7 +42,7 @@ impl ContentLength {
 }
 
 /// The number that one or more digits write.
-fn number_of(part: &[u8]) -> Option<u64>
+pub(crate) fn number_of(part: &[u8]) -> Option<u64>
     ensures { result ≡ number part.now }
 {
     if part.is_empty() {

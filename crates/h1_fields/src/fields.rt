@@ -1,10 +1,12 @@
 //! The field lines of a message (RFC 9110, section 5).
-ghost use Rattle.std.specs.Prelude.{◌≡◌, false, ◌≤◌, ◌==◌, ◌∷◌, ◌++◌, [], length, map, option_map, All, IfOk, OnOk, OnErr, IsOkUnless};
+ghost use Rattle.std.specs.Prelude.{◌≡◌, ◌≤◌, ◌==◌, ◌∷◌, ◌++◌, [], length, map, option_map, All, IfOk, OnOk, OnErr, IsOkUnless, codes};
 ghost use Rattle.std.specs.Arc.{arc_value};
 ghost use Rattle.httparse.specs.Spans.{IsHeaderWithin, header_bytes};
 ghost use Rattle.h1_error.specs.Memory.{no_memory};
 ghost use Rattle.h1_fields.specs.declared.held.TheConstants.{MAX_SHARED_LINES};
 ghost use Rattle.h1_fields.specs.Held.{lines_in};
+ghost use Rattle.h1_fields.specs.Kinds.{ArePlaced, name_of};
+ghost use Rattle.h1_fields.specs.Lone.{IsLone};
 ghost use Rattle.h1_fields.specs.Lines.{has_line, values_of, first_value, without, with_line};
 ghost use Rattle.h1_fields.specs.Living.{living};
 ghost use Rattle.h1_fields.specs.Spans.{AllFit, lines_of};
@@ -13,6 +15,8 @@ use crate::block::Block;
 use crate::gone::{count_lines, count_values, first_value, hide};
 use crate::held::{Held, MAX_SHARED_LINES};
 use crate::iter::{FieldsIter, ValuesIter};
+use crate::kinds::{Kind, Kinds};
+use crate::lone::{Lone, lone_in};
 use crate::span::{FEW_LINES, MAX_TEXT, Span};
 use bytes::Bytes;
 use h1_error::Error;
@@ -30,7 +34,8 @@ use std::sync::Arc;
 /// it copies first, and removes by marking lines as gone for itself. All names and values stand in
 /// one text, where those of a line that went stay until the last owner is dropped; no call shows
 /// them. The text of lines that were read may be the head itself, which is then kept as long. A few
-/// short lines take one block of memory. A name is searched only where a line may have it.
+/// short lines take one block of memory. Where the one line of Connection, Content-Length, Host or
+/// Transfer-Encoding stands is known without a search.
 #[derive(Drop)]
 pub struct Fields {
     alloc: Global,
@@ -86,8 +91,8 @@ impl Fields {
         ensures ok { IfOk result (λ fields. fields ≡ map (header_bytes head.now) spans.now) }
         ensures err { IsOkUnless result no_memory }
     {
-        let some = FEW_LINES < spans.len() && spans.len() <= MAX_SHARED_LINES;
-        if some && head.len() <= MAX_TEXT {
+        let shares = FEW_LINES < spans.len() && spans.len() <= MAX_SHARED_LINES;
+        if shares && head.len() <= MAX_TEXT {
             return Ok(Fields {
                 alloc,
                 held: Held::of_head(alloc, head, spans)?,
@@ -225,44 +230,17 @@ impl Fields {
     }
 
     /// The value of the first line of that name.
-    #[inline(always)]
     pub fn get(&self, name: &[u8]) -> Option<&[u8]>
-        ensures { option_map (λ value. value.now) result ≡ first_value name.now self.now }
-    {
-        if !self.may_have(name) {
-            return None;
-        }
-        self.get_among(name)
-    }
-
-    // Kept apart, so that the answer for a name that isn't there can be inlined.
-    fn get_among(&self, name: &[u8]) -> Option<&[u8]>
         ensures { option_map (λ value. value.now) result ≡ first_value name.now self.now }
     {
         let (text, spans) = parts_of(&self.held);
         first_value(text, spans, self.gone, name)
     }
 
-    /// False only where no line has that name.
-    #[inline(always)]
-    pub(crate) fn may_have(&self, name: &[u8]) -> bool
-        ensures { (result ≡ false) → values_of name.now self.now ≡ [] }
-    {
-        match &self.held {
-            Held::Nothing => false,
-            Held::Shared(owner) => owner.may_have(name),
-            Held::Read(owner) => owner.may_have(name),
-            Held::Own(block) => block.may_have(name),
-        }
-    }
-
     /// How many lines have that name.
     pub fn count_named(&self, name: &[u8]) -> usize
         ensures { result ≡ length (values_of name.now self.now) }
     {
-        if !self.may_have(name) {
-            return 0;
-        }
         let (text, spans) = parts_of(&self.held);
         count_values(text, spans, self.gone, name)
     }
@@ -281,12 +259,35 @@ impl Fields {
     pub fn get_all<'a>(&'a self, name: &'a [u8]) -> ValuesIter<'a>
         ensures { result ≡ values_of name.now self.now }
     {
-        let (text, spans) = if self.may_have(name) {
-            parts_of(&self.held)
-        } else {
-            (b"".as_slice(), [].as_slice())
-        };
+        let (text, spans) = parts_of(&self.held);
         ValuesIter::new(name, text, spans, self.gone)
+    }
+
+    /// The values of all Host lines, in order.
+    #[inline(always)]
+    pub fn hosts(&self) -> ValuesIter<'_>
+        ensures { result ≡ values_of (codes "Host") self.now }
+    {
+        self.values(Kind::Host)
+    }
+
+    /// The values of all lines of that kind, in order.
+    #[inline(always)]
+    pub(crate) fn values(&self, kind: Kind) -> ValuesIter<'_>
+        ensures { result ≡ values_of (name_of kind) self.now }
+    {
+        let (text, spans) = parts_of(&self.held);
+        let lone = lone_in(text, spans, kinds_of(&self.held), self.gone, kind);
+        ValuesIter::known(lone, kind.name(), text, spans, self.gone)
+    }
+
+    /// The same, as far as they are known without a search.
+    #[inline(always)]
+    pub(crate) fn lone(&self, kind: Kind) -> Lone<'_>
+        ensures { IsLone (values_of (name_of kind) self.now) result }
+    {
+        let (text, spans) = parts_of(&self.held);
+        lone_in(text, spans, kinds_of(&self.held), self.gone, kind)
     }
 
     /// The same lines again. Takes memory only where there are or were more than 64, or room was
@@ -360,7 +361,7 @@ fn remove_from(owner: &mut Arc<Block>, gone: u64, name: &[u8]) -> u64
     }
 }
 
-/// The text of a block, and the places of its lines in it.
+/// The text that lines lie in, and their places in it.
 #[inline(always)]
 fn parts_of(held: &Held) -> (&[u8], &[Span])
     ensures fit { AllFit result.0.now result.1.now }
@@ -371,6 +372,19 @@ fn parts_of(held: &Held) -> (&[u8], &[Span])
         Held::Shared(owner) => owner.parts(),
         Held::Read(owner) => owner.parts(),
         Held::Own(block) => block.parts(),
+    }
+}
+
+/// Where the lines of each kind stand.
+#[inline(always)]
+fn kinds_of(held: &Held) -> Kinds
+    ensures { ArePlaced (lines_in held.now) result }
+{
+    match held {
+        Held::Nothing => Kinds::none(),
+        Held::Shared(owner) => owner.kinds(),
+        Held::Read(owner) => owner.kinds(),
+        Held::Own(block) => block.kinds(),
     }
 }
 

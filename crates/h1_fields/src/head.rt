@@ -1,12 +1,12 @@
 //! The field lines of a head that was read, as places in its bytes.
-ghost use Rattle.std.specs.Prelude.{◌≡◌, ◌≤◌, false, length, map, All, IfOk, IsOkUnless};
+ghost use Rattle.std.specs.Prelude.{◌≡◌, ◌≤◌, length, map, All, IfOk, IsOkUnless};
 ghost use Rattle.httparse.specs.Spans.{IsHeaderWithin, header_bytes};
 ghost use Rattle.h1_error.specs.Memory.{no_memory};
 ghost use Rattle.h1_fields.specs.declared.span.TheConstants.{MAX_TEXT};
-ghost use Rattle.h1_fields.specs.Lines.{has_line};
+ghost use Rattle.h1_fields.specs.Kinds.{ArePlaced};
 ghost use Rattle.h1_fields.specs.Spans.{AllFit, lines_of};
 
-use crate::slots::Slots;
+use crate::kinds::Kinds;
 use crate::span::{MAX_TEXT, Span};
 use bytes::Bytes;
 use h1_error::Error;
@@ -15,28 +15,28 @@ use smallvec::SmallVec;
 use std::alloc::Global;
 use std::marker::Model;
 
-/// How many lines of a head need no block of memory of their own.
-const MOST_LINES: usize = 16;
+/// How many places need no block of memory of their own.
+const PLACES_INLINE: usize = 16;
 
 /// Field lines that lie in the bytes of a head, with one owner or several. They never change. A
 /// contract sees the list of pairs of name and value.
 #[derive(Drop)]
 pub(crate) struct HeadLines {
     head: Bytes,
-    lines: SmallVec<Span, MOST_LINES>,
-    slots: Slots,
+    lines: SmallVec<Span, PLACES_INLINE>,
+    kinds: Kinds,
 }
 
 impl Model for HeadLines {
     ghost use Rattle.std.specs.Prelude.{ℕ, List};
     ghost use Rattle.h1_fields.specs.Spans.{lines_of};
-    ghost use Rattle.h1_fields.specs.Slots.{AreMarked};
+    ghost use Rattle.h1_fields.specs.Kinds.{AreKnown};
 
     ghost Value = { List (List ℕ × List ℕ) };
 
     ghost view = { λ h. lines_of h.head h.lines.items };
 
-    ghost invariant = { λ h. AreMarked h.head h.lines.items h.slots };
+    ghost invariant = { λ h. AreKnown h.head h.lines.items h.kinds };
 }
 
 impl HeadLines {
@@ -48,16 +48,16 @@ impl HeadLines {
         ensures ok { IfOk result (λ lines. lines ≡ map (header_bytes head.now) spans.now) }
         ensures err { IsOkUnless result no_memory }
     {
-        let mut slots = Slots::none();
+        let mut kinds = Kinds::none();
         let mut lines = SmallVec::new(alloc);
         for span in spans {
-            slots = slots.with(span.name.of(head.as_slice()));
+            kinds.note(span.name.of(head.as_slice()), lines.len());
             lines.push(Span::of_header(*span, head.as_slice()))?;
         }
         Ok(HeadLines {
             head: head.clone()?,
             lines,
-            slots,
+            kinds,
         })
     }
 
@@ -70,11 +70,11 @@ impl HeadLines {
         (self.head.as_slice(), self.lines.as_slice())
     }
 
-    /// False only where no line has that name.
+    /// Where the lines of each kind stand.
     #[inline(always)]
-    pub(crate) fn may_have(&self, name: &[u8]) -> bool
-        ensures { (result ≡ false) → has_line name.now self.now ≡ false }
+    pub(crate) fn kinds(&self) -> Kinds
+        ensures { ArePlaced self.now result }
     {
-        self.slots.has(name)
+        self.kinds
     }
 }

@@ -1,4 +1,4 @@
-//! The owners of a block of field lines.
+//! The owners of field lines.
 ghost use Rattle.std.specs.Prelude.{◌≡◌, ◌≤◌, length, map, All, IfOk, IsOkUnless, []};
 ghost use Rattle.httparse.specs.Spans.{IsHeaderWithin, header_bytes};
 ghost use Rattle.h1_error.specs.Memory.{no_memory};
@@ -18,7 +18,7 @@ use std::sync::Arc;
 /// How many lines a block has at most that may have several owners.
 pub(crate) const MAX_SHARED_LINES: usize = 64;
 
-/// A block of field lines, as one of its owners holds it.
+/// Field lines, as one of their owners holds them.
 #[derive(Drop)]
 pub(crate) enum Held {
     /// No line, and no block.

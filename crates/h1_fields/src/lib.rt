@@ -12,11 +12,12 @@ mod gone;
 mod head;
 mod held;
 mod iter;
+mod kinds;
 mod laws;
 mod lists;
+mod lone;
 mod meaning;
 mod name;
-mod slots;
 mod span;
 #[cfg(test)]
 mod tests;

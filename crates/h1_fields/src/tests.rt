@@ -156,7 +156,6 @@ fn lines_of_any_length_stand_beside_each_other(rt: HostRuntime) -> Result<(), Er
 
 #[test]
 fn a_name_is_found_in_any_case_and_no_other_is_taken_for_it(rt: HostRuntime) -> Result<(), Error> {
-    // X has the slot of Content-Length, and Rev that of Transfer-Encoding.
     let cases: [(&[u8], &[u8], bool); 7] = [
         (b"Content-Length", b"CONTENT-LENGTH", true),
         (b"x-id", b"X-Id", true),

@@ -2,7 +2,7 @@ use Rattle.std.proofs.Common.{ap, ◌++◌, ◌∷◌, [], ◌∙◌}
 use Rattle.std.proofs.lemmas.Result.{MatchResult-from_err}
 use Rattle.h1_fields.specs.Spans.{lines_of}
 use Rattle.h1_fields.proofs.SpanLemmas.{lines_kept, lines_added}
-use Rattle.h1_fields.proofs.SlotLemmas.{marked_kept, marked_added}
+use Rattle.h1_fields.proofs.KindLemmas.{known_kept, known_added}
 use Rattle.h1_fields.proofs.block.Block.append.Goals as goal
 
 pub returns-in_err-span-clause-same : goal.returns-in_err-span-clause-same
@@ -17,16 +17,16 @@ returns-in_err-push-clause-same c =
     ∙ lines_kept _ _ _ c.write.ensures.kept c.self.invariant.0 ∙ c.self.view_is)
 
 pub invariant_of-self : goal.invariant_of-self
-invariant_of-self c = marked_kept _ _ _ _ c.write.ensures.kept c.self.invariant
+invariant_of-self c = known_kept _ _ _ _ c.write.ensures.kept c.self.invariant
 
 pub invariant_of-self-in_err-push : goal.invariant_of-self-in_err-push
 invariant_of-self-in_err-push c =
-    rw c.in_err-push.ensures.err (marked_kept _ _ _ _ c.write.ensures.kept c.self.invariant)
+    rw c.in_err-push.ensures.err (known_kept _ _ _ _ c.write.ensures.kept c.self.invariant)
 
 pub invariant_of-self-2 : goal.invariant_of-self-2
 invariant_of-self-2 c =
-    marked_added _ _ _ _ _ _ _ _ _ c.write.ensures.kept c.self.invariant c.in_ok-span.ensures.ok
-    c.in_ok-push.ensures.ok c.with-self-inside.ensures.kept c.with-self-inside.ensures.added
+    known_added _ _ _ _ _ _ _ _ _ _ c.write.ensures.kept c.self.invariant c.in_ok-span.ensures.ok
+    c.in_ok-push.ensures.ok c.note.ensures c.len-at.ensures.value
 
 pub returns-clause-ok : goal.returns-clause-ok
 returns-clause-ok c =

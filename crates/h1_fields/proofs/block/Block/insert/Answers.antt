@@ -5,7 +5,7 @@ use Rattle.h1_fields.specs.Lines.{with_line}
 use Rattle.h1_fields.specs.Spans.{Fits, lines_of}
 use Rattle.h1_fields.proofs.SpanLemmas.{lines_kept, places_set}
 use Rattle.h1_fields.proofs.SearchLemmas.{insert_here}
-use Rattle.h1_fields.proofs.SlotLemmas.{marked_kept, marked_with_line}
+use Rattle.h1_fields.proofs.KindLemmas.{known_kept, known_moved}
 use Rattle.h1_fields.proofs.block.Block.insert.Goals as goal
 
 pub returns-in_err-span-in-Some-clause-same : goal.returns-in_err-span-in-Some-clause-same
@@ -14,7 +14,7 @@ returns-in_err-span-in-Some-clause-same c =
     (λ _. lines_kept _ _ _ c.write.ensures.kept c.self.invariant.0 ∙ c.self.view_is)
 
 pub invariant_of-self : goal.invariant_of-self
-invariant_of-self c = marked_kept _ _ _ _ c.write.ensures.kept c.self.invariant
+invariant_of-self c = known_kept _ _ _ _ c.write.ensures.kept c.self.invariant
 
 put : (c : goal.After-self-in-Some-1)
     → lines_of c.write.new.text
@@ -32,9 +32,8 @@ invariant_of-self-in-Some c =
     let text = c.write.new.text in
     let fit = rw c.as_slice-in-Some.ensures at c.remove_named.ensures.fit in
     rw (places_set c.remove_named.new.spans _ c.in-Some.at c.in_ok-span-in-Some.span c.as_mut_slice.ensures.value)
-    (marked_with_line text _ _ _ _ _ _
-    (All-set (Fits (length text)) _ _ _ c.in_ok-span-in-Some.ensures.ok.fits fit) (put c)
-    c.with-self-inside.ensures.kept c.with-self-inside.ensures.added c.self.invariant.1)
+    (known_moved text _ _ c.moved-self-inside.ensures
+    (All-set (Fits (length text)) _ _ _ c.in_ok-span-in-Some.ensures.ok.fits fit))
 
 pub returns-in_ok-span-in-Some-clause-ok : goal.returns-in_ok-span-in-Some-clause-ok
 returns-in_ok-span-in-Some-clause-ok c =

@@ -1,6 +1,6 @@
 use Rattle.std.proofs.Common.{◌∙◌}
 use Rattle.h1_fields.proofs.SpanLemmas.{found_more, line_found}
-use Rattle.h1_fields.proofs.SlotLemmas.{marked_found}
+use Rattle.h1_fields.proofs.KindLemmas.{known_found}
 use Rattle.h1_fields.proofs.head.HeadLines.new.Goals as goal
 
 pub loop-span-preserved : goal.loop-span-preserved
@@ -8,8 +8,8 @@ loop-span-preserved c =
     let before = c.loop-span.invariant in
     let added = c.in_ok-push.ensures.ok in
     let place = rw c.as_slice-in-loop-span.ensures at c.of_header.ensures in
-    let has = rw (c.of.ensures, c.as_slice.ensures) at c.with-slots.ensures.added in (
-      marked_found _ _ _ _ _ _ _ _ before.0 place added c.with-slots.ensures.kept has,
+    let noted = rw (c.of.ensures, c.as_slice.ensures) at c.note.ensures in (
+      known_found _ _ _ _ _ _ _ _ _ before.0 place added noted c.len.ensures.value,
       line_found _ _ _ _ _ _ before.0.0 place added
           ∙ found_more _ _ _ _ _ c.loop-span-test.true before.1,
     )

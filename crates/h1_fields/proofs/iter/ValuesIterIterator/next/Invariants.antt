@@ -1,4 +1,4 @@
-use Rattle.std.proofs.Common.{◌≡◌, length}
+use Rattle.std.proofs.Common.{◌≡◌, length, None}
 use Rattle.h1_fields.specs.Lines.{values_of}
 use Rattle.h1_fields.specs.Living.{living}
 use Rattle.h1_fields.specs.Spans.{AllFit, lines_of}
@@ -7,6 +7,7 @@ use Rattle.h1_fields.proofs.iter.ValuesIterIterator.next.Given as goal
 abbrev pub invariant-loop-first : goal.invariant-loop-first
 invariant-loop-first l =
     AllFit l.self-inside.text.now l.self-inside.left.now
+    × (l.self-inside.first ≡ None)
     × (values_of l.self-inside.name.now
     (living l.self-inside.gone (lines_of l.self-inside.text.now l.self-inside.left.now))
     ≡ l.fn.self)
