@@ -1,7 +1,6 @@
 -- What becomes of the bytes of a whole head (RFC 9112, sections 2 to 6).
 use Rattle.std.specs.Prelude.{◌≡◌, List, ℕ, Bool, take, true, false, Some, None}
 use Rattle.h1_cut.specs.Limit.{CutsAt}
-use Rattle.h1_escape.specs.Escape.{esc}
 use Rattle.h1_head.specs.declared.limits.TheConstants.{MAX_HEADER_SIZE}
 use Rattle.h1_head.specs.declared.request_head.Verdict.{Verdict}
 use Rattle.h1_head.specs.declared.request_head.Verdict.TheVariants.{Accepted, Refused}

@@ -91,7 +91,7 @@ impl RequestHeader {
         })
     }
 
-    /// A request of version 1.1 for no target, with no fields. Takes no memory.
+    /// A GET of version 1.1 for no target, with no fields. Takes no memory.
     #[inline(always)]
     pub fn new(alloc: Global) -> Self
         ensures { result ≡ new_request (codes "GET") [] }

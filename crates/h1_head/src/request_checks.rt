@@ -107,7 +107,7 @@ fn hosts_of(fields: &Fields) -> Hosts<'_>
     ensures { hosts_seen result ≡ hosts_behind no_host (values_of (codes "Host") fields.now) }
 {
     let mut hosts = Hosts::Absent;
-    for value in fields.get_all(b"Host") {
+    for value in fields.hosts() {
         hosts = hosts.and(value);
     }
     hosts
