@@ -1,5 +1,5 @@
 -- Lemmas on the call that writes the head of a reply.
-use Rattle.std.proofs.Common.{◌≡◌, ℕ, ◌≤◌, ◌<◌, List, [], ◌++◌, length, Bool, true, false, cond, IsTrue, Option, Some, None, IfNone, IfSome, Result, Ok, Err, refl, sym, ap, ◌∙◌, append-nil}
+use Rattle.std.proofs.Common.{◌≡◌, ℕ, ◌≤◌, ◌<◌, List, [], ◌++◌, length, Bool, true, false, cond, IsTrue, Option, Some, None, IfNone, IfSome, Result, Ok, Err, refl, sym, ◌∙◌, append-nil}
 use Rattle.h1_server.specs.Words.{Poll, Ready, Pending, Error, LinkState, ResponseView, flushes_head, TransferView, Outgoing, Head, Request}
 use Rattle.h1_transfer.specs.BodyWrites.{IsTakenUp}
 use Rattle.h1_transfer.specs.Writes.{Delivers, IsSameMessage}

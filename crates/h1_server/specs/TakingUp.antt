@@ -6,7 +6,7 @@ use Rattle.h1_transfer.specs.BodyWrites.{IsTakenUp}
 use Rattle.h1_transfer.specs.declared.delivering.Delivery.{Delivery}
 use Rattle.h1_transfer.specs.declared.delivering.Delivery.TheVariants as delivery
 
--- A header that is handed in is taken up where nothing is owed, or nothing is where it can't be.
+-- A header that is handed in is taken up, where nothing is owed. Where it can't be, nothing changes.
 abbrev pub TakesUpHeader : {L : Type 0} → TransferView L → TransferView L → Request → Bool
     → ResponseView → ℕ → Result (Unit {0}) Error → Type 0
 TakesUpHeader old new request flag header now (Ok done) =

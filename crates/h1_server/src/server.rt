@@ -32,7 +32,7 @@ pub struct HttpSession<L: Link + Drop, C: Drop> {
     pub(crate) keep: bool,
     reusable: bool,
     context: Option<C>,
-    /// The date that was printed last, which requests of the same second share.
+    /// The date that was printed last, which replies of the same second share.
     dates: CacheableDate,
 }
 

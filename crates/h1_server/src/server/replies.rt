@@ -60,7 +60,7 @@ impl<L: Link + Drop, C: Drop> HttpSession<L, C> {
     }
 
     /// The same with a header that stays with its owner. It was taken up where a final header was
-    /// taken up then and not before.
+    /// taken up then and not before. With None the header that was taken up goes on.
     #[inline(always)]
     pub fn poll_write_response_header_ref(
         &mut self,
