@@ -1,5 +1,5 @@
 //! What a connection read and wrote, exchange by exchange.
-ghost use Rattle.std.specs.Prelude.{◌≡◌, ◌++◌, [], None, Some, IsSome, OnOk, OnErr, IfErr, length, slice_get, option_to_list};
+ghost use Rattle.std.specs.Prelude.{◌≡◌, ◌++◌, [], None, Some, IsSome, OnOk, OnErr, IfErr, is_some, length, slice_get, option_to_list};
 ghost use Rattle.h1_error.specs.Memory.{no_memory};
 ghost use Rattle.std.specs.Borrow.{sem};
 ghost use Rattle.std.specs.Option.{option_copied};
@@ -112,6 +112,13 @@ impl Transcript {
         self.entries.reserve(1)?;
         self.entries.push_reserved(entry);
         Ok(())
+    }
+
+    /// Whether an exchange goes on.
+    pub fn goes_on(&self) -> bool
+        ensures { result ≡ is_some self.now.last }
+    {
+        self.entries.get(self.ended).is_some()
     }
 
     /// The exchange that goes on.
