@@ -17,7 +17,7 @@ pub use laws::{long_scripts_are_judged_by_their_front, numbers_are_decimal, text
 pub use number::{MAX_DIGITS, number_up_to};
 pub use script::{MAX_SCRIPT, Script, ScriptFault, parse_script};
 pub use text::Text;
-pub use words::{MOST_GENERATED, Task, parse_words};
+pub use words::{LAST_PORT, MOST_CONNECTIONS, MOST_GENERATED, Task, parse_words};
 
 #[cfg(test)]
 mod tests;

@@ -178,3 +178,36 @@ fn the_words_script_and_gen_with_a_number_are_tasks(rt: HostRuntime) -> Result<(
     assert_eq!(rt; parse_words(&[]), None);
     Ok(())
 }
+
+#[test]
+fn the_word_listen_with_a_port_and_a_count_is_a_task(rt: HostRuntime) -> Result<(), Fail> {
+    let cases = [
+        ("listen 0 0", Some((0, 0))),
+        ("listen 65535 1000", Some((65_535, 1_000))),
+        (
+            "listen 00000000000000000080 00000000000000000002",
+            Some((80, 2)),
+        ),
+        ("listen 000000000000000000080 2", None),
+        ("listen 80 000000000000000000002", None),
+        ("listen 65536 1", None),
+        ("listen 1 1001", None),
+        ("listen 99999999999999999999 1", None),
+        ("listen 1 99999999999999999999", None),
+        ("listen x 1", None),
+        ("listen 1 x", None),
+        ("listen +1 1", None),
+        ("listen  1", None),
+        ("listen 1 ", None),
+        ("listen 1", None),
+        ("listen", None),
+        ("listen 1 1 1", None),
+        ("Listen 1 1", None),
+        ("gen 1 1", None),
+    ];
+    for (line, expected) in cases {
+        let task = expected.map(|(port, count)| Task::Listen { port, count });
+        assert_eq!(rt; task_of(rt.alloc(), line)?, task, "{line}");
+    }
+    Ok(())
+}
