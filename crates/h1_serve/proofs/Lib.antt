@@ -1,4 +1,5 @@
 pub mod OutputLemmas
+pub mod ListenLemmas
 pub mod OrderLemmas
 pub mod PollLemmas
 pub mod LineLemmas

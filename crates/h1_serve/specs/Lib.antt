@@ -6,6 +6,7 @@ pub mod PollLine
 pub mod Report
 pub mod Finished
 pub mod Generated
+pub mod Listening
 pub mod Status
 pub mod Polled
 pub mod Running

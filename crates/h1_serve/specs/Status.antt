@@ -1,6 +1,8 @@
 -- The exit statuses of a run, each with its cause.
-use Rattle.std.specs.Prelude.{◌≡◌, ℕ, List, ◌++◌, true, Option, Some, None}
+use Rattle.std.specs.Prelude.{◌≡◌, ℕ, ◌≤◌, List, ◌++◌, true, Option, Some, None}
+use Rattle.h1_link.specs.AcceptorState.{AcceptorState}
 use Rattle.h1_link.specs.Counts.{Rose}
+use Rattle.h1_link.specs.LinkState.{LinkState}
 use Rattle.h1_link.specs.SourceState.{SourceState}
 use Rattle.h1_link.specs.SinkState.{SinkState}
 use Rattle.h1_words.specs.Script.{script_of, faulty_at}
@@ -14,6 +16,7 @@ use Rattle.h1_serve.specs.Input.{Gave, ReadsScript}
 use Rattle.h1_serve.specs.Output.{Wrote, usage_line, fault_line}
 use Rattle.h1_serve.specs.Report.{Report}
 use Rattle.h1_serve.specs.Generated.{IsGenText}
+use Rattle.h1_serve.specs.Listening.{Serves, Accepts, ListenCause}
 
 -- The source was read to its end, and the sink took a report of what it gave and flushed it.
 pub record Reported (source_before source_now : SourceState)
@@ -50,6 +53,7 @@ ScriptCause source source' sink sink' status.Script = Refused source source' sin
 ScriptCause source source' sink sink' status.Source = Rose source.faults source'.faults
 ScriptCause source source' sink sink' status.Sink = Rose sink.faults sink'.faults
 ScriptCause source source' sink sink' status.Memory = Unit {0}
+ScriptCause source source' sink sink' status.Acceptor = ⊥
 
 -- the cause of each status of the task `gen` with this number
 abbrev pub GenCause : ℕ → SinkState → SinkState → Status → Type 0
@@ -59,6 +63,7 @@ GenCause count sink sink' status.Script = ⊥
 GenCause count sink sink' status.Source = ⊥
 GenCause count sink sink' status.Sink = Rose sink.faults sink'.faults
 GenCause count sink sink' status.Memory = Unit {0}
+GenCause count sink sink' status.Acceptor = ⊥
 
 -- the cause of each status where the words are no task
 abbrev pub WordsCause : SourceState → SourceState → SinkState → SinkState → Status → Type 0
@@ -69,15 +74,19 @@ WordsCause source source' sink sink' status.Memory = source' ≡ source
 WordsCause source source' sink sink' status.Done = ⊥
 WordsCause source source' sink sink' status.Script = ⊥
 WordsCause source source' sink sink' status.Source = ⊥
+WordsCause source source' sink sink' status.Acceptor = ⊥
 
--- the cause of each status, by what the words ask for
-abbrev pub CauseBy : Option Task → SourceState → SourceState → SinkState → SinkState → Status
-    → Type 0
-CauseBy None source source' sink sink' status = WordsCause source source' sink sink' status
-CauseBy (Some task.Script) source source' sink sink' status =
+-- the cause of each status, by what the words ask for; `state` is that of the acceptor's links
+abbrev pub CauseBy : {L : Type 0} → (L → LinkState) → Option Task → SourceState → SourceState
+    → SinkState → SinkState → AcceptorState → AcceptorState → Status → Type 0
+CauseBy state None source source' sink sink' net net' status =
+    WordsCause source source' sink sink' status
+CauseBy state (Some task.Script) source source' sink sink' net net' status =
     ScriptCause source source' sink sink' status
-CauseBy (Some (task.Gen count)) source source' sink sink' status =
+CauseBy state (Some (task.Gen count)) source source' sink sink' net net' status =
     (source' ≡ source) × GenCause count sink sink' status
+CauseBy state (Some (task.Listen port count)) source source' sink sink' net net' status =
+    (source' ≡ source) × ListenCause state count sink sink' net net' status
 
 -- the number of a status
 abbrev pub number_of : Status → ℕ
@@ -87,18 +96,51 @@ number_of status.Script = 3
 number_of status.Source = 4
 number_of status.Sink = 5
 number_of status.Memory = 6
+number_of status.Acceptor = 8
 
 -- a run ends with the number of a status whose cause is there
-abbrev pub Ends : Option Task → SourceState → SourceState → SinkState → SinkState → ℕ → Type 0
-Ends found source source' sink sink' number =
-    (status : Status) × (number ≡ number_of status) × CauseBy found source source' sink sink' status
+abbrev pub Ends : {L : Type 0} → (L → LinkState) → Option Task → SourceState → SourceState
+    → SinkState → SinkState → AcceptorState → AcceptorState → ℕ → Type 0
+Ends state found source source' sink sink' net net' number =
+    (status : Status) × (number ≡ number_of status)
+    × CauseBy state found source source' sink sink' net net' status
 
 -- what status 0 tells, by what the words ask for
-abbrev pub DoneBy : Option Task → SourceState → SourceState → SinkState → SinkState → Type 0
-DoneBy None source source' sink sink' = ⊥
-DoneBy (Some task.Script) source source' sink sink' = Reported source source' sink sink'
-DoneBy (Some (task.Gen count)) source source' sink sink' =
+abbrev pub DoneBy : {L : Type 0} → (L → LinkState) → Option Task → SourceState → SourceState
+    → SinkState → SinkState → AcceptorState → AcceptorState → Type 0
+DoneBy state None source source' sink sink' net net' = ⊥
+DoneBy state (Some task.Script) source source' sink sink' net net' =
+    Reported source source' sink sink'
+DoneBy state (Some (task.Gen count)) source source' sink sink' net net' =
     (source' ≡ source) × ToldInNumbers count sink sink'
+DoneBy state (Some (task.Listen port count)) source source' sink sink' net net' =
+    (source' ≡ source) × Serves state count 0 sink sink' net net'
+
+-- what status 8 tells: the task, that the acceptor failed in this call, and how many peers were
+-- served before
+pub record StopsListening {L : Type 0} (state : L → LinkState) (found : Option Task)
+    (sink sink' : SinkState) (net net' : AcceptorState) : Type 0 where
+  pub port : ℕ
+  pub count : ℕ
+  pub is : found ≡ Some (task.Listen port count)
+  pub rose : Rose net.accept_faults net'.accept_faults
+  pub served : ℕ
+  pub few : served ≤ count
+  pub told : Serves state served 1 sink sink' net net'
+
+-- the network is used by `listen` alone
+abbrev pub NetBy : Option Task → AcceptorState → AcceptorState → Type 0
+NetBy None net net' = net' ≡ net
+NetBy (Some task.Script) net net' = net' ≡ net
+NetBy (Some (task.Gen count)) net net' = net' ≡ net
+NetBy (Some (task.Listen port count)) net net' = Accepts count net net'
+
+-- the clock is read by `listen` alone
+abbrev pub ClockBy : Option Task → ℕ → ℕ → Type 0
+ClockBy None moment moment' = moment' ≡ moment
+ClockBy (Some task.Script) moment moment' = moment' ≡ moment
+ClockBy (Some (task.Gen count)) moment moment' = moment' ≡ moment
+ClockBy (Some (task.Listen port count)) moment moment' = moment ≤ moment'
 
 -- the status once a text was written, which is this one where all of it was taken and flushed
 abbrev pub status_after : Status → Written → Status

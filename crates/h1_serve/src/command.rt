@@ -2,10 +2,11 @@
 ghost use Rattle.std.specs.Prelude.{◌≡◌, ◌≤◌, map, string_bytes, IfOk};
 ghost use Rattle.h1_words.specs.Words.{task_of};
 ghost use Rattle.h1_serve.specs.Output.{fault_line};
-ghost use Rattle.h1_serve.specs.Status.{CauseBy, ScriptCause, GenCause, Ends, number_of, status_after};
+ghost use Rattle.h1_serve.specs.Status.{CauseBy, ScriptCause, GenCause, Ends, NetBy, ClockBy, number_of, status_after};
 
 use crate::generated::gen_text;
 use crate::input::{InputFault, read_script};
+use crate::listening::listen;
 use crate::output::{Written, write_whole};
 use crate::scripted::report_of;
 use crate::status::Status;
@@ -23,7 +24,9 @@ const USAGE: &[u8] = b"usage: h1_serve script | gen N | sub | listen PORT COUNT\
 ///
 /// With the one word `script`, the source is read to its end as a script, which runs over a
 /// connection in memory, and the report is written to the sink. With `gen N`, N requests are made
-/// and served over such a connection, and four lines are written that tell it in numbers.
+/// and served over such a connection, and four lines are written that tell it in numbers. With
+/// `listen PORT COUNT`, so many peers are served at this port, one after another, and a line is
+/// written for each.
 pub fn run<
     R: Wait + Threads + Sync + Send + Clone + Drop,
     S: Source,
@@ -36,17 +39,19 @@ pub fn run<
     words: &[String],
     source: &mut S,
     sink: &mut K,
-    _net: &mut A,
-    _clock: &mut T,
+    net: &mut A,
+    clock: &mut T,
 ) -> u8
-    ensures status { Ends (task_of (map string_bytes words.now)) (S.state source.old)
-        (S.state source.new) (K.state sink.old) (K.state sink.new) result }
+    ensures status { Ends A.Link.state (task_of (map string_bytes words.now)) (S.state source.old)
+        (S.state source.new) (K.state sink.old) (K.state sink.new) (A.state net.old)
+        (A.state net.new) result }
 
-    // These tasks use neither the network nor the clock.
-    ensures net { A.state _net.new ≡ A.state _net.old }
-    ensures clock { T.moment _clock.new ≡ T.moment _clock.old }
+    // `listen` alone uses the network and the clock.
+    ensures net { NetBy (task_of (map string_bytes words.now)) (A.state net.old) (A.state net.new) }
+    ensures clock { ClockBy (task_of (map string_bytes words.now)) (T.moment clock.old)
+        (T.moment clock.new) }
 {
-    number_of(perform(alloc, words, source, sink))
+    number_of(perform(alloc, words, source, sink, net, clock))
 }
 
 fn number_of(status: Status) -> u8
@@ -59,21 +64,29 @@ fn number_of(status: Status) -> u8
         Status::Source => 4,
         Status::Sink => 5,
         Status::Memory => 6,
+        Status::Acceptor => 8,
     }
 }
 
-fn perform<S: Source, K: Sink>(
+fn perform<S: Source, K: Sink, A: Acceptor, T: Clock>(
     alloc: Global,
     words: &[String],
     source: &mut S,
     sink: &mut K,
+    net: &mut A,
+    clock: &mut T,
 ) -> Status
-    ensures { CauseBy (task_of (map string_bytes words.now)) (S.state source.old)
-        (S.state source.new) (K.state sink.old) (K.state sink.new) result }
+    ensures status { CauseBy A.Link.state (task_of (map string_bytes words.now))
+        (S.state source.old) (S.state source.new) (K.state sink.old) (K.state sink.new)
+        (A.state net.old) (A.state net.new) result }
+    ensures net { NetBy (task_of (map string_bytes words.now)) (A.state net.old) (A.state net.new) }
+    ensures clock { ClockBy (task_of (map string_bytes words.now)) (T.moment clock.old)
+        (T.moment clock.new) }
 {
     match parse_words(words) {
         Some(Task::Script) => run_script(alloc, source, sink),
         Some(Task::Gen(count)) => run_gen(alloc, count, sink),
+        Some(Task::Listen { port, count }) => listen(alloc, port, count, sink, net, clock),
         None => status_of(write_whole(sink, USAGE), Status::Words),
     }
 }

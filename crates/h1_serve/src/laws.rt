@@ -1,6 +1,7 @@
 //! What the causes of the exit statuses come to, what reports of one script have in common, and how
 //! many polls wait for their budget.
 ghost use Rattle.std.specs.Prelude.{◌≡◌, ◌⊎◌, ℕ, ◌+◌, ◌*◌, ◌≤◌, List, ◌++◌, length, Option, Some, None};
+ghost use Rattle.h1_link.specs.AcceptorState.{AcceptorState};
 ghost use Rattle.h1_link.specs.Counts.{Rose};
 ghost use Rattle.h1_link.specs.LinkState.{LinkState};
 ghost use Rattle.h1_link.specs.SourceState.{SourceState};
@@ -12,46 +13,67 @@ ghost use Rattle.h1_words.specs.Script.{script_of, commands, faulty_at};
 ghost use Rattle.h1_serve.specs.Finished.{IsFinished, IsBehindPolls};
 ghost use Rattle.h1_serve.specs.Output.{Wrote, usage_line};
 ghost use Rattle.h1_serve.specs.Polled.{Tells, AreSpent, state_behind};
-ghost use Rattle.h1_serve.specs.Status.{Ends, DoneBy, Refused, GaveScript};
+ghost use Rattle.h1_serve.specs.Status.{Ends, DoneBy, StopsListening, Refused, GaveScript};
+
+use h1_link::Link;
 
 /// What each status tells.
-pub fn statuses_have_causes()
+pub fn statuses_have_causes<L: Link>()
     ensures done { (found : Option Task) (source source' : SourceState) (sink sink' : SinkState)
-        → Ends found source source' sink sink' 0 → DoneBy found source source' sink sink' }
+        (net net' : AcceptorState)
+        → Ends L.state found source source' sink sink' net net' 0
+        → DoneBy L.state found source source' sink sink' net net' }
     ensures words { (found : Option Task) (source source' : SourceState) (sink sink' : SinkState)
-        → Ends found source source' sink sink' 2 → (found ≡ None) × Wrote sink sink' usage_line }
+        (net net' : AcceptorState)
+        → Ends L.state found source source' sink sink' net net' 2
+        → (found ≡ None) × Wrote sink sink' usage_line }
     ensures script { (found : Option Task) (source source' : SourceState) (sink sink' : SinkState)
-        → Ends found source source' sink sink' 3
+        (net net' : AcceptorState)
+        → Ends L.state found source source' sink sink' net net' 3
         → (found ≡ Some task.Script) × Refused source source' sink sink' }
     ensures source { (found : Option Task) (source source' : SourceState) (sink sink' : SinkState)
-        → Ends found source source' sink sink' 4
+        (net net' : AcceptorState)
+        → Ends L.state found source source' sink sink' net net' 4
         → (found ≡ Some task.Script) × Rose source.faults source'.faults }
     ensures sink { (found : Option Task) (source source' : SourceState) (sink sink' : SinkState)
-        → Ends found source source' sink sink' 5 → Rose sink.faults sink'.faults }
+        (net net' : AcceptorState)
+        → Ends L.state found source source' sink sink' net net' 5 → Rose sink.faults sink'.faults }
+    ensures acceptor { (found : Option Task) (source source' : SourceState) (sink sink' : SinkState)
+        (net net' : AcceptorState)
+        → Ends L.state found source source' sink sink' net net' 8
+        → StopsListening L.state found sink sink' net net' }
 {}
 
 /// Which statuses the words and the script leave: where the words are no task 2, with a script
-/// outside of its grammar 3, with one in it and with `gen N` 0, but for a fault of the source or the
-/// sink and where memory ran out.
-pub fn few_statuses_are_left()
-    ensures no_task { (source source' : SourceState) (sink sink' : SinkState) (number : ℕ)
-        → Ends None source source' sink sink' number
+/// outside of its grammar 3, with one in it, with `gen N` and with `listen PORT COUNT` 0, but for a
+/// fault of the source, the sink or the acceptor and where memory ran out.
+pub fn few_statuses_are_left<L: Link>()
+    ensures no_task { (source source' : SourceState) (sink sink' : SinkState)
+        (net net' : AcceptorState) (number : ℕ)
+        → Ends L.state None source source' sink sink' net net' number
         → (number ≡ 2) ⊎ ((number ≡ 5) × Rose sink.faults sink'.faults) ⊎ (number ≡ 6) }
-    ensures faulty { (source source' : SourceState) (sink sink' : SinkState) (number line : ℕ)
-        (script : List ℕ)
+    ensures faulty { (source source' : SourceState) (sink sink' : SinkState)
+        (net net' : AcceptorState) (number line : ℕ) (script : List ℕ)
         → GaveScript source source' script → script_of script ≡ faulty_at line
-        → Ends (Some task.Script) source source' sink sink' number
+        → Ends L.state (Some task.Script) source source' sink sink' net net' number
         → (number ≡ 3) ⊎ ((number ≡ 4) × Rose source.faults source'.faults)
         ⊎ ((number ≡ 5) × Rose sink.faults sink'.faults) ⊎ (number ≡ 6) }
-    ensures lawful { (source source' : SourceState) (sink sink' : SinkState) (number : ℕ)
-        (script : List ℕ) (asked : List Command)
+    ensures lawful { (source source' : SourceState) (sink sink' : SinkState)
+        (net net' : AcceptorState) (number : ℕ) (script : List ℕ)
+        (asked : List Command)
         → GaveScript source source' script → script_of script ≡ commands asked
-        → Ends (Some task.Script) source source' sink sink' number
+        → Ends L.state (Some task.Script) source source' sink sink' net net' number
         → (number ≡ 0) ⊎ ((number ≡ 4) × Rose source.faults source'.faults)
         ⊎ ((number ≡ 5) × Rose sink.faults sink'.faults) ⊎ (number ≡ 6) }
-    ensures generated { (source source' : SourceState) (sink sink' : SinkState) (number count : ℕ)
-        → Ends (Some (task.Gen count)) source source' sink sink' number
+    ensures generated { (source source' : SourceState) (sink sink' : SinkState)
+        (net net' : AcceptorState) (number count : ℕ)
+        → Ends L.state (Some (task.Gen count)) source source' sink sink' net net' number
         → (number ≡ 0) ⊎ ((number ≡ 5) × Rose sink.faults sink'.faults) ⊎ (number ≡ 6) }
+    ensures listened { (source source' : SourceState) (sink sink' : SinkState)
+        (net net' : AcceptorState) (number port count : ℕ)
+        → Ends L.state (Some (task.Listen port count)) source source' sink sink' net net' number
+        → (number ≡ 0) ⊎ ((number ≡ 5) × Rose sink.faults sink'.faults) ⊎ (number ≡ 6)
+        ⊎ ((number ≡ 8) × Rose net.accept_faults net'.accept_faults) }
 {}
 
 /// Two reports of one script, whose polls are all at one moment and whose connection finished, have

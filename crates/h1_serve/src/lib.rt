@@ -1,9 +1,10 @@
 //! The program: it runs a script over a connection in memory, and reports what was answered, read
-//! and written; or it makes requests, serves them, and tells that in numbers.
+//! and written; or it makes requests, serves them, and tells that in numbers; or it serves peers at
+//! a port, and tells what each connection came to.
 //!
-//! [`run`] gets the words of the command line, a source and a sink. The script is read whole and
-//! judged before it runs. Each exit status has its cause, and a report relates each poll's answer to
-//! the connection's states before and after it.
+//! [`run`] gets the words of the command line, a source, a sink, an acceptor and a clock. The script
+//! is read whole and judged before it runs. Each exit status has its cause, and a report relates each
+//! poll's answer to the connection's states before and after it.
 #![tactic(auto)]
 
 mod command;
@@ -11,6 +12,7 @@ mod exchange;
 mod generated;
 mod input;
 mod laws;
+mod listening;
 mod output;
 mod scripted;
 mod status;
@@ -21,5 +23,7 @@ pub use laws::{
     statuses_have_causes,
 };
 
+#[cfg(test)]
+mod listen_tests;
 #[cfg(test)]
 mod tests;

@@ -77,7 +77,7 @@ fn connect(alloc: Global, limit: Option<u32>) -> Result<Scripted, Error>
 }
 
 /// A server of the echo application, with this request limit.
-fn echo_server(limit: Option<u32>) -> HttpServer<EchoApp, NoModules>
+pub(crate) fn echo_server(limit: Option<u32>) -> HttpServer<EchoApp, NoModules>
     ensures { limit_of result.server_options ≡ limit }
 {
     let mut server = HttpServer::new_app(EchoApp);

@@ -15,4 +15,6 @@ pub(crate) enum Status {
     Sink,
     /// There was no memory.
     Memory,
+    /// The acceptor failed.
+    Acceptor,
 }

@@ -1,7 +1,8 @@
-//! The program: it does what the words of its command line ask for, over standard input and output.
+//! The program: it does what the words of its command line ask for, over standard input and
+//! output, TCP and the runtime's clock.
 #![tactic(auto)]
 
-use h1_link::{MemAcceptor, SetClock, StdSink, StdSource};
+use h1_link::{StdSink, StdSource, SystemClock, TcpAcceptor};
 use h1_serve::run;
 use std::process::ExitCode;
 use std::rt::Env;
@@ -19,8 +20,8 @@ fn main(rt: HostRuntime) -> io::Result<ExitCode> {
     };
     let mut source = StdSource::new(&rt);
     let mut sink = StdSink::new(rt.clone()?);
-    let mut net = MemAcceptor::new(rt.alloc());
-    let mut clock = SetClock::new(0);
+    let mut net = TcpAcceptor::new(rt.clone()?);
+    let mut clock = SystemClock::new(rt.clone()?);
     let status = run(
         &rt,
         rt.alloc(),
