@@ -95,7 +95,8 @@ fn serve_peer<L: Link + Drop, T: Clock>(
 {
     let server = Arc::new(alloc, echo_server(Some(REQUEST_LIMIT)))?;
     let mut connection: Echoed<L> = Connection::new(alloc, server, link)?;
-    Ok(serve_link(&mut connection, clock))
+    let answer = serve_link(&mut connection, clock);
+    Ok(answer)
 }
 
 fn listen_line(alloc: Global, number: u32, answer: Progress) -> Result<Text, Error>

@@ -3,15 +3,15 @@ use Rattle.h1_app.specs.View.{limit_of}
 use Rattle.h1_serve.proofs.ListenLemmas.{served_of}
 use Rattle.h1_serve.proofs.listening.serve_peer.Goals as goal
 
-pub serve_link-requires : goal.serve_link-requires
-serve_link-requires g c =
+pub serve_link-answer-requires : goal.serve_link-answer-requires
+serve_link-answer-requires g c =
     let fresh = c.in_ok-connection.ensures.fresh in
     record { done = fresh.done; last = fresh.last; end = fresh.end }
 
 pub returns-clause-answer : goal.returns-clause-answer
 returns-clause-answer g c =
     let fresh = c.in_ok-connection.ensures.fresh in
-    let s = c.serve_link.ensures in
+    let s = c.serve_link-answer.ensures in
     let limit =
     fresh.limit ∙ ap (λ s. limit_of s.server_options) c.in_ok-server.ensures.ok
     ∙ c.echo_server.ensures in
