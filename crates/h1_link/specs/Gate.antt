@@ -21,6 +21,12 @@ gate_from Open taken = Open
 gate_from (Room left) taken = Room (taken + left)
 gate_from Blocked taken = Blocked
 
+-- nothing goes through, and no flush is done
+abbrev pub IsBlocked : Gate → Type 0
+IsBlocked Open = ⊥
+IsBlocked (Room left) = ⊥
+IsBlocked Blocked = Unit {0}
+
 -- nothing goes through
 abbrev pub IsClosed : Gate → Type 0
 IsClosed Open = ⊥

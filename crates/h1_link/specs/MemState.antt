@@ -24,6 +24,8 @@ pub record MemState : Type 0 where
   pub writes_noted : ℕ
   -- the next write fails
   pub write_fault : Bool
+  -- the flushes that weren't ready
+  pub flush_waits : ℕ
 
 abbrev pub link_state_of : Inlet → Outlet → Counts → Bool → LinkState
 link_state_of inlet outlet counts shut = record {
@@ -52,6 +54,7 @@ mem_state_of inlet outlet counts shut = record {
   gate = outlet.gate;
   writes_noted = outlet.noted;
   write_fault = outlet.fault;
+  flush_waits = outlet.unready;
 }
 
 -- a link with nothing ahead, nothing written and nothing planned
@@ -79,4 +82,5 @@ new_mem_state = record {
   gate = Open;
   writes_noted = 0;
   write_fault = false;
+  flush_waits = 0;
 }

@@ -1,6 +1,7 @@
 -- What a link in memory answers, and what each of its calls leaves.
 use Rattle.std.specs.Prelude.{ℕ, ◌-◌, min, List, length, false, nat_lt, Option, Some, None, is_some, if◌then◌else◌}
-use Rattle.h1_link.specs.Steps.{after_read, after_write}
+use Rattle.h1_link.specs.Counts.{raised}
+use Rattle.h1_link.specs.Steps.{after_read, after_write, after_flush}
 use Rattle.h1_link.specs.Gate.{room_for, gate_after}
 use Rattle.h1_link.specs.MemState.{MemState}
 use Rattle.h1_link.specs.declared.memory.gate.Gate.{Gate}
@@ -55,4 +56,15 @@ mem_after_write link piece answer = record link {
   state = after_write link.state piece answer;
   write_fault = false;
   gate = gate_after link.gate (taken_count answer);
+}
+
+-- the flushes that weren't ready once a flush answered this
+abbrev pub flush_waits_after : ℕ → FlushStep → ℕ
+flush_waits_after count flush.NotReady = raised count 1
+flush_waits_after count _ = count
+
+abbrev pub mem_after_flush : MemState → FlushStep → MemState
+mem_after_flush link answer = record link {
+  state = after_flush link.state answer;
+  flush_waits = flush_waits_after link.flush_waits answer;
 }

@@ -31,12 +31,16 @@ impl<S: Read + Write + OpenStream + Drop> Model for TcpLink<S> {
 }
 
 impl<S: Read + Write + OpenStream + Drop> TcpLink<S> {
-    /// A link over this stream; `None` where its calls can't be kept from blocking.
+    /// A link over this stream, which sends each piece at once; `None` where its calls can't be
+    /// kept from blocking, or pieces from waiting for each other.
     pub fn new(stream: S) -> Option<Self>
         ensures { IfSome result (λ link. link ≡ untold_state) }
     {
         let wait = Some(Duration::from_millis(WAIT));
-        if stream.set_read_timeout(wait).is_err() || stream.set_write_timeout(wait).is_err() {
+        if stream.set_read_timeout(wait).is_err()
+            || stream.set_write_timeout(wait).is_err()
+            || stream.set_nodelay(true).is_err()
+        {
             return None;
         }
         Some(TcpLink {

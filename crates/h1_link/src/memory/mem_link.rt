@@ -4,14 +4,14 @@ ghost use Rattle.h1_link.specs.MemState.{MemState, mem_state_of, new_mem_state};
 ghost use Rattle.h1_link.specs.MemRule.{Rule};
 ghost use Rattle.h1_link.specs.MemPlan.{SamePlan, plan_itself, plan_on};
 ghost use Rattle.h1_link.specs.MemSteps.{read_answer, write_answer, flush_answer};
-ghost use Rattle.h1_link.specs.MemSteps.{mem_after_read, mem_after_write};
+ghost use Rattle.h1_link.specs.MemSteps.{mem_after_read, mem_after_write, mem_after_flush};
 ghost use Rattle.h1_link.specs.Steps.{FitsRead, FitsWrite, after_read, after_write};
 ghost use Rattle.h1_link.specs.Steps.{after_flush, after_shutdown};
 
 use crate::link::{FlushStep, Link, ReadStep, WriteStep};
 use crate::memory::Gate;
 use crate::memory::ahead::copy_ahead;
-use crate::memory::counts::Counts;
+use crate::memory::counts::{Counts, raise};
 use crate::memory::inlet::Inlet;
 use crate::memory::outlet::Outlet;
 use h1_error::{Error, ErrorType};
@@ -58,6 +58,7 @@ impl MemLink {
                 gate: Gate::Open,
                 fault: false,
                 noted: 0,
+                unready: 0,
             },
             counts: Counts::NONE,
             shut: false,
@@ -237,12 +238,13 @@ impl Link for MemLink {
 
     fn poll_flush(&mut self) -> FlushStep
         ensures answer { result ≡ flush_answer self.old }
-        ensures after { self.new ≡ record self.old { state = after_flush self.old.state result } }
+        ensures after { self.new ≡ mem_after_flush self.old result }
         ensures state { self.new.state ≡ after_flush self.old.state result }
         ensures plan { SamePlan self.old self.new }
     {
         if self.outlet.gate == Gate::Blocked {
             self.counts.count_write_wait();
+            self.outlet.unready = raise(self.outlet.unready);
             return FlushStep::NotReady;
         }
         self.outlet.flushed = self.outlet.written.len();

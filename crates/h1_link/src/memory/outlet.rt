@@ -14,4 +14,6 @@ pub struct Outlet {
     pub fault: bool,
     /// The count of write waits when the gate was last set.
     pub noted: u64,
+    /// How often a flush wasn't ready.
+    pub unready: u64,
 }
