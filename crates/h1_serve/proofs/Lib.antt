@@ -2,6 +2,7 @@ pub mod OutputLemmas
 pub mod OrderLemmas
 pub mod PollLemmas
 pub mod LineLemmas
+pub mod LinkLineLemmas
 pub mod ExchangeLemmas
 pub mod GeneratedLemmas
 pub mod StatusLemmas
@@ -9,3 +10,4 @@ pub mod CauseLemmas
 pub mod PolledLemmas
 pub mod AlikeLemmas
 pub mod FinishedLemmas
+pub mod PlannedLemmas
