@@ -13,7 +13,7 @@ use std::thread::Threads;
 use std::{fs, io};
 
 /// The examples, each with its exit status: `NAME.script` is run, and `NAME.report` expected.
-const EXAMPLES: [(&str, u8); 69] = [
+const EXAMPLES: [(&str, u8); 86] = [
     ("one_request", 0),
     ("byte_by_byte", 0),
     ("cut_head", 0),
@@ -81,8 +81,25 @@ const EXAMPLES: [(&str, u8); 69] = [
     ("shutdown_byte_by_byte", 0),
     ("shutdown_inside_a_head", 0),
     ("shutdown_between", 0),
+    ("five_bytes_a_second", 0),
+    ("a_byte_for_each_poll", 0),
+    ("fault_of_a_read", 0),
+    ("fault_of_a_write", 0),
+    ("two_faults_of_writes", 0),
+    ("blocked_and_freed", 0),
+    ("room_of_none", 0),
+    ("blocked_in_a_reply", 0),
+    ("fault_in_a_body", 0),
+    ("fault_in_a_body_and_no_room", 0),
+    ("fault_before_the_end", 0),
+    ("faults_behind_the_end", 0),
+    ("room_for_the_first_of_two", 0),
+    ("room_for_a_part_of_two", 0),
+    ("fault_of_a_second_reply", 0),
     ("poll_goes_back", 3),
     ("give_behind_end", 3),
+    ("room_without_a_number", 3),
+    ("fault_of_a_flush", 3),
 ];
 
 /// The command lines that read no script, each with its words and its exit status: `NAME.report` is

@@ -1,12 +1,14 @@
 -- Lemmas on scripts whose polls are all at one moment, and whose connection finished.
-use Rattle.std.proofs.Common.{◌≡◌, ℕ, ◌/◌, List, [], ◌∷◌, ◌++◌, Bool, true, option_to_list, Option, Some, None, IfSome, IfNone, refl, sym, ap, subst, ◌∙◌, append-nil, append_assoc}
+use Rattle.std.proofs.Common.{◌≡◌, ℕ, ◌+◌, ◌/◌, List, [], ◌∷◌, ◌++◌, Bool, true, option_to_list, Option, Some, None, IfSome, IfNone, refl, sym, ap, subst, ◌∙◌, append-nil, append_assoc}
 use Rattle.std.specs.List.{AllByRecursion, flat_map}
 use Rattle.std.proofs.lemmas.List.Concat.{flat_map-cons}
 use Rattle.h1_error.specs.declared.progress.End.{End}
 use Rattle.h1_error.specs.declared.progress.End.TheVariants as end
 use Rattle.h1_error.specs.declared.progress.Progress.{Progress}
 use Rattle.h1_error.specs.declared.progress.Progress.TheVariants as progress
+use Rattle.h1_link.specs.Counts.{raised}
 use Rattle.h1_link.specs.LinkState.{LinkState}
+use Rattle.h1_link.specs.declared.memory.gate.Gate.TheVariants.{Room, Blocked}
 use Rattle.h1_head.specs.Views.{ResponseView}
 use Rattle.h1_words.specs.Script.{ScriptOutcome, script_of, commands}
 use Rattle.h1_words.specs.declared.command.Command.{Command}
@@ -104,7 +106,7 @@ polled_holds moment polled s t answer holds polls = record {
   finished = λ is.
       let cause = finished_so moment polled s t answer s.end refl holds polls.cause polls.again is in
       record {
-        given = (polls.ended cause.1).1;
+        given = (polls.gives.ended cause.1).1;
         cause = cause;
         allowed = polls.agrees.allowed;
       };
@@ -116,6 +118,10 @@ polled_in put polled [] = polled
 polled_in put polled (command.Give bytes ∷ more) = polled_in (put ++ bytes) polled more
 polled_in put polled (command.Poll moment ∷ more) = polled_in put put more
 polled_in put polled (command.End ∷ more) = polled_in put polled more
+polled_in put polled (command.Room count ∷ more) = polled_in put polled more
+polled_in put polled (command.Block ∷ more) = polled_in put polled more
+polled_in put polled (command.FaultRead ∷ more) = polled_in put polled more
+polled_in put polled (command.FaultWrite ∷ more) = polled_in put polled more
 polled_in put polled (command.Shutdown ∷ more) = polled_in put polled more
 polled_in put polled (command.Limit count ∷ more) = polled_in put polled more
 
@@ -149,6 +155,22 @@ lines_hold moment (command.End ∷ more) s polled text t at holds h =
     let next : State = record s { said = true } in
     let lines : Lines next more h.2 t = subst (λ s. Lines s more h.2 t) h.4.1 h.5 in
     lines_hold moment more next polled h.2 t at (same_holds moment polled s next refl refl refl refl holds) lines
+lines_hold moment (command.Room count ∷ more) s polled text t at holds h =
+    let next : State = record s { gate = Room (s.link.bytes_out + count) } in
+    let lines : Lines next more h.2 t = subst (λ s. Lines s more h.2 t) h.4.1 h.5 in
+    lines_hold moment more next polled h.2 t at (same_holds moment polled s next refl refl refl refl holds) lines
+lines_hold moment (command.Block ∷ more) s polled text t at holds h =
+    let next : State = record s { gate = Blocked } in
+    let lines : Lines next more h.2 t = subst (λ s. Lines s more h.2 t) h.4.1 h.5 in
+    lines_hold moment more next polled h.2 t at (same_holds moment polled s next refl refl refl refl holds) lines
+lines_hold moment (command.FaultRead ∷ more) s polled text t at holds h =
+    let next : State = record s { reads_due = raised s.link.read_faults 1 } in
+    let lines : Lines next more h.2 t = subst (λ s. Lines s more h.2 t) h.4.1 h.5 in
+    lines_hold moment more next polled h.2 t at (same_holds moment polled s next refl refl refl refl holds) lines
+lines_hold moment (command.FaultWrite ∷ more) s polled text t at holds h =
+    let next : State = record s { writes_due = raised s.link.write_faults 1 } in
+    let lines : Lines next more h.2 t = subst (λ s. Lines s more h.2 t) h.4.1 h.5 in
+    lines_hold moment more next polled h.2 t at (same_holds moment polled s next refl refl refl refl holds) lines
 lines_hold moment (command.Shutdown ∷ more) s polled text t at holds h =
     let next : State = record s { shut = true } in
     let lines : Lines next more h.2 t = subst (λ s. Lines s more h.2 t) h.4.1 h.5 in
@@ -159,7 +181,7 @@ lines_hold moment (command.Poll here ∷ more) s polled text t at holds h =
     let polls : Polls moment s h.4.0 h.1 = subst (λ n. Polls n s h.4.0 h.1) at.0 h.4.2 in
     let after = polled_holds moment polled s h.1 h.4.0 holds polls in
     let goes = lines_hold moment more h.1 h.1.put h.2 t at.1 after h.5 in
-    subst (λ put. Holds moment (polled_in put put more) t) polls.put goes
+    subst (λ put. Holds moment (polled_in put put more) t) polls.gives.put goes
 
 -- the lines are those of polls at the moment
 poll_texts : (moment : ℕ) (asked : List Command) (s : State) (text : List ℕ) (t : State)
@@ -171,6 +193,18 @@ poll_texts moment (command.Give bytes ∷ more) s text t at h =
     let rest = poll_texts moment more h.1 h.2 t at h.5 in
     (rest.0, h.3 ∙ ap (λ xs. xs ++ h.2) h.4.0 ∙ rest.1)
 poll_texts moment (command.End ∷ more) s text t at h =
+    let rest = poll_texts moment more h.1 h.2 t at h.5 in
+    (rest.0, h.3 ∙ ap (λ xs. xs ++ h.2) h.4.0 ∙ rest.1)
+poll_texts moment (command.Room count ∷ more) s text t at h =
+    let rest = poll_texts moment more h.1 h.2 t at h.5 in
+    (rest.0, h.3 ∙ ap (λ xs. xs ++ h.2) h.4.0 ∙ rest.1)
+poll_texts moment (command.Block ∷ more) s text t at h =
+    let rest = poll_texts moment more h.1 h.2 t at h.5 in
+    (rest.0, h.3 ∙ ap (λ xs. xs ++ h.2) h.4.0 ∙ rest.1)
+poll_texts moment (command.FaultRead ∷ more) s text t at h =
+    let rest = poll_texts moment more h.1 h.2 t at h.5 in
+    (rest.0, h.3 ∙ ap (λ xs. xs ++ h.2) h.4.0 ∙ rest.1)
+poll_texts moment (command.FaultWrite ∷ more) s text t at h =
     let rest = poll_texts moment more h.1 h.2 t at h.5 in
     (rest.0, h.3 ∙ ap (λ xs. xs ++ h.2) h.4.0 ∙ rest.1)
 poll_texts moment (command.Shutdown ∷ more) s text t at h =

@@ -3,6 +3,7 @@ pub mod ListenLemmas
 pub mod OrderLemmas
 pub mod PollLemmas
 pub mod LineLemmas
+pub mod LinkLineLemmas
 pub mod ExchangeLemmas
 pub mod GeneratedLemmas
 pub mod StatusLemmas
@@ -10,3 +11,4 @@ pub mod CauseLemmas
 pub mod PolledLemmas
 pub mod AlikeLemmas
 pub mod FinishedLemmas
+pub mod PlannedLemmas

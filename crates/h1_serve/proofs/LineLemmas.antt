@@ -1,20 +1,17 @@
 -- Lemmas on the lines of a script, one after the other.
-use Rattle.std.proofs.Common.{◌≡◌, ℕ, ◌+◌, ◌≤◌, ◌<◌, Bool, true, false, List, [], ◌∷◌, ◌++◌, length, drop, get_or, drop-cons, add-one, suc, Option, Some, None, unwrap_or, refl, sym, ap, subst, ◌∙◌, append-nil, append_assoc}
+use Rattle.std.proofs.Common.{◌≡◌, ℕ, ◌+◌, ◌≤◌, ◌<◌, true, List, [], ◌∷◌, ◌++◌, length, drop, get_or, drop-cons, add-one, suc, Some, refl, sym, ap, subst, ◌∙◌, append-nil, append_assoc}
 use Rattle.std.proofs.lemmas.List.{drop_all}
 use Rattle.std.specs.Prelude.{Result, Ok, Err, OnOk}
-use Rattle.h1_link.specs.LinkState.{LinkState}
-use Rattle.h1_link.specs.MemState.{MemState}
 use Rattle.h1_transcript.specs.declared.transcript.Entry.{Entry}
-use Rattle.h1_app.specs.Accounted.{Accounted}
 use Rattle.h1_words.specs.Script.{place_after}
 use Rattle.h1_words.specs.declared.command.Command.{Command}
 use Rattle.h1_words.specs.declared.command.Command.TheVariants as command
 use Rattle.h1_words.specs.declared.place.Place.{Place}
 use Rattle.h1_serve.specs.declared.scripted.Scripted.{Scripted}
-use Rattle.h1_serve.specs.State.{State, Served, new_link, start_with, transcript, link_state, state_of}
+use Rattle.h1_serve.specs.State.{State, start_with, transcript, state_of}
 use Rattle.h1_serve.specs.Report.{Lines, IsTextOf, limit_in}
 use Rattle.h1_serve.specs.ExchangeText.{exchanges_lines, wrote_line}
-use Rattle.h1_serve.specs.Running.{MayStand, IsInTime, AreInOrder, first_place, EndsAt, IsRunning}
+use Rattle.h1_serve.specs.Running.{MayStand, IsInTime, AreInOrder, first_place, IsRunning}
 use Rattle.h1_serve.specs.Done.{ObeysOnce}
 
 -- the lines obeyed so far, and those to come
@@ -101,127 +98,10 @@ pub limit_at : (all : List Command) (i : ℕ) (asked : Command) → i < length a
     → limit_in (drop i all) ≡ limit_in (asked ∷ drop (i + 1) all)
 limit_at all i asked within is = ap limit_in (left_at all i asked within is)
 
-not_said : (ended : Bool) (end_at : Option ℕ) (put : ℕ) → ended ≡ false → EndsAt ended end_at put
-    → end_at ≡ None
-not_said true end_at put e ends = cc
-not_said false end_at put e ends = ends
-
-still_open : (ended : Bool) (end_at : Option ℕ) (put more : ℕ) → ended ≡ false
-    → EndsAt ended end_at put → EndsAt ended end_at more
-still_open true end_at put more e ends = cc
-still_open false end_at put more e ends = ends
-
--- bytes put ahead leave what was moved
-gives_once : (place : Place) (old : Scripted) (new : Served) (bytes text : List ℕ)
-    → new ≡ record old.connection
-    { session = record old.connection.session { link = new.session.link } }
-    → new.session.link ≡ record old.connection.session.link {
-      put = old.connection.session.link.put ++ bytes;
-      reads_noted = old.connection.session.link.state.read_waits;
-    }
-    → Accounted link_state new_link new.session new.done new.last
-    → MayStand place (command.Give bytes) → IsRunning place old.connection
-    → ObeysOnce place old (command.Give bytes) text (record old { connection = new }) text
-gives_once place old new bytes text rest link since may running =
-    let before = old.connection.session.link in
-    let served : MemState → Served =
-    λ l. record old.connection { session = record old.connection.session { link = l } } in
-    record {
-      line = [];
-      text_is = sym (append-nil text);
-      obeys = (refl, ap (λ (c : Served). state_of (record old { connection = c })) (rest ∙ ap served link));
-      running = record {
-        accounted = since;
-        link = rw link (record {
-          gate = running.link.gate;
-          writes_noted = running.link.writes_noted;
-          reads = running.link.reads;
-          writes = running.link.writes;
-          end_at =
-              still_open place.ended before.end_at (length before.put)
-              (length (before.put ++ bytes)) may running.link.end_at;
-        });
-      };
-    }
-
--- the end is said after all that was put ahead
-ends_once : (place : Place) (old : Scripted) (new : Served) (text : List ℕ)
-    → new ≡ record old.connection
-    { session = record old.connection.session { link = new.session.link } }
-    → new.session.link ≡ record old.connection.session.link {
-      end_at = Some (unwrap_or old.connection.session.link.end_at
-          (length old.connection.session.link.put));
-      reads_noted = old.connection.session.link.state.read_waits;
-    }
-    → Accounted link_state new_link new.session new.done new.last
-    → MayStand place command.End → IsRunning place old.connection
-    → ObeysOnce place old command.End text (record old { connection = new }) text
-ends_once place old new text rest link since may running =
-    let before = old.connection.session.link in
-    let served : MemState → Served =
-    λ l. record old.connection { session = record old.connection.session { link = l } } in
-    record {
-      line = [];
-      text_is = sym (append-nil text);
-      obeys = (refl, ap (λ (c : Served). state_of (record old { connection = c })) (rest ∙ ap served link));
-      running = record {
-        accounted = since;
-        link = rw link (record {
-          gate = running.link.gate;
-          writes_noted = running.link.writes_noted;
-          reads = running.link.reads;
-          writes = running.link.writes;
-          end_at = let none = not_said place.ended before.end_at (length before.put) may running.link.end_at in
-              ap (λ (at : Option ℕ). Some (unwrap_or at (length before.put))) none;
-        });
-      };
-    }
-
 -- what follows of an Ok follows where there is one
 pub on_ok : {X E : Type 0} (r : Result X E) (P Q : Type 0) → (P → Q) → OnOk r P → OnOk r Q
 on_ok (Ok x) P Q goes h = goes h
 on_ok (Err e) P Q goes h = tt
-
--- the same of a command that is known to be this one
-pub gives_line : (place : Place) (old : Scripted) (new : Served) (asked : Command)
-    (bytes text : List ℕ)
-    → asked ≡ command.Give bytes
-    → new ≡ record old.connection
-    { session = record old.connection.session { link = new.session.link } }
-    → new.session.link ≡ record old.connection.session.link {
-      put = old.connection.session.link.put ++ bytes;
-      reads_noted = old.connection.session.link.state.read_waits;
-    }
-    → ((before : LinkState)
-    → Accounted link_state before old.connection.session old.connection.done old.connection.last
-    → Accounted link_state before new.session new.done new.last)
-    → MayStand place asked → IsRunning place old.connection
-    → ObeysOnce place old asked text (record old { connection = new }) text
-gives_line place old new asked bytes text is rest link since may running =
-    let Stands : Command → Type 0 = MayStand place in
-    let Goal : Command → Type 0 = λ asked. ObeysOnce place old asked text (record old { connection = new }) text in
-    subst Goal (sym is)
-    (gives_once place old new bytes text rest link (since new_link running.accounted) (subst Stands is may) running)
-
-pub ends_line : (place : Place) (old : Scripted) (new : Served) (asked : Command) (text : List ℕ)
-    → asked ≡ command.End
-    → new ≡ record old.connection
-    { session = record old.connection.session { link = new.session.link } }
-    → new.session.link ≡ record old.connection.session.link {
-      end_at = Some (unwrap_or old.connection.session.link.end_at
-          (length old.connection.session.link.put));
-      reads_noted = old.connection.session.link.state.read_waits;
-    }
-    → ((before : LinkState)
-    → Accounted link_state before old.connection.session old.connection.done old.connection.last
-    → Accounted link_state before new.session new.done new.last)
-    → MayStand place asked → IsRunning place old.connection
-    → ObeysOnce place old asked text (record old { connection = new }) text
-ends_line place old new asked text is rest link since may running =
-    let Stands : Command → Type 0 = MayStand place in
-    let Goal : Command → Type 0 = λ asked. ObeysOnce place old asked text (record old { connection = new }) text in
-    subst Goal (sym is)
-    (ends_once place old new text rest link (since new_link running.accounted) (subst Stands is may) running)
 
 -- later polls are told that the server shuts down
 shuts_once : (place : Place) (old : Scripted) (text : List ℕ) → IsRunning place old.connection
@@ -249,7 +129,7 @@ limits_once place old count text running = record {
   line = [];
   text_is = sym (append-nil text);
   obeys = (refl, refl);
-  running = record { accounted = running.accounted; link = running.link };
+  running = record { accounted = running.accounted; end_at = running.end_at };
 }
 
 pub limits_line : (place : Place) (old : Scripted) (asked : Command) (count : ℕ) (text : List ℕ)

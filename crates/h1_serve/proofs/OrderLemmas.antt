@@ -5,10 +5,10 @@ use Rattle.std.specs.Str.{bytes_eq}
 use Rattle.std.proofs.lemmas.Bool.Decides.{nat_tests}
 use Rattle.h1_words.specs.Number.{number_up_to, number_from, with_digit}
 use Rattle.h1_words.specs.ByteText.{bytes_of_text}
-use Rattle.h1_words.specs.Command.{behind_words, give_line, poll_line, limit_line, command_of}
+use Rattle.h1_words.specs.Command.{behind_words, give_line, poll_line, limit_line, room_line, fixed_command, either_command, command_of}
 use Rattle.h1_words.specs.Script.{at_line, stopped_at, ScriptOutcome, commands, faulty_at, may_follow, place_after, with_command, reading_behind, outcome_of, line_at, faulty_by, script_of, lines_of, first_line}
 use Rattle.h1_words.specs.declared.number.TheConstants.{MAX_DIGITS}
-use Rattle.h1_words.specs.declared.command.TheConstants.{LAST_MOMENT, MAX_LIMIT}
+use Rattle.h1_words.specs.declared.command.TheConstants.{LAST_MOMENT, MAX_LIMIT, MAX_ROOM}
 use Rattle.h1_words.specs.declared.script.TheConstants.{MAX_SCRIPT}
 use Rattle.h1_words.specs.declared.command.Command.{Command}
 use Rattle.h1_words.specs.declared.command.Command.TheVariants as command
@@ -62,12 +62,20 @@ limit_of_number : (o : Option ℕ) → IfSome (option_map command.Limit o) IsInT
 limit_of_number None = tt
 limit_of_number (Some n) = tt
 
-limit_in_time : (o : Option (List ℕ)) → IfSome (limit_line o) IsInTime
-limit_in_time None = tt
-limit_in_time (Some digits) = limit_of_number (number_up_to MAX_LIMIT digits)
+room_of_number : (o : Option ℕ) → IfSome (option_map command.Room o) IsInTime
+room_of_number None = tt
+room_of_number (Some n) = tt
+
+room_in_time : (o : Option (List ℕ)) → IfSome (room_line o) IsInTime
+room_in_time None = tt
+room_in_time (Some digits) = room_of_number (number_up_to MAX_ROOM digits)
+
+limit_in_time : (line : List ℕ) (o : Option (List ℕ)) → IfSome (limit_line line o) IsInTime
+limit_in_time line None = room_in_time (behind_words (codes "room ") line)
+limit_in_time line (Some digits) = limit_of_number (number_up_to MAX_LIMIT digits)
 
 poll_in_time : (line : List ℕ) (o : Option (List ℕ)) → IfSome (poll_line line o) IsInTime
-poll_in_time line None = limit_in_time (behind_words (codes "limit ") line)
+poll_in_time line None = limit_in_time line (behind_words (codes "limit ") line)
 poll_in_time line (Some digits) = poll_of_number (number_up_to LAST_MOMENT digits) (number_within LAST_MOMENT digits)
 
 give_of_bytes : (o : Option (List ℕ)) → IfSome (option_map command.Give o) IsInTime
@@ -83,14 +91,22 @@ chosen_in_time : (b : Bool) (c : Command) (o : Option Command) → IsInTime c �
 chosen_in_time true c o time h = time
 chosen_in_time false c o time h = h
 
+fixed_in_time : (line : List ℕ) → IfSome (fixed_command line) IsInTime
+fixed_in_time line =
+    let writes = chosen_in_time (bytes_eq line (codes "fault write")) command.FaultWrite None tt tt in
+    let reads = chosen_in_time (bytes_eq line (codes "fault read")) command.FaultRead _ tt writes in
+    let blocks = chosen_in_time (bytes_eq line (codes "block")) command.Block _ tt reads in
+    let shuts = chosen_in_time (bytes_eq line (codes "shutdown")) command.Shutdown _ tt blocks in
+    chosen_in_time (bytes_eq line (codes "end")) command.End _ tt shuts
+
+either_in_time : (line : List ℕ) (o : Option Command) → IfSome o IsInTime
+    → IfSome (either_command line o) IsInTime
+either_in_time line None time = give_in_time line (behind_words (codes "give ") line)
+either_in_time line (Some command) time = time
+
 -- the command of a line is in time
 command_in_time : (line : List ℕ) → IfSome (command_of line) IsInTime
-command_in_time line =
-    let given = give_line line (behind_words (codes "give ") line) in
-    let shuts = chosen_in_time (bytes_eq line (codes "shutdown")) command.Shutdown given tt
-    (give_in_time line (behind_words (codes "give ") line)) in
-    chosen_in_time (bytes_eq line (codes "end")) command.End
-    (cond (bytes_eq line (codes "shutdown")) (Some command.Shutdown) given) tt shuts
+command_in_time line = either_in_time line (fixed_command line) (fixed_in_time line)
 
 not_true : (b : Bool) → not b ≡ true → b ≡ false
 not_true true e = cc
@@ -104,6 +120,10 @@ neither false b e = (refl, not_true b e)
 may_stand : (place : Place) (c : Command) → may_follow place c ≡ true → MayStand place c
 may_stand place (command.Give bytes) e = not_true place.ended e
 may_stand place command.End e = not_true place.ended e
+may_stand place (command.Room count) e = tt
+may_stand place command.Block e = tt
+may_stand place command.FaultRead e = tt
+may_stand place command.FaultWrite e = tt
 may_stand place command.Shutdown e = tt
 may_stand place (command.Limit count) e = neither place.polled place.limited e
 may_stand place (command.Poll moment) e = grind (arith, nat_tests)

@@ -2,9 +2,11 @@ pub mod Input
 pub mod Output
 pub mod ExchangeText
 pub mod State
+pub mod LinkDoes
 pub mod PollLine
 pub mod Report
 pub mod Finished
+pub mod Planned
 pub mod Generated
 pub mod Listening
 pub mod Status

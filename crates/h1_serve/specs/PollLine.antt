@@ -1,5 +1,5 @@
 -- One poll of a script's connection: the states before and after it, and its answer.
-use Rattle.std.specs.Prelude.{◌≡◌, ◌≢◌, ℕ, ◌+◌, ◌<◌, ◌≤◌, List, [], ◌∷◌, ◌++◌, take, true, false, Some, None, IsTrue, IfSome, IfNone, codes}
+use Rattle.std.specs.Prelude.{◌≡◌, ◌≢◌, ℕ, ◌+◌, ◌≤◌, List, [], ◌∷◌, ◌++◌, true, Some, None, IfSome, IfNone, codes}
 use Rattle.std.specs.Fmt.{decimal}
 use Rattle.h1_error.specs.declared.error.ErrorType.TheVariants.{NoMemory}
 use Rattle.h1_error.specs.declared.progress.End.{End}
@@ -8,30 +8,26 @@ use Rattle.h1_error.specs.declared.progress.Waiting.{Waiting}
 use Rattle.h1_error.specs.declared.progress.Waiting.TheVariants as waiting
 use Rattle.h1_error.specs.declared.progress.Progress.{Progress}
 use Rattle.h1_error.specs.declared.progress.Progress.TheVariants as progress
-use Rattle.h1_link.specs.LinkState.{LinkState}
 use Rattle.h1_link.specs.Counts.{Rose, RoseBy}
 use Rattle.h1_link.specs.Later.{Later}
 use Rattle.h1_words.specs.Report.{answer_text}
 use Rattle.h1_transcript.specs.Agrees.{Agrees}
 use Rattle.h1_transcript.specs.Growth.{Extends}
-use Rattle.h1_transcript.specs.Ends.{EndCause, LacksSo}
+use Rattle.h1_transcript.specs.Ends.{EndCause, LacksSo, OfLast}
 use Rattle.h1_transcript.specs.Told.{ToldGrowth}
 use Rattle.h1_echo.specs.Echo.{EchoGives}
 use Rattle.h1_transcript.specs.Entries.{replies}
+use Rattle.h1_app.specs.Leaves.{Leaves}
 use Rattle.h1_serve.specs.State.{State, new_link, transcript}
+use Rattle.h1_serve.specs.LinkDoes.{GivesAhead, TakesWithin, FailsAsPlanned}
 use Rattle.h1_transfer.specs.declared.budget.TheConstants.{CALL_BUDGET}
 
--- no call of the link failed, and no write or flush was not ready
-pub record NothingFailed (link : LinkState) : Type 0 where
-  pub reads : link.read_faults ≡ 0
-  pub writes : link.write_faults ≡ 0
-  pub stalls : link.write_waits ≡ 0
-
--- when a poll answers that it waits: never for a write or for the application
+-- when a poll answers that it waits: never for the application
 abbrev pub PendsFor : State → State → Waiting → Type 0
 PendsFor s t waiting.Read = Rose s.link.read_waits t.link.read_waits
     × LacksSo new_link t.link t.done t.last
-PendsFor s t waiting.Write = ⊥
+PendsFor s t waiting.Write = Rose s.link.write_waits t.link.write_waits
+    × OfLast t.last (λ e. e.owed ≡ true)
 PendsFor s t waiting.App = ⊥
 PendsFor s t waiting.Budget = RoseBy CALL_BUDGET s.link.moves t.link.moves
     × ToldGrowth s.link.given t.link.given s.link.written t.link.written CALL_BUDGET
@@ -55,28 +51,25 @@ AnswerCause s t (progress.Ready reason) = (t.end ≡ Some reason) × HasMemory r
     × EndCause new_link s.link t.link t.done t.last reason
 
 -- One poll at a moment, between two states: what was read and written agrees with the transcript
--- and the limit, and goes on from the state before; the link gave only what was put ahead, and the
+-- and the limit, and goes on from the state before; the link did what the lines before set, and the
 -- answer has its cause.
 pub record Polls (moment : ℕ) (s : State) (answer : Progress) (t : State) : Type 0 where
-  pub put : t.put ≡ s.put
-  pub said : t.said ≡ s.said
   pub limit : t.limit ≡ s.limit
   pub shut : t.shut ≡ s.shut
   pub later : Later s.link t.link
   pub agrees : Agrees EchoGives t.limit new_link t.link (transcript t)
   pub extends : Extends moment s.shut s.link t.link (transcript s) (transcript t)
-  pub given : t.link.given ≡ Some (take t.link.bytes_in t.put)
-  -- the end was met only where it was said, after all that was put ahead
-  pub ended : IsTrue t.link.ended → (t.said ≡ true) × (t.link.given ≡ Some t.put)
-  -- a read was not ready only where all that was put ahead was given, and no end was said
-  pub waits : s.link.read_waits < t.link.read_waits → (t.link.given ≡ Some t.put) × (t.said ≡ false)
-  pub faultless : NothingFailed t.link
+  pub gives : GivesAhead s t
+  pub takes : TakesWithin s t
+  pub fails : FailsAsPlanned s t
   pub moves : t.link.moves ≤ s.link.moves + CALL_BUDGET
   -- at most one read was not ready for each reply that was made, and one more
   pub reads_not_ready : t.link.read_waits + replies (transcript s)
       ≤ s.link.read_waits + replies (transcript t) + 1
   -- after an end nothing more comes
   pub again : IfSome s.end (λ reason. (answer ≡ progress.Ready reason) × (t ≡ s))
+  -- a read or a write that failed is told, by the end or in the last exchange
+  pub leaves : IfNone s.end (Leaves s.link t.link t.last t.end)
   pub cause : IfNone s.end (AnswerCause s t answer)
 
 -- poll N: ANSWER

@@ -1,6 +1,8 @@
 -- What a script is reported as: a line for each poll, then what was read and written in the end.
-use Rattle.std.specs.Prelude.{◌≡◌, ℕ, List, [], ◌∷◌, ◌++◌, true, Option, Some, None}
+use Rattle.std.specs.Prelude.{◌≡◌, ℕ, ◌+◌, List, [], ◌∷◌, ◌++◌, true, Option, Some, None}
 use Rattle.h1_error.specs.declared.progress.Progress.{Progress}
+use Rattle.h1_link.specs.Counts.{raised}
+use Rattle.h1_link.specs.declared.memory.gate.Gate.TheVariants.{Room, Blocked}
 use Rattle.h1_words.specs.declared.command.Command.{Command}
 use Rattle.h1_words.specs.declared.command.Command.TheVariants as command
 use Rattle.h1_words.specs.Script.{script_of, commands}
@@ -12,6 +14,13 @@ use Rattle.h1_serve.specs.ExchangeText.{exchanges_lines, wrote_line}
 abbrev pub Obeys : State → Command → List ℕ → State → Type 0
 Obeys s (command.Give bytes) text t = (text ≡ []) × (t ≡ record s { put = s.put ++ bytes })
 Obeys s command.End text t = (text ≡ []) × (t ≡ record s { said = true })
+Obeys s (command.Room count) text t =
+    (text ≡ []) × (t ≡ record s { gate = Room (s.link.bytes_out + count) })
+Obeys s command.Block text t = (text ≡ []) × (t ≡ record s { gate = Blocked })
+Obeys s command.FaultRead text t =
+    (text ≡ []) × (t ≡ record s { reads_due = raised s.link.read_faults 1 })
+Obeys s command.FaultWrite text t =
+    (text ≡ []) × (t ≡ record s { writes_due = raised s.link.write_faults 1 })
 Obeys s command.Shutdown text t = (text ≡ []) × (t ≡ record s { shut = true })
 Obeys s (command.Limit count) text t = (text ≡ []) × (t ≡ s)
 Obeys s (command.Poll moment) text t =

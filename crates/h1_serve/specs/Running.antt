@@ -1,8 +1,6 @@
 -- What holds of a script's connection between two lines, and of the lines to come.
 use Rattle.std.specs.Prelude.{◌≡◌, ℕ, ◌≤◌, List, [], ◌∷◌, length, Bool, true, false, Option, Some, None}
 use Rattle.h1_link.specs.MemState.{MemState, new_mem_state}
-use Rattle.h1_link.specs.MemPlan.{faults_due}
-use Rattle.h1_link.specs.declared.memory.gate.Gate.TheVariants.{Open}
 use Rattle.h1_words.specs.declared.command.TheConstants.{LAST_MOMENT}
 use Rattle.h1_words.specs.declared.command.Command.{Command}
 use Rattle.h1_words.specs.declared.command.Command.TheVariants as command
@@ -16,6 +14,10 @@ use Rattle.h1_serve.specs.State.{link_state}
 abbrev pub IsInTime : Command → Type 0
 IsInTime (command.Give bytes) = Unit {0}
 IsInTime command.End = Unit {0}
+IsInTime (command.Room count) = Unit {0}
+IsInTime command.Block = Unit {0}
+IsInTime command.FaultRead = Unit {0}
+IsInTime command.FaultWrite = Unit {0}
 IsInTime command.Shutdown = Unit {0}
 IsInTime (command.Limit count) = Unit {0}
 IsInTime (command.Poll moment) = moment ≤ LAST_MOMENT
@@ -24,6 +26,10 @@ IsInTime (command.Poll moment) = moment ≤ LAST_MOMENT
 abbrev pub MayStand : Place → Command → Type 0
 MayStand place (command.Give bytes) = place.ended ≡ false
 MayStand place command.End = place.ended ≡ false
+MayStand place (command.Room count) = Unit {0}
+MayStand place command.Block = Unit {0}
+MayStand place command.FaultRead = Unit {0}
+MayStand place command.FaultWrite = Unit {0}
 MayStand place command.Shutdown = Unit {0}
 MayStand place (command.Limit count) = (place.polled ≡ false) × (place.limited ≡ false)
 MayStand place (command.Poll moment) = place.last_poll ≤ moment
@@ -40,14 +46,6 @@ abbrev pub EndsAt : Bool → Option ℕ → ℕ → Type 0
 EndsAt false end_at put = end_at ≡ None
 EndsAt true end_at put = end_at ≡ Some put
 
--- no fault was planned and none was met, and the link takes everything
-pub record IsScripted (ended : Bool) (link : MemState) : Type 0 where
-  pub gate : link.gate ≡ Open
-  pub writes_noted : link.writes_noted ≡ 0
-  pub reads : faults_due link.read_fault link.state.read_faults ≡ 0
-  pub writes : faults_due link.write_fault link.state.write_faults ≡ 0
-  pub end_at : EndsAt ended link.end_at (length link.put)
-
 pub record IsRunning {C A J : Type 0} (place : Place) (view : View MemState C A J) : Type 0 where
   pub accounted : Accounted link_state new_mem_state.state view.session view.done view.last
-  pub link : IsScripted place.ended view.session.link
+  pub end_at : EndsAt place.ended view.session.link.end_at (length view.session.link.put)

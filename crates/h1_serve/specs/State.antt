@@ -2,7 +2,11 @@
 use Rattle.std.specs.Prelude.{ℕ, List, [], ◌++◌, Bool, false, Option, None, is_some, option_to_list}
 use Rattle.h1_error.specs.declared.progress.End.{End}
 use Rattle.h1_link.specs.LinkState.{LinkState}
+use Rattle.h1_link.specs.Gate.{gate_from}
+use Rattle.h1_link.specs.MemPlan.{faults_due}
 use Rattle.h1_link.specs.MemState.{MemState, new_mem_state}
+use Rattle.h1_link.specs.declared.memory.gate.Gate.{Gate}
+use Rattle.h1_link.specs.declared.memory.gate.Gate.TheVariants.{Open}
 use Rattle.h1_transcript.specs.declared.transcript.Entry.{Entry}
 use Rattle.h1_echo.specs.declared.echo.EchoApp.{EchoApp}
 use Rattle.h1_echo.specs.declared.echo.EchoJob.{EchoJob}
@@ -18,6 +22,14 @@ pub record State : Type 0 where
   -- the bytes that were put ahead, and whether the end was said after them
   pub put : List ℕ
   pub said : Bool
+  -- how much the link takes by the last `room` or `block` line, the room counted from the first byte
+  -- that the link ever took
+  pub gate : Gate
+  -- how many reads and how many writes have failed once those that are planned fail
+  pub reads_due : ℕ
+  pub writes_due : ℕ
+  -- the flushes that weren't ready, which the link counts among the writes as well
+  pub flush_waits : ℕ
   -- how many requests more than the first may be served, and whether the server shuts down
   pub limit : Option ℕ
   pub shut : Bool
@@ -36,6 +48,10 @@ start_with limit = record {
   link = new_link;
   put = [];
   said = false;
+  gate = Open;
+  reads_due = 0;
+  writes_due = 0;
+  flush_waits = 0;
   limit = limit;
   shut = false;
   end = None;
@@ -47,6 +63,17 @@ transcript s = s.done ++ option_to_list s.last
 -- what every link has, of a link in memory
 abbrev pub link_state : MemState → LinkState
 link_state link = link.state
+
+-- what a link in memory takes, its room counted from its first byte
+abbrev pub gate_of : MemState → Gate
+gate_of link = gate_from link.gate link.state.bytes_out
+
+-- the faults once those that are planned are met
+abbrev pub reads_due_of : MemState → ℕ
+reads_due_of link = faults_due link.read_fault link.state.read_faults
+
+abbrev pub writes_due_of : MemState → ℕ
+writes_due_of link = faults_due link.write_fault link.state.write_faults
 
 -- what is seen of a script's connection
 abbrev pub Served : Type 0
@@ -60,6 +87,10 @@ state_of scripted = record {
   link = scripted.connection.session.link.state;
   put = scripted.connection.session.link.put;
   said = is_some scripted.connection.session.link.end_at;
+  gate = gate_of scripted.connection.session.link;
+  reads_due = reads_due_of scripted.connection.session.link;
+  writes_due = writes_due_of scripted.connection.session.link;
+  flush_waits = scripted.connection.session.link.flush_waits;
   limit = scripted.connection.limit;
   shut = scripted.shutdown;
   end = scripted.connection.end;

@@ -1,5 +1,5 @@
-//! What the causes of the exit statuses come to, what reports of one script have in common, and how
-//! many polls wait for their budget.
+//! What the causes of the exit statuses come to, what reports of one script have in common, which
+//! faults a script plans, and how many polls wait for their budget.
 ghost use Rattle.std.specs.Prelude.{◌≡◌, ◌⊎◌, ℕ, ◌+◌, ◌*◌, ◌≤◌, List, ◌++◌, length, Option, Some, None};
 ghost use Rattle.h1_link.specs.AcceptorState.{AcceptorState};
 ghost use Rattle.h1_link.specs.Counts.{Rose};
@@ -12,6 +12,9 @@ ghost use Rattle.h1_words.specs.declared.words.Task.TheVariants as task;
 ghost use Rattle.h1_words.specs.Script.{script_of, commands, faulty_at};
 ghost use Rattle.h1_serve.specs.Finished.{IsFinished, IsBehindPolls};
 ghost use Rattle.h1_serve.specs.Output.{Wrote, usage_line};
+ghost use Rattle.h1_serve.specs.Planned.{read_fault_lines, write_fault_lines};
+ghost use Rattle.h1_serve.specs.Report.{Lines};
+ghost use Rattle.h1_serve.specs.State.{State, start_with};
 ghost use Rattle.h1_serve.specs.Polled.{Tells, AreSpent, state_behind};
 ghost use Rattle.h1_serve.specs.Status.{Ends, DoneBy, StopsListening, Refused, GaveScript};
 
@@ -82,6 +85,15 @@ pub fn finished_reports_are_alike()
     ensures { (moment : ℕ) (script text other : List ℕ)
         → IsFinished moment script text → IsFinished moment script other
         → (told : List ℕ) × IsBehindPolls moment text told × IsBehindPolls moment other told }
+{}
+
+/// Of the calls of a script's link no more reads fail than lines `fault read` stood before, and no
+/// more writes than lines `fault write`; `asked` are the lines up to any of them.
+pub fn faults_are_planned()
+    ensures { (limit : Option ℕ) (asked : List Command) (text : List ℕ) (now : State)
+        → Lines (start_with limit) asked text now
+        → (now.link.read_faults ≤ read_fault_lines asked)
+        × (now.link.write_faults ≤ write_fault_lines asked) }
 {}
 
 /// Polls that each waited for their budget moved at least 64 bytes each, on a link that tells its

@@ -12,6 +12,7 @@ mod exchange;
 mod generated;
 mod input;
 mod laws;
+mod link_lines;
 mod listening;
 mod output;
 mod scripted;
@@ -19,8 +20,8 @@ mod status;
 
 pub use command::run;
 pub use laws::{
-    few_statuses_are_left, finished_reports_are_alike, polls_for_the_budget_are_few,
-    statuses_have_causes,
+    faults_are_planned, few_statuses_are_left, finished_reports_are_alike,
+    polls_for_the_budget_are_few, statuses_have_causes,
 };
 
 #[cfg(test)]

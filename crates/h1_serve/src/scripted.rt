@@ -1,18 +1,17 @@
 //! A script as it runs over a connection in memory.
-ghost use Rattle.std.specs.Prelude.{◌≡◌, ◌≤◌, ◌++◌, ◌∷◌, [], ℕ, List, OnOk, IfOk, Some, length, unwrap_or};
+ghost use Rattle.std.specs.Prelude.{◌≡◌, ◌≤◌, ◌++◌, ◌∷◌, [], ℕ, List, OnOk, IfOk, Some};
 ghost use Rattle.h1_words.specs.declared.command.Command.TheVariants as command;
 ghost use Rattle.h1_words.specs.declared.place.Place.{Place};
 ghost use Rattle.h1_words.specs.Script.{place_after};
-ghost use Rattle.h1_link.specs.LinkState.{LinkState};
-ghost use Rattle.h1_app.specs.Accounted.{Accounted};
 ghost use Rattle.h1_app.specs.View.{limit_of};
-ghost use Rattle.h1_serve.specs.State.{state_of, link_state, start_with};
+ghost use Rattle.h1_serve.specs.State.{state_of, start_with};
 ghost use Rattle.h1_serve.specs.PollLine.{IsAnswered, poll_line};
 ghost use Rattle.h1_serve.specs.Report.{IsTextOf, limit_in};
 ghost use Rattle.h1_serve.specs.Running.{MayStand, IsInTime, AreInOrder, first_place, IsRunning};
 ghost use Rattle.h1_serve.specs.Done.{ObeysOnce};
 
 use crate::exchange::{push_exchanges, push_written};
+use crate::link_lines::{give, plan_read_fault, plan_write_fault, say_end, set_block, set_room};
 use h1_app::{Connection, EchoApp, HttpServer, HttpServerOptions, NoModules};
 use h1_error::{End, Error, ErrorType, Progress};
 use h1_link::MemLink;
@@ -108,6 +107,22 @@ fn obey(
             say_end(&mut scripted.connection);
             Ok(())
         }
+        Command::Room(count) => {
+            set_room(&mut scripted.connection, *count);
+            Ok(())
+        }
+        Command::Block => {
+            set_block(&mut scripted.connection);
+            Ok(())
+        }
+        Command::FaultRead => {
+            plan_read_fault(&mut scripted.connection);
+            Ok(())
+        }
+        Command::FaultWrite => {
+            plan_write_fault(&mut scripted.connection);
+            Ok(())
+        }
         Command::Shutdown => {
             scripted.shutdown = true;
             Ok(())
@@ -116,42 +131,6 @@ fn obey(
         Command::Limit(_) => Ok(()),
         Command::Poll(moment) => poll(alloc, scripted, *moment, text),
     }
-}
-
-fn give(connection: &mut Echoed<MemLink>, bytes: &[u8]) -> Result<(), Error>
-    ensures link { OnOk result
-        (connection.new.session.link
-        ≡ record connection.old.session.link {
-          put = connection.old.session.link.put ++ bytes.now;
-          reads_noted = connection.old.session.link.state.read_waits;
-        }) }
-    ensures rest { connection.new
-        ≡ record connection.old
-        { session = record connection.old.session { link = connection.new.session.link } } }
-    ensures accounted { (before : LinkState)
-        → Accounted link_state before connection.old.session connection.old.done connection.old.last
-        → Accounted link_state before connection.new.session connection.new.done
-        connection.new.last }
-{
-    connection.with_link(|link| link.give(bytes))
-}
-
-fn say_end(connection: &mut Echoed<MemLink>)
-    ensures link { connection.new.session.link
-        ≡ record connection.old.session.link {
-          end_at = Some
-              (unwrap_or connection.old.session.link.end_at (length connection.old.session.link.put));
-          reads_noted = connection.old.session.link.state.read_waits;
-        } }
-    ensures rest { connection.new
-        ≡ record connection.old
-        { session = record connection.old.session { link = connection.new.session.link } } }
-    ensures accounted { (before : LinkState)
-        → Accounted link_state before connection.old.session connection.old.done connection.old.last
-        → Accounted link_state before connection.new.session connection.new.done
-        connection.new.last }
-{
-    connection.with_link(|link| link.end())
 }
 
 /// Polls once. Out of memory is no answer.

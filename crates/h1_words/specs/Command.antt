@@ -4,9 +4,9 @@ use Rattle.std.specs.Option.{option_map}
 use Rattle.std.specs.Str.{bytes_eq}
 use Rattle.h1_words.specs.ByteText.{bytes_of_text}
 use Rattle.h1_words.specs.Number.{number_up_to}
-use Rattle.h1_words.specs.declared.command.TheConstants.{LAST_MOMENT, MAX_LIMIT}
+use Rattle.h1_words.specs.declared.command.TheConstants.{LAST_MOMENT, MAX_LIMIT, MAX_ROOM}
 use Rattle.h1_words.specs.declared.command.Command.{Command}
-use Rattle.h1_words.specs.declared.command.Command.TheVariants.{Give, End, Shutdown, Limit, Poll}
+use Rattle.h1_words.specs.declared.command.Command.TheVariants.{Give, End, Room, Block, FaultRead, FaultWrite, Shutdown, Limit, Poll}
 
 -- what stands after these words at the front of a line
 abbrev pub behind_words : List ℕ → List ℕ → Option (List ℕ)
@@ -25,21 +25,44 @@ poll_command digits = option_map Poll (number_up_to LAST_MOMENT digits)
 abbrev pub limit_command : List ℕ → Option Command
 limit_command digits = option_map Limit (number_up_to MAX_LIMIT digits)
 
-abbrev pub limit_line : Option (List ℕ) → Option Command
-limit_line None = None
-limit_line (Some digits) = limit_command digits
+-- room N, below 2^64
+abbrev pub room_command : List ℕ → Option Command
+room_command digits = option_map Room (number_up_to MAX_ROOM digits)
+
+abbrev pub room_line : Option (List ℕ) → Option Command
+room_line None = None
+room_line (Some digits) = room_command digits
+
+abbrev pub limit_line : List ℕ → Option (List ℕ) → Option Command
+limit_line line None = room_line (behind_words (codes "room ") line)
+limit_line line (Some digits) = limit_command digits
 
 abbrev pub poll_line : List ℕ → Option (List ℕ) → Option Command
-poll_line line None = limit_line (behind_words (codes "limit ") line)
+poll_line line None = limit_line line (behind_words (codes "limit ") line)
 poll_line line (Some digits) = poll_command digits
 
 abbrev pub give_line : List ℕ → Option (List ℕ) → Option Command
 give_line line None = poll_line line (behind_words (codes "poll ") line)
 give_line line (Some text) = give_command text
 
--- end, or shutdown, or give TEXT, or poll N, or limit N
-abbrev pub command_of : List ℕ → Option Command
-command_of line =
+-- give TEXT, or poll N, or limit N, or room N
+abbrev pub text_command : List ℕ → Option Command
+text_command line = give_line line (behind_words (codes "give ") line)
+
+-- end, or shutdown, or block, or fault read, or fault write
+abbrev pub fixed_command : List ℕ → Option Command
+fixed_command line =
     if bytes_eq line (codes "end") then Some End
     else (if bytes_eq line (codes "shutdown") then Some Shutdown
-    else give_line line (behind_words (codes "give ") line))
+    else (if bytes_eq line (codes "block") then Some Block
+    else (if bytes_eq line (codes "fault read") then Some FaultRead
+    else (if bytes_eq line (codes "fault write") then Some FaultWrite
+    else None))))
+
+-- one of the fixed lines, or one with a text or a number
+abbrev pub either_command : List ℕ → Option Command → Option Command
+either_command line None = text_command line
+either_command line (Some command) = Some command
+
+abbrev pub command_of : List ℕ → Option Command
+command_of line = either_command line (fixed_command line)

@@ -4,7 +4,7 @@ use Rattle.std.specs.List.{slice_split}
 use Rattle.h1_words.specs.Command.{command_of}
 use Rattle.h1_words.specs.declared.script.TheConstants.{MAX_SCRIPT}
 use Rattle.h1_words.specs.declared.command.Command.{Command}
-use Rattle.h1_words.specs.declared.command.Command.TheVariants.{Give, End, Shutdown, Limit, Poll}
+use Rattle.h1_words.specs.declared.command.Command.TheVariants.{Give, End, Room, Block, FaultRead, FaultWrite, Shutdown, Limit, Poll}
 use Rattle.h1_words.specs.declared.place.Place.{Place}
 use Rattle.h1_words.specs.declared.script.ScriptFault.{ScriptFault}
 use Rattle.h1_words.specs.declared.script.ScriptFault.TheVariants as fault
@@ -26,11 +26,15 @@ pub data ScriptOutcome : Type 0 where
   commands : List Command → ScriptOutcome
   faulty_at : ℕ → ScriptOutcome
 
--- `give` doesn't stand after `end`, `end` stands once, `shutdown` anywhere, `limit` once and only
--- before the first poll, and no poll is before an earlier one
+-- `give` doesn't stand after `end`, `end` stands once, `limit` once and only before the first poll,
+-- and no poll is before an earlier one; every other line stands anywhere
 abbrev pub may_follow : Place → Command → Bool
 may_follow place (Give bytes) = not place.ended
 may_follow place End = not place.ended
+may_follow place (Room count) = true
+may_follow place Block = true
+may_follow place FaultRead = true
+may_follow place FaultWrite = true
 may_follow place Shutdown = true
 may_follow place (Limit count) = not place.polled && not place.limited
 may_follow place (Poll moment) = nat_le place.last_poll moment
@@ -39,6 +43,10 @@ may_follow place (Poll moment) = nat_le place.last_poll moment
 abbrev pub place_after : Place → Command → Place
 place_after place (Give bytes) = place
 place_after place End = record place { ended = true }
+place_after place (Room count) = place
+place_after place Block = place
+place_after place FaultRead = place
+place_after place FaultWrite = place
 place_after place Shutdown = place
 place_after place (Limit count) = record place { limited = true }
 place_after place (Poll moment) = record place { polled = true; last_poll = moment }

@@ -1,7 +1,7 @@
 //! The lines of a script, each by itself.
 ghost use Rattle.std.specs.Prelude.{◌≡◌, IfOk};
 ghost use Rattle.std.specs.Option.{option_copied};
-ghost use Rattle.h1_words.specs.Command.{behind_words, give_command, poll_command, limit_command, limit_line, poll_line, give_line, command_of};
+ghost use Rattle.h1_words.specs.Command.{behind_words, give_command, poll_command, limit_command, room_command, room_line, limit_line, poll_line, give_line, fixed_command, text_command, command_of};
 
 use crate::unescape::bytes_of_text;
 use crate::{Text, number_up_to};
@@ -14,6 +14,9 @@ pub const LAST_MOMENT: u64 = 253_402_300_799_999;
 /// The greatest limit that a script can set.
 pub const MAX_LIMIT: u32 = u32::MAX;
 
+/// The greatest room that a script can set.
+pub const MAX_ROOM: u64 = u64::MAX;
+
 /// What a line of a script asks for.
 #[derive(Debug, Drop)]
 pub enum Command {
@@ -21,6 +24,14 @@ pub enum Command {
     Give(Text),
     /// The link ends after what is ahead.
     End,
+    /// The link takes that many bytes more, and its flushes are ready.
+    Room(u64),
+    /// The link takes nothing, and no flush is ready.
+    Block,
+    /// The link's next read fails.
+    FaultRead,
+    /// The link's next write fails.
+    FaultWrite,
     /// The server shuts down: later polls are told so.
     Shutdown,
     /// Connections have this `keepalive_request_limit`.
@@ -33,12 +44,38 @@ pub enum Command {
 pub(crate) fn command_of(alloc: Global, line: &[u8]) -> Result<Option<Command>, Error>
     ensures { IfOk result (λ command. command ≡ command_of line.now) }
 {
+    match fixed_command(line) {
+        Some(command) => Ok(Some(command)),
+        None => text_command(alloc, line),
+    }
+}
+
+/// The command of a line that is the same words in every script.
+fn fixed_command(line: &[u8]) -> Option<Command>
+    ensures { result ≡ fixed_command line.now }
+{
     if line == b"end".as_slice() {
-        return Ok(Some(Command::End));
+        return Some(Command::End);
     }
     if line == b"shutdown".as_slice() {
-        return Ok(Some(Command::Shutdown));
+        return Some(Command::Shutdown);
     }
+    if line == b"block".as_slice() {
+        return Some(Command::Block);
+    }
+    if line == b"fault read".as_slice() {
+        return Some(Command::FaultRead);
+    }
+    if line == b"fault write".as_slice() {
+        return Some(Command::FaultWrite);
+    }
+    None
+}
+
+/// The command of a line that has a text or a number behind its first word.
+fn text_command(alloc: Global, line: &[u8]) -> Result<Option<Command>, Error>
+    ensures { IfOk result (λ command. command ≡ text_command line.now) }
+{
     if let Some(text) = behind_words(b"give ", line) {
         return give_command(alloc, text);
     }
@@ -47,6 +84,9 @@ pub(crate) fn command_of(alloc: Global, line: &[u8]) -> Result<Option<Command>, 
     }
     if let Some(digits) = behind_words(b"limit ", line) {
         return Ok(limit_command(digits));
+    }
+    if let Some(digits) = behind_words(b"room ", line) {
+        return Ok(room_command(digits));
     }
     Ok(None)
 }
@@ -80,6 +120,15 @@ fn limit_command(digits: &[u8]) -> Option<Command>
 {
     match number_up_to(u64::from(MAX_LIMIT), digits) {
         Some(limit) => Some(Command::Limit(limit as u32)),
+        None => None,
+    }
+}
+
+fn room_command(digits: &[u8]) -> Option<Command>
+    ensures { result ≡ room_command digits.now }
+{
+    match number_up_to(MAX_ROOM, digits) {
+        Some(count) => Some(Command::Room(count)),
         None => None,
     }
 }

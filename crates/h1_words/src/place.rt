@@ -23,7 +23,8 @@ impl Place {
     {
         match command {
             Command::Give(_) | Command::End => !self.ended,
-            Command::Shutdown => true,
+            Command::Room(_) | Command::Block => true,
+            Command::FaultRead | Command::FaultWrite | Command::Shutdown => true,
             Command::Limit(_) => !self.polled && !self.limited,
             Command::Poll(moment) => self.last_poll <= *moment,
         }
@@ -33,7 +34,8 @@ impl Place {
         ensures { result ≡ place_after self command.now }
     {
         match command {
-            Command::Give(_) | Command::Shutdown => self,
+            Command::Give(_) | Command::Room(_) | Command::Block => self,
+            Command::FaultRead | Command::FaultWrite | Command::Shutdown => self,
             Command::End => Place {
                 ended: true,
                 ..self

@@ -67,6 +67,35 @@ fn a_limit_and_a_shutdown_are_lines_of_the_grammar(rt: HostRuntime) {
 }
 
 #[test]
+fn rooms_blocks_and_faults_are_lines_of_the_grammar(rt: HostRuntime) {
+    let cases = [
+        (
+            "room 0\nblock\nfault read\nfault write\nlimit 1\nend\nroom 5\nblock\nblock",
+            None,
+        ),
+        ("end\nfault read\nfault write\nfault write\nroom 1", None),
+        ("room 18446744073709551615\npoll 0\nroom 1\npoll 0", None),
+        ("room 18446744073709551616", Some(1)),
+        ("room 00000000000000000007", None),
+        ("room 000000000000000000007", Some(1)),
+        ("room", Some(1)),
+        ("room ", Some(1)),
+        ("room -1", Some(1)),
+        ("room 1 ", Some(1)),
+        ("block\nblock 1", Some(2)),
+        ("block ", Some(1)),
+        ("fault", Some(1)),
+        ("fault ", Some(1)),
+        ("fault  read", Some(1)),
+        ("fault read ", Some(1)),
+        ("fault flush", Some(1)),
+    ];
+    for (script, expected) in cases {
+        assert_eq!(rt; line_of_fault(rt.alloc(), script), expected, "{script}");
+    }
+}
+
+#[test]
 fn a_script_that_is_too_long_is_faulty_at_the_line_of_the_byte_beyond(
     rt: HostRuntime,
 ) -> Result<(), Fail> {
@@ -99,6 +128,23 @@ fn a_script_gives_its_limit_and_each_shutdown(rt: HostRuntime) -> Result<(), Fai
             Command::Limit(7),
             Command::Poll(5),
             Command::Shutdown,
+        ] => true,
+        _ => false,
+    };
+    assert!(rt; in_order);
+    Ok(())
+}
+
+#[test]
+fn a_script_gives_its_rooms_blocks_and_faults(rt: HostRuntime) -> Result<(), Fail> {
+    let text = b"fault write\nroom 012\nblock\nfault read";
+    let script = parse_script(rt.alloc(), text).ok().ok_or("a script")?;
+    let in_order = match script.commands() {
+        [
+            Command::FaultWrite,
+            Command::Room(12),
+            Command::Block,
+            Command::FaultRead,
         ] => true,
         _ => false,
     };

@@ -29,5 +29,6 @@ returns c =
       moves = polled.moves;
       reads_not_ready = polled.reads_not_ready;
       ended = polled.ended;
+      leaves = polled.leaves;
       cause = if_none c.args.scripted.now.connection.end _ _ (λ cause. cause new_link running.accounted) polled.cause;
     }) before behind c.in_ok-check_memory.ensures is) c.push.ensures.ok
