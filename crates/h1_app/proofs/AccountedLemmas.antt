@@ -46,6 +46,7 @@ stops_on state old new kind.InvalidBody reader received ends h = rw reader h
 stops_on state old new kind.ConnectionClosed reader received ends h =
     (ends h.0, rw (received, reader) h.1)
 stops_on state old new kind.ReadError reader received ends h = rw (received, reader) h
+stops_on state old new kind.ReadTimedout reader received ends h = rw (received, reader) h
 stops_on state old new kind.NoMemory reader received ends h = tt
 stops_on state old new _ reader received ends h = absurd h
 
@@ -230,6 +231,10 @@ head_failed before old now done bytes error kind.ConnectionClosed all told h =
     (h.0, inl (all, lacks))
 head_failed before old now done bytes error kind.ReadError all told h =
     inl (refl, h.0, told_lacks before now done bytes all told h.1)
+head_failed before old now done bytes error kind.ReadTimedout all told h =
+    let lacks = read_map done before.given now.given (λ rest. rest ≡ bytes) (λ rest. EndsAs rest begun)
+    (λ rest e. subst (λ x. NotYetAt x × (0 < length x)) (sym e) (h.1, h.2)) told in
+    inl (h.0, all, lacks)
 head_failed before old now done bytes error kind.NoMemory all told h = tt
 head_failed before old now done bytes error _ all told h = absurd h
 

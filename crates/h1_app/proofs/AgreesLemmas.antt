@@ -46,6 +46,9 @@ refused_as state session e used kind.ConnectionClosed stops read = (
 refused_as state session e used kind.ReadError stops read =
     ap (λ xs. ahead e.body (length used) (reads session.body.reader xs)) stops.0
     ∙ ap (ahead e.body (length used)) stops.1 ∙ ap unfinished (append-nil e.body)
+refused_as state session e used kind.ReadTimedout stops read =
+    ap (λ xs. ahead e.body (length used) (reads session.body.reader xs)) stops.0
+    ∙ ap (ahead e.body (length used)) stops.1 ∙ ap unfinished (append-nil e.body)
 refused_as state session e used kind.NoMemory stops read = tt
 refused_as state session e used _ stops read = absurd stops
 

@@ -7,7 +7,7 @@ use Rattle.h1_app.specs.declared.exchange.Stage.TheVariants as stage
 use Rattle.h1_app.specs.declared.steps.answering.Asked.TheVariants as asked
 use Rattle.h1_application.specs.Application.{RefusedBy, RefusesWith, WaitsBy}
 use Rattle.h1_app.proofs.Words.{AsksAs, noted, Accounted, StopsBody, StopsWith, StoodSo, SoundStage, IsAnswering, IsKept, lent, StepReady, Stepped, MovesWithin, OutcomeCause, FewReadsNotReady}
-use Rattle.h1_transcript.specs.Growth.{RefusedIn}
+use Rattle.h1_transcript.specs.Growth.{RefusedIn, RoseFor}
 use Rattle.h1_transcript.proofs.GrowthLemmas.{stays_itself}
 use Rattle.h1_app.proofs.EndReplies.{stands_unfinished}
 use Rattle.h1_app.proofs.StepLemmas.{grown_stepped}
@@ -35,6 +35,7 @@ refusal_stops : {L C : Type 0} (state : L → LinkState) (old behind : SessionVi
 refusal_stops state old behind kind.InvalidBody h = h
 refusal_stops state old behind kind.ConnectionClosed h = h
 refusal_stops state old behind kind.ReadError h = h.1
+refusal_stops state old behind kind.ReadTimedout h = h.1
 refusal_stops state old behind kind.NoMemory h = tt
 refusal_stops state old behind _ h = absurd h
 
@@ -121,7 +122,7 @@ reads_why {L} {C} state old new e e2 answer a h is =
     × ((before : LinkState) (done : List Entry) → Accounted state before x done (Some e2)
     → LacksSo before (state x.link) done (Some e2)))
     (sym h.session) (
-      waits.2,
+      waits.1,
       λ before done s. (inl none, stands_unfinished state before done left e2 s waits.0),
     )
 
@@ -137,16 +138,17 @@ asked_on {L} {C} state old new e e2 e3 answer like a h before done s =
     (subst (λ (x : Entry). Accounted state before (given_back h.behind) done (Some x)) (sym is)
     (asked_accounted state old h.behind e e3.reply before done a h.reads s))
 
--- a refusal in the call for a failed read is one that the link had in it
+-- a refusal in the call for a read that failed or waited too long is one that the link had in it
 refused_in : {L C : Type 0} (state : L → LinkState) (old behind : SessionView L C)
     (was : Option Error) → RefusedBy state old behind was
     → RefusedIn (state old.link) (state behind.link) was behind.body.refused
 refused_in state old behind (Some error) h = tt
 refused_in state old behind None h = each behind.body.refused h
   where
-    of : (k : ErrorType) → BodyRefusal state old behind k → k ≡ kind.ReadError
-        → Rose (state old.link).read_faults (state behind.link).read_faults
-    of k h is = let both = rw is at h in both.0
+    of : (k : ErrorType) → BodyRefusal state old behind k → RoseFor (state old.link) (state behind.link) k
+    of kind.ReadError h = h.0
+    of kind.ReadTimedout h = h.0
+    of _ h = tt
 
     each : (now : Option Error) → IfSome now (RefusesWith state old behind)
         → RefusedIn (state old.link) (state behind.link) None now

@@ -1,5 +1,5 @@
 -- Steps that begin an exchange.
-use Rattle.std.proofs.Common.{◌≡◌, ℕ, ◌+◌, ◌*◌, ◌<◌, ◌≤◌, List, [], ◌∷◌, Bool, true, false, Option, Some, None, option_map, Ok, refl, sym, ◌∙◌, ap, subst, lit<, arith}
+use Rattle.std.proofs.Common.{inl, inr, ◌≡◌, ℕ, ◌+◌, ◌*◌, ◌<◌, ◌≤◌, List, [], ◌∷◌, Bool, true, false, Option, Some, None, option_map, Ok, refl, sym, ◌∙◌, ap, subst, lit<, arith}
 use Rattle.std.proofs.lemmas.Bool.{false≢true}
 use Rattle.std.proofs.lemmas.Option.{same_Some}
 use Rattle.h1_app.specs.Words.{Ready, LinkState, RequestView, body, reads, framing, SessionView, allowance, Request, Settings, Reply, Entry, Exchange, TranscriptView, Outgoing, Stage, Outcome, Given, IsSetAlike, IsAllowed, keepalive_set, replies}
@@ -51,16 +51,17 @@ less_ahead (Some all) now left job le is =
     rw is lower
 
 -- the setting of keep-alive changes nothing else
-set_alike : (settings : Settings) (seconds : Option ℕ)
+pub set_alike : (settings : Settings) (seconds : Option ℕ)
     → IsSetAlike settings (keepalive_set settings seconds)
-set_alike settings None = record { closing = refl; pipelining = refl; reuses = refl }
-set_alike settings (Some n) = record { closing = refl; pipelining = refl; reuses = refl }
+set_alike settings None = record { closing = refl; pipelining = refl; reuses = refl; times = refl }
+set_alike settings (Some n) = record { closing = refl; pipelining = refl; reuses = refl; times = refl }
 
-alike_on : (a b c : Settings) → IsSetAlike a b → IsSetAlike b c → IsSetAlike a c
+pub alike_on : (a b c : Settings) → IsSetAlike a b → IsSetAlike b c → IsSetAlike a c
 alike_on a b c first second = record {
   closing = second.closing ∙ first.closing;
   pipelining = second.pipelining ∙ first.pipelining;
   reuses = second.reuses ∙ first.reuses;
+  times = second.times ∙ first.times;
 }
 
 -- keep-alive is off where the connection shuts down
@@ -88,7 +89,7 @@ pub begun_stepped : {L C J : Type 0} (state : L → LinkState) (begins : J → T
     (runs : J → RequestView → Settings → Settings → List ℕ → Type 0) (now : ℕ) (shutdown : Bool)
     (x : Exchange L J C) (mid : SessionView L C) (transcript : TranscriptView) (to : Stage J) (n : ℕ)
     (result : Outcome)
-    → x.stage ≡ stage.Head → AtHead state x.session mid x.transcript.last (Ready (Ok (read.Head n)))
+    → x.stage ≡ stage.Head → AtHead state now x.session mid x.transcript.last (Ready (Ok (read.Head n)))
     → BegunAs begins runs
     (record mid { settings = keepalive_set mid.settings (head_time shutdown) })
     transcript.last to result
@@ -157,6 +158,7 @@ begun_stepped {L} {C} {J} state begins pends gives runs now shutdown x mid trans
           });
           begins_with = rw (h.alone, b.4, entry.began) alike;
           reads_not_ready = rw (h.alone, b.4) (omega (arith, unread, none));
+          timely = rw b.6 (inr (inl refl));
           outcome = rw (at, b.6) (
             (
               b.1,
@@ -185,6 +187,7 @@ begun_stepped {L} {C} {J} state begins pends gives runs now shutdown x mid trans
           extends = rw (h.alone, b.0) tt;
           begins_with = rw (h.alone, b.0) alike;
           reads_not_ready = rw (h.alone, b.0) (omega (arith, unread));
+          timely = rw (b.0, b.2) tt;
           outcome = λ before done s. memory_ends before (state old.link) (state new.link) done
               transcript.last reason b.2;
         }

@@ -1,21 +1,40 @@
 -- The steps that make one call that writes a part of a reply.
-use Rattle.std.proofs.Common.{Bool, Err, List, None, Ok, Option, Result, Some, [], ap, false, inl, refl, true, ℕ, ◌++◌, ◌+◌, ◌<◌, ◌∙◌, ◌≡◌, ◌≤◌}
-use Rattle.h1_app.specs.Words.{Called, Entry, Error, Exchange, Given, IsAllowed, IsRefused, LinkState, Outcome, Outgoing, Pending, Poll, Ready, Reply, Request, RequestView, RoseBy, Settings, Stage, Step, Writes, written_of}
+use Rattle.std.proofs.Common.{◌≢◌, ◌⊎◌, inr, Bool, Err, List, None, Ok, Option, Result, Some, [], ap, false, inl, refl, true, ℕ, ◌++◌, ◌+◌, ◌<◌, ◌∙◌, ◌≡◌, ◌≤◌}
+use Rattle.h1_app.specs.Words.{Called, Entry, Error, ErrorType, Exchange, FailureCause, Given, IsAllowed, IsRefused, LinkState, Outcome, Outgoing, Pending, Poll, Ready, Reply, Request, RequestView, Rose, RoseBy, Settings, Stage, Step, Writes, written_of}
+use Rattle.h1_error.specs.declared.error.ErrorType.TheVariants as kind
 use Rattle.h1_transfer.specs.Calls.{CallsFew, OneOther, succeeds, write_fault_of}
-use Rattle.h1_transfer.specs.Writes.{IsFree, IsSameMessage, IsWaiting}
+use Rattle.h1_transfer.specs.Writes.{IsFree, IsSameBody, IsWaiting}
 use Rattle.h1_app.proofs.LeavesLemmas.{write_fails}
 use Rattle.h1_app.proofs.PartLemmas.{Part, WritesPart, more_of, more_part, part_accounted, part_grows, part_replied, replying}
 use Rattle.h1_app.proofs.ReplyLemmas.{ahead_down, at_some, headed_on, moves_wrote, refused_cause, settled_owed, waits_why}
 use Rattle.h1_app.proofs.StepLemmas.{allowed_written, grown_stepped, unread_few}
 use Rattle.h1_app.proofs.Words.{IsHeaded, IsReplied, JobFrom, Leaves, OutcomeCause, SettledSo, SoundStage, StepReady, Stepped, coming, outcome_end, rank, still, ahead, place, StandsAfter, Continues, OthersFew}
 
--- what each call that writes a part answers: the part is owed, it is written, or it was refused
-abbrev pub AnswersCall : {T : Type 0} → LinkState → LinkState → Outgoing → Step → ℕ
+-- a part that waited too long, which only one of a body does
+abbrev pub IsLatePart : LinkState → LinkState → Bool → ErrorType → Type 0
+IsLatePart before now false k = ⊥
+IsLatePart before now true k = (k ≡ kind.WriteTimedout) × Rose before.write_waits now.write_waits
+
+-- what each call that writes a part answers, of a body or not: the part is owed, it is written, or it
+-- was refused
+abbrev pub AnswersCall : {T : Type 0} → LinkState → LinkState → Outgoing → Step → ℕ → Bool
     → Poll (Result T Error) → Type 0
-AnswersCall before now new step left Pending = IsWaiting before now new step left
-AnswersCall before now new step left (Ready (Ok value)) = IsFree new
-AnswersCall before now new step left (Ready (Err error)) =
-    IsRefused before now new step error error.kind × (error.retry ≡ false)
+AnswersCall before now new step left body Pending = IsWaiting before now new step left
+AnswersCall before now new step left body (Ready (Ok value)) = IsFree new
+AnswersCall before now new step left body (Ready (Err error)) =
+    (IsRefused before now new step error error.kind ⊎ IsLatePart before now body error.kind)
+    × (error.retry ≡ false)
+
+-- a part that was refused has its cause, with a reply that is owed
+late_cause : (before old now : LinkState) (done : List Entry) (reply : Outgoing) (step : Step) (e : Entry)
+    (body : Bool) (error : Error) (k : ErrorType) → e.owed ≡ true → (body ≡ true → e.sent_body ≢ None)
+    → IsRefused old now reply step error k ⊎ IsLatePart old now body k
+    → FailureCause before old now done (Some e) error k
+late_cause before old now done reply step e body error k owed sends (inl refused) =
+    refused_cause before old now done reply step (Some e) error k refused
+late_cause before old now done reply step e false error k owed sends (inr late) = absurd late
+late_cause before old now done reply step e true error k owed sends (inr late) =
+    rw late.0 (late.1, (sends refl, owed))
 
 -- what continues through such a step: a call that is done makes few calls of the link
 pub call_continues : {L C J T : Type 0} (state : L → LinkState) (same_plan : L → L → Type 0)
@@ -101,11 +120,12 @@ module _ {L C J : Type 0} (state : L → LinkState) (pends : J → ℕ) (gives :
       outcome
 
   -- the same where the reply is owed, by what the call answered
-  pub call_stepped : {T : Type 0} (p : Part) (taking : List ℕ) (left : ℕ) (step : Step)
+  pub call_stepped : {T : Type 0} (body : Bool) (p : Part) (taking : List ℕ) (left : ℕ) (step : Step)
       (answer : Poll (Result T Error)) (owed later : Stage J)
       → WritesPart state now x.session y.session taking left e p
       → y.transcript.last ≡ Some (replying e p) → p.owed ≡ true → IsAllowed gives (replying e p)
-      → AnswersCall (state x.session.link) (state y.session.link) y.session.reply step left answer
+      → (body ≡ true → (replying e p).sent_body ≢ None)
+      → AnswersCall (state x.session.link) (state y.session.link) y.session.reply step left body answer
       → (y.session.reply.refused ≡ None → y.session.reply.step ≡ step
       → SoundStage runs y.session (Some (replying e p)) owed)
       → (IsFree y.session.reply → SoundStage runs y.session (Some (replying e p)) later
@@ -113,15 +133,15 @@ module _ {L C J : Type 0} (state : L → LinkState) (pends : J → ℕ) (gives :
       × (ahead y.session.budget later < ahead x.session.budget x.stage))
       → StandsAfter answer owed later x.stage y.stage result
       → Stepped state pends gives runs now shutdown x y result
-  call_stepped {T} p taking left step answer owed later w is unflushed allowed told waits done
-      stands =
+  call_stepped {T} body p taking left step answer owed later w is unflushed allowed sends told waits
+      done stands =
       part_stepped p taking left w is
       (λ before done rose. settled_owed before (state y.session.link) done (replying e p) unflushed)
       allowed (by_answer answer told stands)
     where
       by_answer : (answer : Poll (Result T Error))
           → AnswersCall (state x.session.link) (state y.session.link) y.session.reply step left
-          answer
+          body answer
           → StandsAfter answer owed later x.stage y.stage result
           → OutcomeCause state pends runs x.session y.session (Some (replying e p)) x.stage y.stage
           result
@@ -135,8 +155,8 @@ module _ {L C J : Type 0} (state : L → LinkState) (pends : J → ℕ) (gives :
       by_answer (Ready (Ok value)) told stands = rw (stands.0, stands.1) (done told)
       by_answer (Ready (Err error)) told stands = rw stands.1 (λ before done s. (
         told.1,
-        refused_cause before (state x.session.link) (state y.session.link) done
-            y.session.reply step (Some (replying e p)) error error.kind told.0,
+        late_cause before (state x.session.link) (state y.session.link) done
+            y.session.reply step (replying e p) body error error.kind unflushed sends told.0,
       ))
 
   -- what is left of a round after a step to a later stage
@@ -153,14 +173,15 @@ module _ {L C J : Type 0} (state : L → LinkState) (pends : J → ℕ) (gives :
   )
 
   -- a call that goes on with a part takes nothing up
-  pub goes_on_stepped : {T : Type 0} (request : Request) (reply : Reply) (taking : List ℕ)
+  pub goes_on_stepped : {T : Type 0} (body : Bool) (request : Request) (reply : Reply) (taking : List ℕ)
       (left written : ℕ) (step : Step) (answer : Poll (Result T Error)) (from later : Stage J)
       → x.stage ≡ from → rank later < rank from → place later < place from
       → y.transcript.last ≡ Some (record e { written = written }) → written ≡ y.session.reply.sent
       → IsReplied e x.session request reply → IsHeaded e x.session reply
       → Writes state x.session y.session taking left
-      → (taking ≡ []) × IsSameMessage x.session.reply y.session.reply
-      → AnswersCall (state x.session.link) (state y.session.link) y.session.reply step left answer
+      → (taking ≡ []) × IsSameBody x.session.reply y.session.reply
+      → (body ≡ true → e.sent_body ≢ None)
+      → AnswersCall (state x.session.link) (state y.session.link) y.session.reply step left body answer
       → (IsReplied (record e { written = written }) y.session request reply
       → IsHeaded (record e { written = written }) y.session reply
       → y.session.reply.step ≡ step
@@ -171,8 +192,8 @@ module _ {L C J : Type 0} (state : L → LinkState) (pends : J → ℕ) (gives :
       → SoundStage runs y.session (Some (record e { written = written })) later)
       → StandsAfter answer from later x.stage y.stage result
       → Stepped state pends gives runs now shutdown x y result
-  goes_on_stepped request reply taking left written step answer from later stage less before is
-      count replied headed w takes told owed free stands =
+  goes_on_stepped body request reply taking left written step answer from later stage less before is
+      count replied headed w takes sends told owed free stands =
       let p : Part = more_of e e.owed written in
       let part : WritesPart state now x.session y.session taking left e p =
       more_part state now x.session y.session e e.owed written request reply taking left replied w
@@ -184,8 +205,8 @@ module _ {L C J : Type 0} (state : L → LinkState) (pends : J → ℕ) (gives :
       headed_on x.session y.session e (replying e p) reply refl refl refl takes.1.headed
       (ap (λ s. s.keep) w.rest) refused headed in
       let below = lower p taking left from later part stage less before in
-      call_stepped p taking left step answer from later part is headed.owed
+      call_stepped body p taking left step answer from later part is headed.owed
       (allowed_written gives e e.sent_body e.owed written allowed_before
       allowed_before.sent_body (λ owed. owed))
-      told (λ refused at_step. owed after (headed_after refused) at_step)
+      sends told (λ refused at_step. owed after (headed_after refused) at_step)
       (λ done. (free after (headed_after done.refused) done, below.0, below.1)) stands

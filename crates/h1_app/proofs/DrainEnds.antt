@@ -296,6 +296,10 @@ module _ {L C : Type 0} (state : L → LinkState) (old new : SessionView L C) (e
     inr (drain_done before done alive s, unrefused_still, h.0),
     stands_unfinished state before done new f s h.1,
   )
+  drain_fails before done error kind.ReadTimedout alive h s = inr (
+    inr (drain_done before done alive s, unrefused_still, h.0),
+    stands_unfinished state before done new f s h.1,
+  )
   drain_fails before done error kind.NoMemory alive h s = tt
   drain_fails before done error _ alive h s = absurd h
 

@@ -145,14 +145,14 @@ drained_shape {L} {C} drained behind new is session =
     session ∙ ap (λ (x : SessionView L C). record x { body = record x.body { kept = None } }) is
 
 -- one that is kept: the rest of the body was read
-reused_drained : {L C : Type 0} (state : L → LinkState) (old drained behind new : SessionView L C)
+reused_drained : {L C : Type 0} (state : L → LinkState) (now : ℕ) (old drained behind new : SessionView L C)
     (e f : Entry) (outcome : Poll (Result (Unit {0}) Error))
-    → DrainsBody state (lent old e.body) drained outcome
+    → DrainsBody state now (lent old e.body) drained outcome
     → behind ≡ record drained { reusable = behind.reusable }
     → new ≡ record behind { body = record behind.body { kept = None } }
     → f ≡ record e { body = payload_of behind }
     → Reused state old new e f
-reused_drained {L} {C} state old drained behind new e f outcome d is session entry =
+reused_drained {L} {C} state now old drained behind new e f outcome d is session entry =
     let made : Reused state old (taken_from drained behind.reusable) e f = record {
       piece = d.reads.received.piece;
       used = d.reads.used;
@@ -177,14 +177,14 @@ reused_drained {L} {C} state old drained behind new e f outcome d is session ent
     subst (λ (x : SessionView L C). Reused state old x e f) (sym (drained_shape drained behind new is session)) made
 
 -- the call, whatever it answered
-pub reused : {L C : Type 0} (state : L → LinkState) (old new : SessionView L C) (e f : Entry)
-    (answer : Poll (Result Bool Error)) → ReusesAs state old new e f answer
+pub reused : {L C : Type 0} (state : L → LinkState) (now : ℕ) (old new : SessionView L C) (e f : Entry)
+    (answer : Poll (Result Bool Error)) → ReusesAs state now old new e f answer
     → Reused state old new e f
-reused {L} {C} state old new e f answer h = by_alive (keeps_alive old) h.reuses
+reused {L} {C} state now old new e f answer h = by_alive (keeps_alive old) h.reuses
   where
-    by_alive : (t : Bool) → ReusesBy state (lent old e.body) h.behind answer t
+    by_alive : (t : Bool) → ReusesBy state now (lent old e.body) h.behind answer t
         → Reused state old new e f
-    by_alive true r = reused_drained state old r.0 h.behind new e f r.1 r.2 r.3 h.session h.entry
+    by_alive true r = reused_drained state now old r.0 h.behind new e f r.1 r.2 r.3 h.session h.entry
     by_alive false r = reused_shut state old h.behind new e f r.1 r.2 h.session h.entry
 
 -- bytes were received after the request where none may be
@@ -221,13 +221,13 @@ not_followed true received h = absurd (false≢true (sym h))
 not_followed false [] h = absurd (false≢true (sym h))
 not_followed false (b ∷ received) h = (refl, omega arith)
 
-answered_kept : {L C : Type 0} (state : L → LinkState) (old drained : SessionView L C)
+answered_kept : {L C : Type 0} (state : L → LinkState) (now : ℕ) (old drained : SessionView L C)
     (payload : List ℕ) (reusable : Bool) (outcome : Poll (Result (Unit {0}) Error))
     (answer : Poll (Result Bool Error)) → keeps_alive old ≡ true → IsSome old.budget → old.body.refused ≡ None
-    → DrainsBody state (lent old payload) drained outcome
+    → DrainsBody state now (lent old payload) drained outcome
     → ReuseAnswer (record drained { reusable = reusable }) outcome answer
     → Answered state old (taken_from drained reusable) answer
-answered_kept {L} {C} state old drained payload reusable outcome answer alive some unrefused d a =
+answered_kept {L} {C} state now old drained payload reusable outcome answer alive some unrefused d a =
     by_outcome outcome d.answer a
   where
     why : Rose (state old.link).read_waits (state drained.link).read_waits ⊎ (d.left ≡ 0)
@@ -264,16 +264,16 @@ answered_kept {L} {C} state old drained payload reusable outcome answer alive so
     by_outcome Pending h a =
         subst (λ x. Answered state old (taken_from drained reusable) x) (sym a.1) (alive, h.0, h.1, why h.2)
 
-pub answered : {L C : Type 0} (state : L → LinkState) (old new : SessionView L C) (e f : Entry)
+pub answered : {L C : Type 0} (state : L → LinkState) (now : ℕ) (old new : SessionView L C) (e f : Entry)
     (answer : Poll (Result Bool Error))
-    → IsSome old.budget → old.body.refused ≡ None → ReusesAs state old new e f answer
+    → IsSome old.budget → old.body.refused ≡ None → ReusesAs state now old new e f answer
     → Answered state old new answer
-answered {L} {C} state old new e f answer some unrefused h = by_alive (keeps_alive old) refl h.reuses
+answered {L} {C} state now old new e f answer some unrefused h = by_alive (keeps_alive old) refl h.reuses
   where
-    by_alive : (t : Bool) → keeps_alive old ≡ t → ReusesBy state (lent old e.body) h.behind answer t
+    by_alive : (t : Bool) → keeps_alive old ≡ t → ReusesBy state now (lent old e.body) h.behind answer t
         → Answered state old new answer
     by_alive true alive r =
-        let kept = answered_kept state old r.0 e.body h.behind.reusable r.1 answer alive some unrefused r.2
+        let kept = answered_kept state now old r.0 e.body h.behind.reusable r.1 answer alive some unrefused r.2
         (subst (λ (x : SessionView L C). ReuseAnswer x r.1 answer) r.3 r.4) in
         subst (λ (x : SessionView L C). Answered state old x answer)
         (sym (drained_shape r.0 h.behind new r.3 h.session)) kept
@@ -288,27 +288,27 @@ alive_replied true replied is = is
 alive_replied false replied is = refl
 
 -- the session is lent the payload, asked, and gives the payload back
-pub reuses_as : {L C : Type 0} (state : L → LinkState) (old asked behind new : SessionView L C)
+pub reuses_as : {L C : Type 0} (state : L → LinkState) (now : ℕ) (old asked behind new : SessionView L C)
     (e : Entry) (payload : List ℕ) (answer : Poll (Result Bool Error))
     → is_replied old.reply ≡ true → asked ≡ lent old e.body
-    → ReusesBy state asked behind answer (may_go_on asked)
+    → ReusesBy state now asked behind answer (may_go_on asked)
     → new ≡ record behind { body = record behind.body { kept = None } }
-    → payload ≡ payload_of behind → ReusesAs state old new e (record e { body = payload }) answer
-reuses_as {L} {C} state old asked behind new e payload answer replied lent_is reuses session is = record {
+    → payload ≡ payload_of behind → ReusesAs state now old new e (record e { body = payload }) answer
+reuses_as {L} {C} state now old asked behind new e payload answer replied lent_is reuses session is = record {
   behind = behind;
-  reuses = subst (λ t. ReusesBy state (lent old e.body) behind answer t)
+  reuses = subst (λ t. ReusesBy state now (lent old e.body) behind answer t)
       (alive_replied (keeps_alive old) (is_replied old.reply) replied)
-      (subst (λ (x : SessionView L C). ReusesBy state x behind answer (may_go_on x)) lent_is reuses);
+      (subst (λ (x : SessionView L C). ReusesBy state now x behind answer (may_go_on x)) lent_is reuses);
   session = session;
   entry = ap (λ xs. record e { body = xs }) is;
 }
 
 -- a call that reads the rest of a body does the same with a session that is lent a payload
-drains_lent : {L C : Type 0} (state : L → LinkState) (old drained : SessionView L C)
+drains_lent : {L C : Type 0} (state : L → LinkState) (now : ℕ) (old drained : SessionView L C)
     (payload : List ℕ) (outcome : Poll (Result (Unit {0}) Error))
-    → (d : DrainsBody state old drained outcome)
-    → DrainsBody state (lent old payload) (lent drained (payload ++ d.payload)) outcome
-drains_lent {L} {C} state old drained payload outcome d = record {
+    → (d : DrainsBody state now old drained outcome)
+    → DrainsBody state now (lent old payload) (lent drained (payload ++ d.payload)) outcome
+drains_lent {L} {C} state now old drained payload outcome d = record {
   payload = d.payload;
   left = d.left;
   parsed = d.parsed;
@@ -322,6 +322,7 @@ drains_lent {L} {C} state old drained payload outcome d = record {
   rest = ap (λ (s : SessionView L C). lent s (payload ++ d.payload)) d.rest;
   few = d.few;
   answer = by_outcome outcome d.answer;
+  timed = d.timed;
 }
   where
     by_outcome : (o : Poll (Result (Unit {0}) Error)) → DrainAnswer state old drained d.left o
@@ -331,12 +332,12 @@ drains_lent {L} {C} state old drained payload outcome d = record {
     by_outcome Pending h = h
 
 -- of a body that was read to its end nothing is read, so nothing has to be lent
-pub reuses_read : {L C : Type 0} (state : L → LinkState) (old new : SessionView L C) (e : Entry)
+pub reuses_read : {L C : Type 0} (state : L → LinkState) (now : ℕ) (old new : SessionView L C) (e : Entry)
     (answer : Poll (Result Bool Error)) → is_replied old.reply ≡ true → old.body.kept ≡ None
-    → is_whole (reads old.body.reader []) ≡ true → ReusesBy state old new answer (may_go_on old)
-    → ReusesAs state old new e e answer
-reuses_read {L} {C} state old new e answer replied none read reuses =
-    by_alive (keeps_alive old) refl (subst (λ t. ReusesBy state old new answer t)
+    → is_whole (reads old.body.reader []) ≡ true → ReusesBy state now old new answer (may_go_on old)
+    → ReusesAs state now old new e e answer
+reuses_read {L} {C} state now old new e answer replied none read reuses =
+    by_alive (keeps_alive old) refl (subst (λ t. ReusesBy state now old new answer t)
     (alive_replied (keeps_alive old) (is_replied old.reply) replied) reuses)
   where
     back : (kept : Option (List ℕ)) → new.body.kept ≡ kept → kept ≡ None
@@ -351,18 +352,18 @@ reuses_read {L} {C} state old new e answer replied none read reuses =
     asked payload (Ready (Err error)) h = h
     asked payload Pending h = h
 
-    by_alive : (t : Bool) → keeps_alive old ≡ t → ReusesBy state old new answer t
-        → ReusesAs state old new e e answer
+    by_alive : (t : Bool) → keeps_alive old ≡ t → ReusesBy state now old new answer t
+        → ReusesAs state now old new e e answer
     by_alive true is r =
         let all = e.body ++ r.2.payload in
         let ends = decoded_end old.body.reader r.0.body.reader r.2.reads.used r.2.payload
         r.2.reads.decoded read in
         record {
           behind = lent new all;
-          reuses = subst (λ t. ReusesBy state (lent old e.body) (lent new all) answer t) (sym is) (
+          reuses = subst (λ t. ReusesBy state now (lent old e.body) (lent new all) answer t) (sym is) (
             lent r.0 all,
             r.1,
-            drains_lent state old r.0 e.body r.1 r.2,
+            drains_lent state now old r.0 e.body r.1 r.2,
             ap (λ (s : SessionView L C). lent s all) r.3,
             asked all r.1 r.4,
           );
@@ -374,7 +375,7 @@ reuses_read {L} {C} state old new e answer replied none read reuses =
         }
     by_alive false is r = record {
       behind = lent new e.body;
-      reuses = subst (λ t. ReusesBy state (lent old e.body) (lent new e.body) answer t) (sym is)
+      reuses = subst (λ t. ReusesBy state now (lent old e.body) (lent new e.body) answer t) (sym is)
           (r.0, r.1, ap (λ (s : SessionView L C). lent s e.body) r.2);
       session = back old.body.kept (ap (λ (s : SessionView L C). s.body.kept) r.2) none;
       entry = refl;

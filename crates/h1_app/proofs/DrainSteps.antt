@@ -27,7 +27,7 @@ module _ {L C J : Type 0} (state : L → LinkState) (gives : Given → Reply →
     (x : Exchange L J C) (new : SessionView L C) (to : Stage J) (e f : Entry)
     (answer : Poll (Result Bool Error)) (result : Outcome)
     (ready : StepReady gives runs now x) (stage : x.stage ≡ at.Drain)
-    (was : x.transcript.last ≡ Some e) (reuses : ReusesAs state x.session new e f answer)
+    (was : x.transcript.last ≡ Some e) (reuses : ReusesAs state now x.session new e f answer)
     (called : CalledForReuse (state x.session.link) (state new.link) (keeps_alive x.session)
     (is_reused answer) (read_fault_of answer))
     (stands : StandsDrained answer (keeps_alive new) x.stage to result) where
@@ -36,10 +36,10 @@ module _ {L C J : Type 0} (state : L → LinkState) (gives : Given → Reply →
   draining = at_drain runs x.session x.transcript.last x.stage e stage was ready.sound
 
   did : Reused state x.session new e f
-  did = reused state x.session new e f answer reuses
+  did = reused state now x.session new e f answer reuses
 
   told : Answered state x.session new answer
-  told = answered state x.session new e f answer ready.budget draining.body reuses
+  told = answered state now x.session new e f answer ready.budget draining.body reuses
 
   -- a read was not ready at most once, and where the step goes on none was
   drained_few : FewReadsNotReady (state x.session.link) (state new.link) (e ∷ []) (f ∷ []) result

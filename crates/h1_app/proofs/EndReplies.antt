@@ -87,6 +87,8 @@ stop_cause state before old done session e error kind.ConnectionClosed s ends h 
     (h.0, inr (inl ends, stands_unfinished state before done session e s h.1))
 stop_cause state before old done session e error kind.ReadError s ends h =
     inr (inl ends, stands_unfinished state before done session e s h)
+stop_cause state before old done session e error kind.ReadTimedout s ends h =
+    inr (inl ends, stands_unfinished state before done session e s h)
 stop_cause state before old done session e error kind.NoMemory s ends h = tt
 stop_cause state before old done session e error _ s ends h = absurd h
 

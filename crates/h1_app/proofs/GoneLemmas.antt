@@ -1,6 +1,9 @@
 -- What steps of a connection leave, one after the other.
 use Rattle.std.proofs.Common.{◌≡◌, ℕ, ◌+◌, ◌-◌, ◌<◌, ◌≤◌, ◌⊎◌, inl, inr, List, ◌++◌, length, Bool, true, false, Option, Some, None, IsSome, option_map, refl, sym, ◌∙◌, ap, length-append, arith}
 use Rattle.h1_app.proofs.LeavesLemmas.{leaves_further, leaves_itself}
+use Rattle.h1_app.proofs.TimelyLemmas.{since_on}
+use Rattle.h1_app.specs.Timely.{WaitsSince}
+use Rattle.h1_app.specs.View.{since_of}
 use Rattle.h1_app.proofs.Words.{Leaves, WaitCause, PendedBy, Gone, Turned, still_calls, Accounted, MovesWithin, rank, WaitsOn, View, entries, Cause, PendedOn, PendedNew, JobNew, waiting_for, JobPends}
 use Rattle.std.specs.Prelude.{◌==◌, if◌then◌else◌}
 use Rattle.std.proofs.lemmas.Bool.{false≢true}
@@ -116,6 +119,15 @@ failure_back before older old now later done (Some e) error kind.ReadError (inr 
     let rose = λ (met : Rose old.read_faults now.read_faults).
     rose_read_faults 1 older old now now later met (later_itself now) in
     inr (stops_back before now done e error _ _ rose h.0, h.1)
+failure_back before older old now later done last error kind.ReadTimedout (inl h) =
+    inl (rose_read_waits 1 older old now now later h.0 (later_itself now), h.1, h.2)
+failure_back before older old now later done None error kind.ReadTimedout (inr h) = absurd h
+failure_back before older old now later done (Some e) error kind.ReadTimedout (inr h) =
+    let rose = λ (met : Rose old.read_waits now.read_waits).
+    rose_read_waits 1 older old now now later met (later_itself now) in
+    inr (stops_back before now done e error _ _ rose h.0, h.1)
+failure_back before older old now later done last error kind.WriteTimedout h =
+    (rose_write_waits 1 older old now now later h.0 (later_itself now), h.1)
 failure_back before older old now later done last error kind.WriteError h =
     rose_write_faults 1 older old now now later h (later_itself now)
 failure_back before older old now later done last error _ h = h
@@ -126,6 +138,13 @@ pub end_back : (before older old now : LinkState) → Later older old
     → EndCause before old now done last reason → EndCause before older now done last reason
 end_back before older old now later done last (end.Failed error) h =
     (h.0, failure_back before older old now later done last error error.kind h.1)
+end_back before older old now later done last end.Finished h =
+    (h.0, finished_back h.1, h.2)
+  where
+    finished_back : (now.ended ≡ true) ⊎ Rose old.read_waits now.read_waits
+        → (now.ended ≡ true) ⊎ Rose older.read_waits now.read_waits
+    finished_back (inl ended) = inl ended
+    finished_back (inr rose) = inr (rose_read_waits 1 older old now now later rose (later_itself now))
 end_back before older old now later done last _ h = h
 
 -- the job that was there waits
@@ -215,6 +234,8 @@ pub record IsOnWay {L C A J : Type 0} (state : L → LinkState) (begins : J → 
   pub turned : Turned state same_plan now shutdown from to false
   pub alive : to.end ≡ None
   pub budget : IsSome to.session.budget
+  -- since when the reading of a head waits
+  pub since : WaitsSince now (since_of from) (since_of to)
   pub stands : Stands begins from to
 
 pub way_itself : {L C A J : Type 0} (state : L → LinkState) (begins : J → Type 0)
@@ -226,6 +247,7 @@ way_itself state begins same_plan now shutdown at plan alive some = record {
       (rw alive (leaves_itself (state at.session.link) at.last));
   alive = alive;
   budget = some;
+  since = inl refl;
   stands = inl (refl, refl);
 }
 
@@ -235,12 +257,14 @@ pub way_on : {L C A J : Type 0} {state : L → LinkState} {begins : J → Type 0
     → (same_plan a.session.link b.session.link → same_plan b.session.link c.session.link
     → same_plan a.session.link c.session.link) → IsOnWay state begins same_plan now shutdown a b
     → Turned state same_plan now shutdown b c false → c.end ≡ None
+    → WaitsSince now (since_of b) (since_of c)
     → (length c.done ≡ length b.done → rank c.stage < rank b.stage) → JobNew begins c.stage
     → IsOnWay state begins same_plan now shutdown a c
-way_on {L} {C} {A} {J} {state} {begins} a b c on x y alive less new = record {
+way_on {L} {C} {A} {J} {state} {begins} {same_plan} {now} a b c on x y alive waits less new = record {
   turned = turned_on a b c on x.alive x.turned y;
   alive = alive;
   budget = some_left state b.session c.session y.gone.moves x.budget;
+  since = since_on now (since_of a) (since_of b) (since_of c) x.since waits;
   stands = inr (
     new,
     λ same. falls x.stands (omega (

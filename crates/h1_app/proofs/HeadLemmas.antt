@@ -1,6 +1,6 @@
 -- Steps that read a head.
-use Rattle.std.proofs.Common.{◌≡◌, ℕ, ◌+◌, ◌≤◌, inl, inr, List, [], Bool, true, Option, None, IfNone, IsSome, Result, Ok, Err, refl, sym, ◌∙◌, ap, subst, arith}
-use Rattle.h1_app.specs.Words.{Poll, Ready, Pending, Error, LinkState, RequestView, SessionView, allowance, Settings, Reply, Entry, Exchange, Outcome, Stage, Given, AfterRead, EndCause, IfTold}
+use Rattle.std.proofs.Common.{◌≡◌, ◌⊎◌, ℕ, ◌+◌, ◌≤◌, inl, inr, List, [], Bool, true, Option, None, IfNone, IsSome, Result, Ok, Err, refl, sym, ◌∙◌, ap, subst, arith}
+use Rattle.h1_app.specs.Words.{Poll, Ready, Pending, Error, LinkState, Rose, RequestView, SessionView, BodyState, allowance, Settings, Reply, Entry, Exchange, Outcome, Stage, Given, AfterRead, EndCause, IfTold, IsSetAlike}
 use Rattle.h1_error.specs.declared.progress.Waiting.TheVariants as waiting
 use Rattle.h1_error.specs.declared.progress.End.TheVariants as end
 use Rattle.h1_server.specs.Requests.{ReadsRequest, HeadAnswer, BeginsNone}
@@ -10,35 +10,52 @@ use Rattle.h1_server.specs.declared.request.NoRequest.{NoRequest}
 use Rattle.h1_server.specs.declared.request.NoRequest.TheVariants.{Closed, IdleTimeout}
 use Rattle.h1_app.specs.declared.exchange.Stage.TheVariants as stage
 use Rattle.h1_app.specs.declared.exchange.Outcome.TheVariants as outcome
+use Rattle.h1_app.specs.Timely.{StepsInTime}
 use Rattle.h1_app.proofs.Words.{Accounted, SoundStage, IsAwaiting, Stepped, OutcomeCause, FewReadsNotReady}
 use Rattle.h1_transcript.proofs.BehindLemmas.{read_map}
 use Rattle.h1_application.proofs.ReadLemmas.{budget_none}
 use Rattle.h1_app.proofs.AccountedLemmas.{told_ahead, told_lacks, accounted_received, moves_received, head_failed, all_done}
 
 -- the step's call, at a stage that awaits a head
-pub record AtHead {L C : Type 0} (state : L → LinkState) (old new : SessionView L C)
+pub record AtHead {L C : Type 0} (state : L → LinkState) (now : ℕ) (old new : SessionView L C)
     (last : Option Entry) (answer : Poll (Result ReadRequest Error)) : Type 0 where
   pub alone : last ≡ None
   pub awaiting : IsAwaiting old
-  pub reads : ReadsRequest state old new answer
+  pub reads : ReadsRequest state now old new answer
 
+-- what is set is no matter to a session that awaits a head
+awaits_set : {L C : Type 0} (old : SessionView L C) (settings : Settings) → IsSetAlike old.settings settings
+    → IsAwaiting old → IsAwaiting (record old { settings = settings })
+awaits_set old settings alike a = record {
+  request = a.request;
+  refused = a.refused;
+  unwritten = a.unwritten;
+  kept = a.kept;
+  body_refused = a.body_refused;
+  waits = a.waits;
+  times = alike.times ∙ a.times;
+}
+
+-- where these settings were set before the call
 pub at_head : {L C J : Type 0} (state : L → LinkState)
-    (runs : J → RequestView → Settings → Settings → List ℕ → Type 0) (old new : SessionView L C)
-    (last : Option Entry) (from : Stage J) (answer : Poll (Result ReadRequest Error))
-    → SoundStage runs old last from → from ≡ stage.Head
-    → IfNone old.refused (ReadsRequest state old new answer) → AtHead state old new last answer
-at_head state runs old new last from answer sound at read =
+    (runs : J → RequestView → Settings → Settings → List ℕ → Type 0) (now : ℕ) (old new : SessionView L C)
+    (settings : Settings) (last : Option Entry) (from : Stage J) (answer : Poll (Result ReadRequest Error))
+    → IsSetAlike old.settings settings → SoundStage runs old last from → from ≡ stage.Head
+    → IfNone old.refused (ReadsRequest state now (record old { settings = settings }) new answer)
+    → AtHead state now (record old { settings = settings }) new last answer
+at_head {L} {C} state runs now old new settings last from answer alike sound at read =
+    let set : SessionView L C = record old { settings = settings } in
     let s = rw at at sound in
     record {
       alone = s.0;
-      awaiting = s.1;
-      reads = subst (λ x. IfNone x (ReadsRequest state old new answer)) s.1.refused read;
+      awaiting = awaits_set old settings alike s.1;
+      reads = subst (λ x. IfNone x (ReadsRequest state now set new answer)) s.1.refused read;
     }
 
 -- the session still awaits a head
-still_awaits : {L C : Type 0} (state : L → LinkState) (old new : SessionView L C)
+still_awaits : {L C : Type 0} {now : ℕ} (state : L → LinkState) (old new : SessionView L C)
     (last : Option Entry) (answer : Poll (Result ReadRequest Error))
-    → (h : AtHead state old new last answer) → BeginsNone old new h.reads.bytes
+    → (h : AtHead state now old new last answer) → BeginsNone old new h.reads.bytes
     → new.refused ≡ None → IsAwaiting new
 still_awaits state old new last answer h none kept =
     let a = h.awaiting in
@@ -46,9 +63,10 @@ still_awaits state old new last answer h none kept =
       request = none.request;
       refused = kept;
       unwritten = rw (ap (λ s. s.reply) h.reads.rest) a.unwritten;
-      kept = rw none.body a.kept;
-      body_refused = rw none.body a.body_refused;
-      waits = rw none.body a.waits;
+      kept = ap (λ (b : BodyState). b.kept) none.body ∙ a.kept;
+      body_refused = ap (λ (b : BodyState). b.refused) none.body ∙ a.body_refused;
+      waits = ap (λ (b : BodyState). b.waits) none.body ∙ a.waits;
+      times = ap (λ (s : Settings). s.times) none.settings ∙ a.times;
     }
 
 -- the bytes that were given after the exchanges that ended, where no head was read
@@ -61,10 +79,10 @@ none_told state old new bytes before done none s =
     none.received (told_ahead new done before.given (state new.link).given none.request s.read)
 
 -- what a pending read of a head waits for
-pub head_waits : {L C J : Type 0} (state : L → LinkState) (pends : J → ℕ)
+pub head_waits : {L C J : Type 0} {now : ℕ} (state : L → LinkState) (pends : J → ℕ)
     (runs : J → RequestView → Settings → Settings → List ℕ → Type 0) (old new : SessionView L C)
     (last : Option Entry) (from : Stage J) → IsSome old.budget → from ≡ stage.Head
-    → (h : AtHead state old new last Pending)
+    → (h : AtHead state now old new last Pending)
     → OutcomeCause state pends runs old new None from from (outcome.Waits waiting.Read)
 head_waits state pends runs old new last from some at h =
     let a = h.reads.answer in (
@@ -84,22 +102,23 @@ head_waits state pends runs old new last from some at h =
 none_parts : {L C : Type 0} (state : L → LinkState) (old new : SessionView L C) (bytes : List ℕ)
     (left : ℕ) (why : NoRequest)
     → HeadAnswer state old new bytes left (Ready (Ok (read.None why)))
-    → BeginsNone old new bytes × (new.refused ≡ None) × ((state new.link).ended ≡ true)
+    → BeginsNone old new bytes × (new.refused ≡ None)
+    × (((state new.link).ended ≡ true) ⊎ Rose (state old.link).read_waits (state new.link).read_waits)
     × (bytes ≡ [])
-none_parts state old new bytes left Closed a = a
-none_parts state old new bytes left IdleTimeout a = absurd a
+none_parts state old new bytes left Closed a = (a.0, a.1, inl a.2, a.3)
+none_parts state old new bytes left IdleTimeout a = (a.0, a.1, inr a.2, a.3)
 
--- no request comes: the link ended, and no byte was received
-pub closed_none : {L C : Type 0} (state : L → LinkState) (old new : SessionView L C)
+-- no request comes: the link ended, or waited too long, and no byte was received
+pub closed_none : {L C : Type 0} {now : ℕ} (state : L → LinkState) (old new : SessionView L C)
     (last : Option Entry) (why : NoRequest)
-    → (h : AtHead state old new last (Ready (Ok (read.None why))))
+    → (h : AtHead state now old new last (Ready (Ok (read.None why))))
     → BeginsNone old new h.reads.bytes
 closed_none state old new last why h =
     (none_parts state old new h.reads.bytes h.reads.left why h.reads.answer).0
 
-pub closed_ends : {L C : Type 0} (state : L → LinkState) (old new : SessionView L C)
+pub closed_ends : {L C : Type 0} {now : ℕ} (state : L → LinkState) (old new : SessionView L C)
     (last : Option Entry) (why : NoRequest)
-    → AtHead state old new last (Ready (Ok (read.None why)))
+    → AtHead state now old new last (Ready (Ok (read.None why)))
     → (before : LinkState) (done : List Entry) → Accounted state before new done None
     → EndCause before (state old.link) (state new.link) done None end.Finished
 closed_ends state old new last why h before done s =
@@ -112,8 +131,8 @@ closed_ends state old new last why h before done s =
     )
 
 -- a head read that failed
-pub failed_ends : {L C : Type 0} (state : L → LinkState) (old new : SessionView L C)
-    (last : Option Entry) (error : Error) → AtHead state old new last (Ready (Err error))
+pub failed_ends : {L C : Type 0} {now : ℕ} (state : L → LinkState) (old new : SessionView L C)
+    (last : Option Entry) (error : Error) → AtHead state now old new last (Ready (Err error))
     → (before : LinkState) (done : List Entry) → Accounted state before new done None
     → EndCause before (state old.link) (state new.link) done None (end.Failed error)
 failed_ends state old new last error h before done s =
@@ -125,9 +144,9 @@ failed_ends state old new last error h before done s =
     )
 
 -- a read was not ready at most once
-pub none_few : {L C : Type 0} (state : L → LinkState) (old new : SessionView L C)
+pub none_few : {L C : Type 0} {now : ℕ} (state : L → LinkState) (old new : SessionView L C)
     (last : Option Entry) (answer : Poll (Result ReadRequest Error))
-    → AtHead state old new last answer
+    → AtHead state now old new last answer
     → (state new.link).read_waits + 0 ≤ (state old.link).read_waits + 0 + 1
 none_few state old new last answer h = let few = h.reads.few in omega (arith, few)
 
@@ -137,12 +156,13 @@ pub none_stepped : {L C J : Type 0} (state : L → LinkState) (pends : J → ℕ
     (runs : J → RequestView → Settings → Settings → List ℕ → Type 0)
     (now : ℕ) (shutdown : Bool) (x y : Exchange L J C) (answer : Poll (Result ReadRequest Error))
     (result : Outcome)
-    → (h : AtHead state x.session y.session x.transcript.last answer)
+    → (h : AtHead state now x.session y.session x.transcript.last answer)
     → BeginsNone x.session y.session h.reads.bytes → y.transcript.last ≡ x.transcript.last
     → FewReadsNotReady (state x.session.link) (state y.session.link) [] [] result
+    → StepsInTime state now x.stage x.session y.stage y.session None result
     → OutcomeCause state pends runs x.session y.session None x.stage y.stage result
     → Stepped state pends gives runs now shutdown x y result
-none_stepped state pends gives runs now shutdown x y answer result h none same few outcome =
+none_stepped state pends gives runs now shutdown x y answer result h none same few timely outcome =
     let r = h.reads in
     record {
       moves = moves_received state x.session y.session r.bytes r.left r.received r.budget
@@ -155,7 +175,8 @@ none_stepped state pends gives runs now shutdown x y answer result h none same f
       kept = rw (same, h.alone) tt;
       extends = rw (same, h.alone) tt;
       begins_with = rw (same, h.alone, none.settings)
-          (record { closing = refl; pipelining = refl; reuses = refl });
+          (record { closing = refl; pipelining = refl; reuses = refl; times = refl });
       reads_not_ready = rw (same, h.alone) few;
+      timely = rw (same, h.alone) timely;
       outcome = rw (same, h.alone) outcome;
     }

@@ -131,21 +131,21 @@ asked_fails state old new e e2 e3 answer error asks like =
     }
 
 -- the session was asked for its link's reuse
-pub called_reuse : {L C : Type 0} (state : L → LinkState) (old asked behind : SessionView L C)
+pub called_reuse : {L C : Type 0} (state : L → LinkState) (now : ℕ) (old asked behind : SessionView L C)
     (kept : Option (List ℕ)) (answer : Poll (Result Bool Error))
     → asked ≡ record old { body = record old.body { kept = kept } } → is_replied old.reply ≡ true
-    → ReusesBy state asked behind answer (may_go_on asked) → (may_go_on asked ≡ true
+    → ReusesBy state now asked behind answer (may_go_on asked) → (may_go_on asked ≡ true
     → Called (state asked.link) (state behind.link) (is_reused answer) (read_fault_of answer))
     → CalledForReuse (state old.link) (state behind.link) (keeps_alive old) (is_reused answer)
     (read_fault_of answer)
-called_reuse {L} {C} state old asked behind kept answer lent_is replied reuses called =
+called_reuse {L} {C} state now old asked behind kept answer lent_is replied reuses called =
     subst (λ t. CalledForReuse (state old.link) (state behind.link) t (is_reused answer) (read_fault_of answer))
     (alive_replied (keeps_alive old) (is_replied old.reply) replied)
     (subst (λ (x : SessionView L C). CalledForReuse (state x.link) (state behind.link) (may_go_on x)
     (is_reused answer) (read_fault_of answer))
     lent_is (by_alive (may_go_on asked) refl reuses))
   where
-    by_alive : (t : Bool) → may_go_on asked ≡ t → ReusesBy state asked behind answer t
+    by_alive : (t : Bool) → may_go_on asked ≡ t → ReusesBy state now asked behind answer t
         → CalledForReuse (state asked.link) (state behind.link) t (is_reused answer)
         (read_fault_of answer)
     by_alive true is r = let c = called is in record { others = c.others; faults = c.faults; shut = c.shut }

@@ -2,6 +2,8 @@ pub mod AgreesLemmas
 pub mod AnswerLemmas
 pub mod AskLemmas
 pub mod BeginLemmas
+pub mod SetLemmas
+pub mod TimelyLemmas
 pub mod BodyReplies
 pub mod DrainEnds
 pub mod DrainLemmas

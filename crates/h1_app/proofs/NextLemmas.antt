@@ -1,10 +1,11 @@
 -- What becomes of a connection where its last exchange is over and the next head is awaited.
-use Rattle.std.proofs.Common.{◌≡◌, ℕ, ◌+◌, ◌<◌, List, [], ◌∷◌, ◌++◌, length, Bool, true, false, Option, Some, None, refl, sym, ◌∙◌, ap, subst, append-nil, length-append, arith}
+use Rattle.std.proofs.Common.{◌≡◌, ℕ, ◌+◌, ◌<◌, inl, inr, List, [], ◌∷◌, ◌++◌, length, Bool, true, false, Option, Some, None, refl, sym, ◌∙◌, ap, subst, append-nil, length-append, arith}
 use Rattle.std.proofs.lemmas.Bool.{false≢true}
-use Rattle.h1_app.specs.Words.{End, LinkState, RequestView, AwaitsNext, AfterRead, WithinRead, may_follow, one_less, SessionView, Settings, Reply, Entry, Exchange, Stage, Given, AreBegun, IfTold, IsNextSet, reuses_at, IsAllowed, Extends}
+use Rattle.h1_app.specs.Words.{End, LinkState, RequestView, AwaitsNext, AfterRead, WithinRead, may_follow, one_less, BodyState, SessionView, Settings, Reply, Entry, Exchange, Stage, Given, AreBegun, IfTold, IsNextSet, reuses_at, IsAllowed, Extends}
 use Rattle.h1_app.specs.declared.exchange.Stage.TheVariants as stage
 use Rattle.h1_app.specs.declared.exchange.Outcome.TheVariants as outcome
 use Rattle.h1_app.proofs.Words.{Accounted, LastMayGoOn, JoinsNext, ReadSo, Turned, TurnCause, IsDoneIn, IsRestarted, Sound, SoundStage, IsDraining, MayGoOn, IsUnwritten, View, view_of, ahead}
+use Rattle.h1_app.specs.Timely.{StepsInTime}
 use Rattle.h1_app.proofs.LeavesLemmas.{leaves_itself, never_noted}
 use Rattle.h1_app.proofs.ReplyLemmas.{moves_none}
 use Rattle.h1_transcript.proofs.AloneLemmas.{within_all}
@@ -60,6 +61,7 @@ next_set limit old new done e d a reuses begun =
           ∙ sym (pipelining_last false done e);
       reuses = ap (λ (s : Settings). s.reuses) settings ∙ ap one_less left
           ∙ one_fewer limit (0 + length done) ∙ ap (reuses_at limit) more;
+      times = ap (λ (s : Settings). s.times) settings;
     }
 
 -- the next head is awaited, and the connection is sound
@@ -84,6 +86,7 @@ sound_joined gives runs limit old new done e s d a = record {
       kept = ap (λ b. b.kept) a.body.rest;
       body_refused = ap (λ b. b.refused) a.body.rest;
       waits = ap (λ b. b.waits) a.body.rest;
+      times = ap (λ s. s.settings.times) a.rest;
     },
   );
   next = next_set limit old new done e d a s.allowed.reuses s.begun;
@@ -209,3 +212,10 @@ caused_next {J = J} state begins pends app limit x y first second over is h =
       (λ same. absurd (omega (arith, same, length-append x.transcript.done (over.0 ∷ [])))),
       tt,
     )
+
+-- behind the step to the next exchange no read waits
+pub timely_next : {L C J : Type 0} (state : L → LinkState) (now : ℕ) (x y : Exchange L J C) → x.stage ≡ stage.Next
+    → JoinsNext x y
+    → StepsInTime state now x.stage x.session y.stage y.session y.transcript.last outcome.Done
+timely_next state now x y at joins = rw (at, joins.stage)
+    (inr (inl (ap (λ (b : BodyState). b.since.read) joins.awaits.body.rest)))

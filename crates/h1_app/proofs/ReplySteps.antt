@@ -1,14 +1,16 @@
 -- The steps that write the header and the body of a reply, whole.
-use Rattle.std.proofs.Common.{Bool, Err, IfNone, IfSome, List, None, Ok, Option, Result, Some, [], ap, arith, false, is_some, not, refl, sym, true, ℕ, ◌||◌, ◌∙◌, ◌≡◌}
+use Rattle.std.proofs.Common.{◌⊎◌, inl, inr, Bool, Err, IfNone, IfSome, List, None, Ok, Option, Result, Some, [], ap, arith, false, is_some, nat_lt, not, refl, sym, true, ℕ, ◌||◌, ◌∙◌, ◌≡◌}
 use Rattle.std.proofs.lemmas.Bool.{false≢true}
 use Rattle.std.proofs.lemmas.Option.{none-some, same_Some}
-use Rattle.h1_app.specs.Words.{Entry, Error, ErrorType, Exchange, FailureCause, Given, HeaderAnswer, HeaderCall, HeaderWrite, IsAllowed, IsLawful, LinkState, Outcome, Outgoing, Pending, Poll, Ready, Reply, Request, RequestView, ResponseView, SessionView, Settings, WritesHeader, WritesPiece, after_piece, allowance, given_to, is_passed_over}
+use Rattle.h1_app.specs.Words.{Entry, Error, ErrorType, Exchange, FailureCause, Given, HeaderAnswer, HeaderCall, HeaderWrite, IsAllowed, IsLawful, IsRefused, LinkState, Outcome, Outgoing, Rose, Step, Pending, Poll, Ready, Reply, Request, RequestView, ResponseView, SessionView, Settings, WritesHeader, WritesPiece, after_piece, allowance, given_to, is_passed_over}
 use Rattle.h1_body.specs.Writer.{piece_bytes}
 use Rattle.h1_error.specs.declared.head_fault.HeadFault.TheVariants.{UnsupportedVersion}
 use Rattle.h1_head.specs.Versions.{is_http_1, is_http_10, is_http_11}
 use Rattle.h1_server.specs.HeaderWrites.{HeaderRefusal}
+use Rattle.h1_server.specs.Times.{piece_deadline}
 use Rattle.h1_transfer.specs.BodyWrites.{piece_count}
-use Rattle.h1_transfer.specs.PieceWrites.{PieceAnswer}
+use Rattle.h1_transfer.specs.Deadline.{FailsInTime, IsTimed, Wait, is_timeout, noted_since}
+use Rattle.h1_transfer.specs.PieceWrites.{PieceAnswer, RefusesPiece}
 use Rattle.http.specs.declared.version.Http.{Http}
 use Rattle.http.specs.declared.version.Http.TheVariants.{Http10, Http11}
 use Rattle.http.specs.declared.version.Version.{Version}
@@ -26,18 +28,39 @@ use Rattle.h1_transfer.specs.declared.outgoing.Step.TheVariants as step
 
 header_answered : (before now : LinkState) (new : Outgoing) (left : ℕ)
     (answer : Poll (Result (Unit {0}) Error))
-    → HeaderAnswer before now new left answer → AnswersCall before now new step.Head left answer
+    → HeaderAnswer before now new left answer → AnswersCall before now new step.Head left false answer
 header_answered before now new left Pending told = told.0
 header_answered before now new left (Ready (Ok done)) told = told.0
-header_answered before now new left (Ready (Err error)) told = told
+header_answered before now new left (Ready (Err error)) told = (inl told.0, told.1)
 
-piece_answered : (before now : LinkState) (new : Outgoing) (count : Option ℕ) (left : ℕ)
-    (answer : Poll (Result (Option ℕ) Error))
+-- a piece that is refused was, as any write is, or it waited too long, while the last exchange's body
+-- was sent and its reply is owed
+piece_refused : (before now : LinkState) (new : Outgoing) (step : Step) (wait : Wait) (since : Option ℕ)
+    (error : Error) (k : ErrorType) → RefusesPiece before now new step error k
+    → FailsInTime (noted_since (Rose before.write_waits now.write_waits) wait since) (is_timeout k)
+    → IsRefused before now new step error k ⊎ ((k ≡ kind.WriteTimedout) × Rose before.write_waits now.write_waits)
+piece_refused before now new step wait since error kind.WriteTimedout told timed = inr (refl, timed.link)
+piece_refused before now new step wait since error kind.WriteError told timed = inl told
+piece_refused before now new step wait since error kind.NoMemory told timed = inl told
+piece_refused before now new step wait since error _ told timed = absurd told
+
+-- the wait of a call that writes a piece
+abbrev piece_wait : {L C : Type 0} → SessionView L C → ℕ → Option (List ℕ) → ℕ → Wait
+piece_wait session now piece left = record {
+  deadline = piece_deadline session.settings.times now session.reply piece;
+  moved = nat_lt left (allowance session.budget);
+  since = session.reply.write_since;
+}
+
+piece_answered : (before now : LinkState) (new : Outgoing) (count : Option ℕ) (left : ℕ) (wait : Wait)
+    (since : Option ℕ) (answer : Poll (Result (Option ℕ) Error))
     → PieceAnswer before now new count left answer
-    → AnswersCall before now new (step.Piece count) left answer
-piece_answered before now new count left Pending told = told.0
-piece_answered before now new count left (Ready (Ok taken)) told = told.0
-piece_answered before now new count left (Ready (Err error)) told = told
+    → IsTimed (noted_since (Rose before.write_waits now.write_waits) wait since) left answer
+    → AnswersCall before now new (step.Piece count) left true answer
+piece_answered before now new count left wait since Pending told timed = told.0
+piece_answered before now new count left wait since (Ready (Ok taken)) told timed = told.0
+piece_answered before now new count left wait since (Ready (Err error)) told timed =
+    (piece_refused before now new (step.Piece count) wait since error error.kind told.0 timed, told.1)
 
 -- nothing is handed in, and nothing back
 none_back : {L C : Type 0} (state : L → LinkState) (old new : SessionView L C) (request : Request)
@@ -90,9 +113,12 @@ module _ {L C J : Type 0} (state : L → LinkState) (pends : J → ℕ) (gives :
       x.session.request h.2 h.4.asked.is (at_none _ x.session.reply.refused h.5.refused call) in
       let w = none_back state x.session y.session h.2 kept now answer made in
       let begun = w.takes.1.writer ∙ h.7 in
-      goes_on_stepped state pends gives runs now shutdown x y result ready e h.1 h.2 h.3 w.taking
+      let same = w.takes.1 in
+      goes_on_stepped state pends gives runs now shutdown x y result ready e h.1 false h.2 h.3 w.taking
       w.left written step.Head answer at.Header at.TakeBody stage (omega arith) (omega arith)
-      (rw h.1 at is) count h.4 h.5 w.writes w.takes
+      (rw h.1 at is) count h.4 h.5 w.writes
+      (w.takes.0, record { headed = same.headed; writer = same.writer; handed = same.handed })
+      (λ never. absurd (false≢true never))
       (header_answered (state x.session.link) (state y.session.link) y.session.reply w.left answer
       w.answer)
       (λ r headed at_step. (f, refl, h.2, h.3, r, headed, h.6, begun, at_step))
@@ -105,22 +131,23 @@ module _ {L C J : Type 0} (state : L → LinkState) (pends : J → ℕ) (gives :
       → x.stage ≡ at.Body
       → IfSome x.transcript.last
       (λ e. y.transcript.last ≡ Some (record e { written = written }))
-      → IfNone x.session.reply.refused (WritesPiece state x.session y.session None kept answer)
+      → IfNone x.session.reply.refused (WritesPiece state now x.session y.session None kept answer)
       → written ≡ y.session.reply.sent
       → StandsAfter answer at.Body at.Finish x.stage y.stage result
       → Stepped state pends gives runs now shutdown x y result
   body_stepped kept answer written h stage is call count stands =
       let e : Entry = h.0 in
       let f : Entry = record e { written = written } in
-      let w : WritesPiece state x.session y.session None kept answer =
+      let w : WritesPiece state now x.session y.session None kept answer =
       at_none _ x.session.reply.refused h.5.refused call in
       let filled_is = w.takes.1.writer ∙ h.7 in
       let count_is : Option ℕ = piece_count x.session.reply None in
-      goes_on_stepped state pends gives runs now shutdown x y result ready e h.1 h.2 h.3 w.taking
+      goes_on_stepped state pends gives runs now shutdown x y result ready e h.1 true h.2 h.3 w.taking
       w.left written (step.Piece count_is) answer at.Body at.Finish stage (omega arith)
       (omega arith) (rw h.1 at is) count h.4 h.5 w.writes w.takes
+      (λ body none. none-some h.3.body (sym none ∙ h.6))
       (piece_answered (state x.session.link) (state y.session.link) y.session.reply count_is w.left
-      answer w.answer)
+      (piece_wait x.session now None w.left) y.session.reply.write_since answer w.answer w.timed)
       (λ r headed at_step. (f, refl, h.2, h.3, r, headed, h.6, filled_is, (count_is, at_step)))
       (λ r headed done. (f, refl, h.2, h.3, r, headed, h.6, rw done.free (done.owed, filled_is)))
       stands
@@ -177,11 +204,12 @@ module _ {L C J : Type 0} (state : L → LinkState) (pends : J → ℕ) (gives :
           part h.4 in
           let begun = header_begins state now x.session y.session h.0 h.2 h.3 answer text h.4 w in
           let noted = headed_noted state now x.session y.session h.0 h.2 h.3 answer text h.4 w in
-          call_stepped state pends gives runs now shutdown x y result ready h.0 h.1 p w.taking
+          call_stepped state pends gives runs now shutdown x y result ready h.0 h.1 false p w.taking
           w.left step.Head answer at.Header at.TakeBody part (is ∙ ap Some f_is) refl
           (header_allowed state now x.session y.session h.0 h.2 h.3 answer text h.4 w gives notes.0
           ready.moment ready.lawful
           (at_some (IsAllowed gives) x.transcript.last h.0 h.1 ready.allowed))
+          (λ never. absurd (false≢true never))
           (header_answered (state x.session.link) (state y.session.link) y.session.reply w.left
           answer w.answer)
           (λ refused at_step. (g, refl, h.2, h.3, r, noted refused, h.7, begun, at_step))
@@ -205,7 +233,7 @@ module _ {L C J : Type 0} (state : L → LinkState) (pends : J → ℕ) (gives :
       → y.session.keep ≡ x.session.keep
       → y.session.reply.writer ≡ filled h.0 h.3
       → AnswersCall (state x.session.link) (state y.session.link) y.session.reply (step.Piece count)
-      left answer
+      left true answer
       → StandsAfter answer at.Body at.Finish x.stage y.stage result
       → Stepped state pends gives runs now shutdown x y result
   body_taken_stepped answer written count taking left h stage is part headed keep writer told
@@ -218,11 +246,12 @@ module _ {L C J : Type 0} (state : L → LinkState) (pends : J → ℕ) (gives :
       headed_on x.session y.session h.0 f h.3 refl refl refl headed keep refused h.5 in
       let below = lower state pends gives runs now shutdown x y result ready h.0 h.1 p taking left
       at.TakeBody at.Finish part stage (omega arith) (omega arith) in
-      call_stepped state pends gives runs now shutdown x y result ready h.0 h.1 p taking left
+      call_stepped state pends gives runs now shutdown x y result ready h.0 h.1 true p taking left
       (step.Piece count) answer at.Body at.Finish part is h.5.owed
       (allowed_written gives h.0 (Some h.3.body) h.0.owed written
       (at_some (IsAllowed gives) x.transcript.last h.0 h.1 ready.allowed) (h.3, h.4.is, refl)
       (λ owed. owed))
+      (λ body none. none-some h.3.body (sym none))
       told
       (λ refused at_step. (f, refl, h.2, h.3, r, noted refused, refl, writer, (count, at_step)))
       (λ done. (
@@ -262,7 +291,7 @@ module _ {L C J : Type 0} (state : L → LinkState) (pends : J → ℕ) (gives :
       × (f ≡ record e { sent_body = Some reply.body })))
       → y.transcript.last ≡ Some (record f { written = written })
       → is_some piece ≡ not none → none ≡ false
-      → IfNone x.session.reply.refused (WritesPiece state x.session y.session piece kept answer)
+      → IfNone x.session.reply.refused (WritesPiece state now x.session y.session piece kept answer)
       → written ≡ y.session.reply.sent
       → StandsAfter answer at.Body at.Finish x.stage y.stage result
       → Stepped state pends gives runs now shutdown x y result
@@ -271,7 +300,7 @@ module _ {L C J : Type 0} (state : L → LinkState) (pends : J → ℕ) (gives :
       let b = at_some (λ reply. IsPieceOf reply.body piece
       × (f ≡ record h.0 { sent_body = Some reply.body })) h.0.reply h.3 h.4.is
       (rw h.1 at bodies) in
-      let w : WritesPiece state x.session y.session (Some h.3.body) kept answer =
+      let w : WritesPiece state now x.session y.session (Some h.3.body) kept answer =
       rw (some_body h.3.body piece none b.0 tells some) at
       (at_none _ x.session.reply.refused h.5.refused call) in
       let writer = w.takes.2 ∙ ap (λ x. after_piece x h.3.body) h.7 in
@@ -281,5 +310,6 @@ module _ {L C J : Type 0} (state : L → LinkState) (pends : J → ℕ) (gives :
       h.5.sent_head h.6 w.writes (w.takes.0 ∙ ap (λ x. piece_bytes x h.3.body) h.7) writer count)
       w.takes.1 (ap (λ s. s.keep) w.writes.rest) writer
       (piece_answered (state x.session.link) (state y.session.link) y.session.reply
-      (piece_count x.session.reply (Some h.3.body)) w.left answer w.answer)
+      (piece_count x.session.reply (Some h.3.body)) w.left
+      (piece_wait x.session now (Some h.3.body) w.left) y.session.reply.write_since answer w.answer w.timed)
       stands

@@ -1,10 +1,21 @@
 -- What a step of the exchange that is last leaves, whole.
-use Rattle.std.proofs.Common.{Bool, IfSome, List, None, Option, Some, [], ap, arith, refl, true, ℕ, ◌∷◌, ◌≡◌}
-use Rattle.h1_app.specs.Words.{Entry, Exchange, Given, Grows, IsAllowed, IsDated, IsLawful, LinkState, Outcome, Reply, RequestView, ResponseView, SessionView, Settings, replies}
+use Rattle.std.proofs.Common.{inl, inr, Bool, IfSome, List, None, Option, Some, [], ap, arith, refl, true, ℕ, ◌∷◌, ◌≡◌}
+use Rattle.h1_app.specs.Words.{Entry, Exchange, Given, Grows, IsAllowed, IsDated, IsLawful, LinkState, Outcome, Reply, RequestView, ResponseView, SessionView, Settings, Stage, replies}
 use Rattle.h1_transcript.proofs.GrowthLemmas.{grows_same}
+use Rattle.h1_app.specs.Timely.{StepsInTime}
 use Rattle.h1_app.proofs.ReplyLemmas.{at_some, moves_none}
+use Rattle.h1_app.proofs.TimelyLemmas.{head_none}
 use Rattle.h1_app.proofs.Words.{Accounted, FewReadsNotReady, IsKept, MovesWithin, OutcomeCause, StepReady, Stepped}
 use Rattle.h1_app.specs.declared.exchange.Outcome.TheVariants as outcome
+
+-- where an exchange goes on, no head is awaited behind the step
+grown_timely : {L C J : Type 0} (state : L → LinkState) (pends : J → ℕ)
+    (runs : J → RequestView → Settings → Settings → List ℕ → Type 0) (now : ℕ) (old new : SessionView L C)
+    (f : Entry) (from to : Stage J) (result : Outcome) → OutcomeCause state pends runs old new (Some f) from to result
+    → StepsInTime state now from old to new (Some f) result
+grown_timely state pends runs now old new f from to outcome.Done h = inr (inl (head_none runs new f to h.0))
+grown_timely state pends runs now old new f from to (outcome.Waits what) h = inr (inl (head_none runs new f to h.0))
+grown_timely state pends runs now old new f from to (outcome.Ends reason) h = tt
 
 -- the exchange that is last goes on
 pub grown_stepped : {L C J : Type 0} (state : L → LinkState) (pends : J → ℕ)
@@ -29,6 +40,7 @@ grown_stepped state pends gives runs now shutdown x y e f result was is went sin
       extends = rw (was, is) grows;
       begins_with = rw was tt;
       reads_not_ready = rw (was, is) few;
+      timely = rw is (grown_timely state pends runs now x.session y.session f x.stage y.stage result outcome);
       outcome = rw is outcome;
     }
 

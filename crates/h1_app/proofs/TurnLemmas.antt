@@ -46,6 +46,7 @@ set_alike limit i pipelining old new h alike = record {
   closing = alike.closing ∙ h.closing;
   pipelining_is = alike.pipelining ∙ h.pipelining_is;
   reuses = alike.reuses ∙ h.reuses;
+  times = alike.times ∙ h.times;
 }
 
 -- each exchange began as the one before it left what is set, after a step too

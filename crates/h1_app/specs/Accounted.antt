@@ -51,7 +51,7 @@ WroteSo since session (Some e) =
 abbrev pub StopsBody : {L C : Type 0} → (L → LinkState) → SessionView L C → ErrorType → Type 0
 StopsBody state session kind = SaysOfBody (reads session.body.reader [] ≡ broken [])
     (((state session.link).ended ≡ true) × Lacks session.body.reader session.received)
-    (Lacks session.body.reader session.received) kind
+    (Lacks session.body.reader session.received) (Lacks session.body.reader session.received) kind
 
 -- the error of the request's body has its cause, and isn't for a retry
 abbrev pub StopsWith : {L C : Type 0} → (L → LinkState) → SessionView L C → Error → Type 0

@@ -1,6 +1,7 @@
 -- How a session and the exchange that is last stand to each other until the application replies.
 use Rattle.std.specs.Prelude.{◌≡◌, ℕ, ◌^◌, ◌<◌, List, [], length, false, Some, None}
 use Rattle.h1_app.specs.Words.{wish, SessionView, Request, Outgoing, Entry}
+use Rattle.h1_server.specs.Times.{new_times}
 use Rattle.h1_transfer.specs.declared.outgoing.Step.TheVariants as step
 
 -- the session with the payload handed in, as the application is lent it
@@ -43,6 +44,7 @@ pub record IsAwaitingIn (session : Bare) : Type 0 where
   pub kept : session.body.kept ≡ None
   pub body_refused : session.body.refused ≡ None
   pub waits : session.body.waits ≡ false
+  pub times : session.settings.times ≡ new_times
 
 abbrev pub IsAwaiting : {L C : Type 0} → SessionView L C → Type 0
 IsAwaiting session = IsAwaitingIn (bare session)

@@ -1,5 +1,5 @@
 -- Reading what is left of a request's body after its reply, and going on to the next request.
-use Rattle.std.specs.Prelude.{◌≡◌, Bool, Option, None, Some, Result, Ok, Err, true, false}
+use Rattle.std.specs.Prelude.{◌≡◌, ℕ, Bool, Option, None, Some, Result, Ok, Err, true, false}
 use Rattle.h1_app.specs.Words.{Fault, FaultsBy, Poll, Ready, Pending, Error, LinkState, ReusesBy, keeps_alive, SessionView, Entry, Stage, Outcome, payload_of}
 use Rattle.h1_error.specs.declared.progress.Waiting.TheVariants as waiting
 use Rattle.h1_error.specs.declared.progress.End.TheVariants as end
@@ -9,11 +9,11 @@ use Rattle.h1_transfer.specs.Calls.{CallsFew}
 use Rattle.h1_app.specs.Answering.{lent}
 use Rattle.h1_app.specs.Replied.{IsDraining, MayGoOn}
 
--- the session was asked for its link's reuse as it is lent, and the payload went back to the exchange
-pub record ReusesAs {L C : Type 0} (state : L → LinkState) (old new : SessionView L C)
+-- the session was asked at a moment for its link's reuse as it is lent, and the payload went back to the exchange
+pub record ReusesAs {L C : Type 0} (state : L → LinkState) (now : ℕ) (old new : SessionView L C)
     (e noted : Entry) (answer : Poll (Result Bool Error)) : Type 0 where
   pub behind : SessionView L C
-  pub reuses : ReusesBy state (lent old e.body) behind answer (keeps_alive old)
+  pub reuses : ReusesBy state now (lent old e.body) behind answer (keeps_alive old)
   pub session : new ≡ record behind { body = record behind.body { kept = None } }
   pub entry : noted ≡ record e { body = payload_of behind }
 

@@ -4,6 +4,7 @@ use Rattle.h1_app.specs.Words.{YEAR_10000, LinkState, RequestView, Settings, Rep
 use Rattle.h1_app.specs.Accounted.{Accounted}
 use Rattle.h1_app.specs.Sound.{SoundStage, IsKept}
 use Rattle.h1_app.specs.Outcome.{OutcomeCause}
+use Rattle.h1_app.specs.Timely.{StepsInTime}
 use Rattle.h1_app.specs.Waits.{FewReadsNotReady, OthersFew}
 use Rattle.h1_app.specs.declared.exchange.Stage.TheVariants as stage
 
@@ -63,6 +64,9 @@ pub record Stepped {L C J : Type 0} (state : L → LinkState) (pends : J → ℕ
   -- reads that were not ready
   pub reads_not_ready : FewReadsNotReady (state old.session.link) (state new.session.link)
       (option_to_list old.transcript.last) (option_to_list new.transcript.last) result
+  -- what it leaves of the wait for a head
+  pub timely : StepsInTime state now old.stage old.session new.stage new.session
+      new.transcript.last result
   -- why it goes on, waits or ends
   pub outcome : OutcomeCause state pends runs old.session new.session new.transcript.last old.stage
       new.stage result

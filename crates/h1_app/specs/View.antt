@@ -1,6 +1,7 @@
 -- What contracts see of a connection.
 use Rattle.std.specs.Prelude.{◌≡◌, ℕ, List, [], ◌++◌, option_to_list, Option, Some, None}
 use Rattle.h1_app.specs.Words.{End, SessionView, Entry, Exchange, Stage}
+use Rattle.h1_app.specs.declared.exchange.Stage.TheVariants as stage
 use Rattle.h1_app.specs.declared.options.HttpServerOptions.{HttpServerOptions}
 
 pub record View (L C A J : Type 0) : Type 0 where
@@ -36,6 +37,15 @@ abbrev pub limit_of : Option HttpServerOptions → Option ℕ
 limit_of None = None
 limit_of (Some options) = options.keepalive_request_limit
 
+-- since when the reading of a head waits, in milliseconds, where one is awaited; `read` is since when
+-- the session's read does
+abbrev pub head_since : {J : Type 0} → Stage J → Option ℕ → Option ℕ
+head_since stage.Head read = read
+head_since _ read = None
+
+abbrev pub since_of : {L C A J : Type 0} → View L C A J → Option ℕ
+since_of view = head_since view.stage view.session.body.since.read
+
 -- a connection that read and wrote nothing yet
 pub record IsNewConnection {L C A J : Type 0} (application : A) (options : Option HttpServerOptions)
     (start : L) (made : View L C A J) : Type 0 where
@@ -44,4 +54,5 @@ pub record IsNewConnection {L C A J : Type 0} (application : A) (options : Optio
   pub limit : made.limit ≡ limit_of options
   pub done : made.done ≡ []
   pub last : made.last ≡ None
+  pub since : since_of made ≡ None
   pub end : made.end ≡ None

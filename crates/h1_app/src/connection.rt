@@ -62,6 +62,7 @@ impl<L: Link + Drop, SV: ServeHttp<L, C> + Drop, B: Drop, C: Drop> Connection<L,
     ghost use Rattle.h1_app.specs.Causes.{Cause};
     ghost use Rattle.h1_app.specs.Leaves.{Leaves};
     ghost use Rattle.h1_app.specs.Sound.{Sound};
+    ghost use Rattle.h1_app.specs.Timely.{IsTimely, StepsInTime};
     ghost use Rattle.h1_app.specs.Turn.{AccountedFrom, Turned, TurnCause, outcome_end, stops, waiting_for};
 
     /// A connection of this server over a link.
@@ -116,6 +117,7 @@ impl<L: Link + Drop, SV: ServeHttp<L, C> + Drop, B: Drop, C: Drop> Connection<L,
         ensures leaves { IfNone self.old.end
             (Leaves (L.state self.old.session.link)
             (L.state self.new.session.link) self.new.last self.new.end) }
+        ensures timely { IfNone self.old.end (IsTimely L.state now self.old self.new result) }
         ensures cause { IfNone self.old.end (AccountedFrom L.state self.old (λ before.
             Cause L.state SV.begins SV.pends before self.old self.new result)) }
     {
@@ -136,6 +138,7 @@ impl<L: Link + Drop, SV: ServeHttp<L, C> + Drop, B: Drop, C: Drop> Connection<L,
         ensures sound { Sound (SV.gives self.new.app)
             (SV.runs self.new.app) self.new.limit self.new.session self.new.done self.new.last
             self.new.stage self.new.end }
+        ensures timely { IsTimely L.state now self.old self.new result }
         ensures cause { AccountedFrom L.state self.old (λ before.
             Cause L.state SV.begins SV.pends before self.old self.new result) }
     {
@@ -161,6 +164,8 @@ impl<L: Link + Drop, SV: ServeHttp<L, C> + Drop, B: Drop, C: Drop> Connection<L,
             (SV.runs self.new.app) self.new.limit self.new.session self.new.done self.new.last
             self.new.stage self.new.end }
         ensures end { self.new.end ≡ outcome_end result }
+        ensures timely { StepsInTime L.state now self.old.stage self.old.session self.new.stage
+            self.new.session self.new.last result }
         ensures outcome { TurnCause L.state SV.begins SV.pends self.old self.new result }
     {
         let outcome = match self.exchange.stage {

@@ -19,7 +19,7 @@ ghost use Rattle.h1_app.specs.Accounted.{Accounted};
 ghost use Rattle.h1_transcript.specs.Agrees.{Agrees};
 ghost use Rattle.h1_app.specs.Causes.{Cause, PendedBy};
 ghost use Rattle.h1_transcript.specs.Ends.{EndCause};
-ghost use Rattle.h1_transcript.specs.Complete.{IsValid, GaveOf, AreWithin, NoFault, KeepsOn, ServesAll};
+ghost use Rattle.h1_transcript.specs.Complete.{IsValid, GaveOf, AreWithin, NoFault, IsInTime, KeepsOn, ServesAll};
 ghost use Rattle.h1_transcript.specs.Stream.{Message};
 ghost use Rattle.h1_app.specs.View.{View};
 
@@ -47,14 +47,14 @@ pub fn a_link_that_is_handed_on_goes_on<L: Link, C>()
 {}
 
 /// Valid input is served: where the application keeps the connection, the limit allows so many
-/// requests and no call of the link failed, every end is that of a connection whose requests were
-/// all served, or out of memory.
+/// requests, no call of the link failed and no limit of time was reached, every end is that of a
+/// connection whose requests were all served, or out of memory.
 pub fn valid_input_is_served<L: Link + Drop, SV: ServeHttp<L, C> + Drop, C: Drop>()
     ensures { (app : SV) (limit : Option ℕ) (before old now : LinkState) (input : List ℕ)
         (requests : List Message)
         → (done : List Entry) (last : Option Entry) (reason : End)
         → IsValid input requests → GaveOf input before now → AreWithin limit (length requests)
-        → NoFault old now
+        → NoFault old now → IsInTime now reason
         → Agrees (SV.gives app) limit before now (done ++ option_to_list last)
         → AllByRecursion KeepsOn (done ++ option_to_list last)
         → EndCause before old now done last reason

@@ -11,6 +11,7 @@ use Rattle.h1_body.proofs.RunLemmas.{ahead-ahead, ahead_none}
 use Rattle.h1_transfer.specs.Calls.{succeeds, read_fault_of}
 use Rattle.h1_server.specs.Payload.{PayloadAnswer, ReadsPayload}
 use Rattle.h1_transfer.specs.Payload.{refused_behind}
+use Rattle.h1_transfer.specs.BodyAnswers.{IsReadSo}
 use Rattle.h1_transfer.specs.Budget.{allowance}
 use Rattle.h1_transfer.proofs.MovedLemmas.{moved_itself, moved_on}
 use Rattle.h1_application.proofs.Words.{ReadsOnly, RefusedBy, WaitsBy}
@@ -99,6 +100,7 @@ refusal_on : {L C : Type 0} (state : L → LinkState) (a b c : SessionView L C) 
 refusal_on state a b c kind.InvalidBody later h = h
 refusal_on state a b c kind.ConnectionClosed later h = h
 refusal_on state a b c kind.ReadError later h = (let counts = later.counts in omega (arith, h.0), h.1)
+refusal_on state a b c kind.ReadTimedout later h = (let counts = later.counts in omega (arith, h.0), h.1)
 refusal_on state a b c kind.NoMemory later h = tt
 refusal_on state a b c _ later h = absurd h
 
@@ -119,7 +121,7 @@ waits_on : {L C : Type 0} (state : L → LinkState) (a b c : SessionView L C) (w
     → WaitsBy state b c waits → WaitsBy state a c waits
 waits_on state a b c false same h = h ∙ same
 waits_on state a b c true same h =
-    (h.0, h.1, subst (λ n. Rose n (state c.link).read_waits ⊎ (c.budget ≡ Some 0)) same h.2)
+    (h.0, subst (λ n. Rose n (state c.link).read_waits ⊎ (c.budget ≡ Some 0)) same h.1)
 
 refused_itself : {L C : Type 0} (state : L → LinkState) (s : SessionView L C)
     (refused : Option Error) → s.body.refused ≡ refused → RefusedBy state s s refused
@@ -221,9 +223,13 @@ payload_waits : {L C : Type 0} (state : L → LinkState) (old new : SessionView 
 payload_waits state old new payload left (Ready (Ok (Some piece))) there step h none =
     rw (h.3.waits, none) h.3.link_waits
 payload_waits state old new payload left (Ready (Ok None)) there step h none = rw (h.3.waits, none) h.3.link_waits
-payload_waits state old new payload left (Ready (Err error)) there step h none = rw (h.3.waits, none) h.3.link_waits
+payload_waits state old new payload left (Ready (Err error)) there step h none = by error.kind h.2 h.3 where
+  by : (k : ErrorType) → BodyRefusal state old new k
+      → IsReadSo (state old.link) (state new.link) old.body.waits new.body k → WaitsBy state old new new.body.waits
+  by kind.ReadTimedout why waits = rw waits (why.1, inl why.0)
+  by _ why at_once = rw (at_once.waits, none) at_once.link_waits
 payload_waits state old new payload left Pending there step h none =
-    rw h.3 (h.1, h.2, why h.4)
+    rw h.3 (h.1, why h.4)
   where
     why : Rose (state old.link).read_waits (state new.link).read_waits ⊎ (left ≡ 0)
         → Rose (state old.link).read_waits (state new.link).read_waits ⊎ (new.budget ≡ Some 0)
@@ -248,12 +254,12 @@ payload_fault state old new payload left (Ready (Err error)) h =
 payload_fault state old new payload left Pending h = rw h.2 refl
 
 -- one call that reads
-pub reads_payload : {L C : Type 0} (state : L → LinkState) (old new : SessionView L C)
+pub reads_payload : {L C : Type 0} (state : L → LinkState) (now : ℕ) (old new : SessionView L C)
     (outcome : Poll (Result (Option (List ℕ)) Error))
-    → IsSome old.budget → old.body.refused ≡ None → ReadsPayload state old new outcome
+    → IsSome old.budget → old.body.refused ≡ None → ReadsPayload state now old new outcome
     → Called (state old.link) (state new.link) (succeeds outcome) (read_fault_of outcome)
     → ReadsOnly state old new
-reads_payload state old new outcome there none call calls = record {
+reads_payload state now old new outcome there none call calls = record {
   piece = call.reads.received.piece;
   used = call.reads.used;
   payload = call.payload;
@@ -281,17 +287,17 @@ reads_payload state old new outcome there none call calls = record {
 }
 
 -- one call, which answers a refusal again
-pub reads_call : {L C : Type 0} (state : L → LinkState) (old new : SessionView L C)
+pub reads_call : {L C : Type 0} (state : L → LinkState) (now : ℕ) (old new : SessionView L C)
     (outcome : Poll (Result (Option (List ℕ)) Error))
     → IsSome old.budget
     → IfSome old.body.refused (λ error. (outcome ≡ Ready (Err error)) × (new ≡ old))
-    → IfNone old.body.refused (ReadsPayload state old new outcome)
+    → IfNone old.body.refused (ReadsPayload state now old new outcome)
     → Called (state old.link) (state new.link) (succeeds outcome) (read_fault_of outcome)
     → ReadsOnly state old new
-reads_call {L} {C} state old new outcome there again reads calls = by_refused old.body.refused refl again reads
+reads_call {L} {C} state now old new outcome there again reads calls = by_refused old.body.refused refl again reads
   where
     by_refused : (o : Option Error) → old.body.refused ≡ o
         → IfSome o (λ error. (outcome ≡ Ready (Err error)) × (new ≡ old))
-        → IfNone o (ReadsPayload state old new outcome) → ReadsOnly state old new
-    by_refused None is again reads = reads_payload state old new outcome there is reads calls
+        → IfNone o (ReadsPayload state now old new outcome) → ReadsOnly state old new
+    by_refused None is again reads = reads_payload state now old new outcome there is reads calls
     by_refused (Some error) is again reads = subst (ReadsOnly state old) (sym again.1) (reads_itself state old)

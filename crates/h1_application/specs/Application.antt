@@ -57,11 +57,12 @@ RefusedBy state old new (Some error) =
 RefusedBy state old new None =
     IfSome new.body.refused (λ error. RefusesWith state old new error)
 
--- where a read was pending, nothing is left to be used, and the link or the budget is why
+-- where a read was pending or waited too long, nothing is left to be used, and the link or the budget
+-- is why
 abbrev pub WaitsBy : {L C : Type 0} → (L → LinkState) → SessionView L C → SessionView L C → Bool
     → Type 0
 WaitsBy state old new false = (state new.link).read_waits ≡ (state old.link).read_waits
-WaitsBy state old new true = Lacks new.body.reader new.received × (new.body.refused ≡ None)
+WaitsBy state old new true = Lacks new.body.reader new.received
     × (Rose (state old.link).read_waits (state new.link).read_waits ⊎ (new.budget ≡ Some 0))
 
 -- The application only reads the body and sets what may be set: the bytes that it used become the
@@ -109,7 +110,7 @@ GivesReply gives given only (Ready (Ok reply)) = gives given reply
 GivesReply gives given only (Ready (Err error)) = only error
 
 -- A job's count rises by one with an answer that it isn't ready by itself, and with no other: a
--- pending answer is a pending read's, or the job's own.
+-- pending answer is that of a read that was pending or waited too long, or the job's own.
 abbrev pub PendsBy : {T : Type 0} → Poll T → ℕ → ℕ → Bool → Type 0
 PendsBy (Ready value) before now waits = now ≡ before
 PendsBy Pending before now true = now ≡ before

@@ -1,7 +1,7 @@
 -- Steps of the echo application.
 use Rattle.std.proofs.Common.{◌≡◌, ◌≢◌, ◌⊎◌, inl, inr, ℕ, ◌^◌, ◌<◌, ◌==◌, true, false, List, [], ◌∷◌, ◌++◌, length, Option, Some, None, IfSome, IfNone, IsSome, refl, sym, ap, ◌∙◌, subst, arith}
 use Rattle.h1_transfer.proofs.CalledLemmas.{called_itself, called_on}
-use Rattle.std.specs.Prelude.{codes, option_map, Result, Ok, Err, IfOk, IfErr, OnOk, decimal}
+use Rattle.std.specs.Prelude.{Bool, cond, not, bytes_eq, codes, option_map, Result, Ok, Err, IfOk, IfErr, OnOk, decimal}
 use Rattle.std.specs.Char.{digit_value}
 use Rattle.std.specs.Str.Parse.{AllDigits}
 use Rattle.std.proofs.lemmas.Fmt.{decimal_is_IsNumeral, decimal_digit}
@@ -60,14 +60,14 @@ only_memory result name value none h = by_result result (subst (λ (o : Option H
     by_result (Err error) h = h
 
 -- why a read that failed stops the reading; `P` is what reads give
-pub stop_cause : (P : Type 0) {L C : Type 0} (state : L → LinkState) (old new : SessionView L C)
+pub stop_cause : (P : Type 0) {L C : Type 0} (state : L → LinkState) (now : ℕ) (old new : SessionView L C)
     (error : Error) (stop : Stopped)
     → IfSome old.body.refused
     (λ kept. (◌≡◌ {A = Poll (Result P Error)} (Ready (Err error)) (Ready (Err kept)))
     × (new ≡ old))
-    → IfNone old.body.refused (ReadsPayload state old new (Ready (Err error)))
+    → IfNone old.body.refused (ReadsPayload state now old new (Ready (Err error)))
     → IsStopOf error.kind stop → StopCause state old new (Some stop)
-stop_cause P {L} {C} state old new error stop again reads is =
+stop_cause P {L} {C} state now old new error stop again reads is =
     by_kind error.kind refl (by_refused old.body.refused refl again reads) is
   where
     for_good : (body : Option (List ℕ)) (error : Error) (k : ErrorType) → error.kind ≡ k
@@ -78,7 +78,7 @@ stop_cause P {L} {C} state old new error stop again reads is =
     by_refused : (o : Option Error) → old.body.refused ≡ o
         → IfSome o (λ kept. (◌≡◌ {A = Poll (Result P Error)} (Ready (Err error)) (Ready (Err kept)))
         × (new ≡ old))
-        → IfNone o (ReadsPayload state old new (Ready (Err error))) → error.kind ≢ NoMemory
+        → IfNone o (ReadsPayload state now old new (Ready (Err error))) → error.kind ≢ NoMemory
         → new.body.refused ≡ Some error
     by_refused None is again reads other = reads.answer.1 ∙ for_good new.body.kept error error.kind refl other
     by_refused (Some kept) is again reads other =
@@ -192,6 +192,12 @@ reply_to_head None head body result there is h = absurd (false≢true there)
 reply_to_head (Some r) head body (Ok reply) there is h = h ∙ ap (λ asked. echo_reply asked body None) is
 reply_to_head (Some r) head body (Err error) there is h = tt
 
+-- a limit that was set is set again
+set_twice : (slow : Bool) (write : Option ℕ)
+    → cond slow (Some 1000) (cond slow (Some 1000) write) ≡ cond slow (Some 1000) write
+set_twice true write = refl
+set_twice false write = refl
+
 -- what is set in the end
 settings_are : (request : Option Request) (head : RequestView) (began old begun : Settings)
     → IsSome request → IfSome request (λ r. r.header ≡ head)
@@ -199,7 +205,11 @@ settings_are : (request : Option Request) (head : RequestView) (began old begun 
     → (old ≡ began) ⊎ (old ≡ echo_settings head began) → begun ≡ echo_settings head began
 settings_are None head began old begun there is set from = absurd (false≢true there)
 settings_are (Some r) head began old begun there is set (inl same) = rw (set, is, same) refl
-settings_are (Some r) head began old begun there is set (inr same) = rw (set, is, same) refl
+settings_are (Some r) head began old begun there is set (inr same) =
+    rw (set, is, same) (ap (λ (write : Option ℕ). record began {
+      pipelining = not (bytes_eq head.target (codes "/nopipe"));
+      times = record began.times { write = write };
+    }) (set_twice (bytes_eq head.target (codes "/slow")) began.times.write))
 
 -- an answer that is there, or wants memory
 answers : (given : Given) (reply : Reply) (result : Result Reply Error)

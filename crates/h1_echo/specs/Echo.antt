@@ -36,10 +36,16 @@ echo_reply head handed None =
     }
 echo_reply head handed (Some error) = refused_reply
 
--- pipelining is on but for one target
+-- how long the write of the reply's body may wait: for one target a second
+abbrev pub echo_write : RequestView → Option ℕ → Option ℕ
+echo_write head write = if bytes_eq head.target (codes "/slow") then Some 1000 else write
+
+-- pipelining is on but for one target, and for one the reply's body has a deadline
 abbrev pub echo_settings : RequestView → Settings → Settings
-echo_settings head began =
-    record began { pipelining = not (bytes_eq head.target (codes "/nopipe")) }
+echo_settings head began = record began {
+  pipelining = not (bytes_eq head.target (codes "/nopipe"));
+  times = record began.times { write = echo_write head began.times.write };
+}
 
 -- the replies of the echo application: it reads the body to its end or to its error
 pub record EchoGives (given : Given) (reply : Reply) : Type 0 where

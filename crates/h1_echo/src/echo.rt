@@ -17,8 +17,11 @@ use h1_transcript::Reply;
 use itoa::Buffer;
 use std::alloc::Global;
 
+/// How long the write of the body of a reply to `/slow` may wait, in milliseconds.
+const SLOW_WRITE: u64 = 1_000;
+
 /// Replies with the method, the target and the body of the request. Some targets make it state the
-/// body's length in another way, or turn pipelining off.
+/// body's length in another way, turn pipelining off, or limit the time of its write.
 #[derive(Clone, Copy, Debug, PartialEq, Eq)]
 pub struct EchoApp;
 
@@ -58,7 +61,7 @@ impl<L: Link + Drop, C: Drop> ServeHttp<L, C> for EchoApp {
         http: &mut HttpSession<L, C>,
         now: u64,
     ) -> Poll<Result<Reply, Error>> {
-        set_pipelining(http);
+        set_up(http);
         match read_body(&mut job.body, http, now) {
             Stopped::Waits => Poll::Pending,
             Stopped::Failed(error) => Poll::Ready(Err(error)),
@@ -80,15 +83,21 @@ pub(crate) enum Stopped {
     Failed(Error),
 }
 
-/// Lets bytes after the request begin the next one, unless the target says otherwise.
-fn set_pipelining<L: Link + Drop, C: Drop>(http: &mut HttpSession<L, C>)
+/// Lets bytes after the request begin the next one, unless the target says otherwise, and limits the
+/// time of the reply's write for one target.
+fn set_up<L: Link + Drop, C: Drop>(http: &mut HttpSession<L, C>)
     requires { IsSome http.old.request }
     ensures settings { IfSome http.old.request
         (λ request. http.new.settings ≡ echo_settings request.header http.old.settings) }
     ensures rest { http.new ≡ record http.old { settings = http.new.settings } }
 {
-    let enabled = http.req_header().raw_path() != b"/nopipe".as_slice();
+    let target = http.req_header().raw_path();
+    let enabled = target != b"/nopipe".as_slice();
+    let slow = target == b"/slow".as_slice();
     http.set_pipelining_enabled(enabled);
+    if slow {
+        http.set_write_timeout(Some(SLOW_WRITE));
+    }
 }
 
 /// Reads on until the body ends or can't be read on.

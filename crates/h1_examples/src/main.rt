@@ -106,6 +106,37 @@ const LINK_EXAMPLES: [(&str, u8); 17] = [
     ("fault_of_a_flush", 3),
 ];
 
+/// The examples whose peer stops or is slow, each with its exit status as above.
+const DEADLINE_EXAMPLES: [(&str, u8); 27] = [
+    ("no_head_in_a_minute", 0),
+    ("no_head_to_the_millisecond", 0),
+    ("no_head_in_a_shutdown", 0),
+    ("no_next_head_in_a_minute", 0),
+    ("head_stops", 0),
+    ("head_stops_to_the_millisecond", 0),
+    ("head_stops_in_an_empty_line", 0),
+    ("next_head_stops", 0),
+    ("head_comes_at_its_deadline", 0),
+    ("next_head_behind_a_full_link", 0),
+    ("end_at_the_deadline_of_a_head", 0),
+    ("fault_at_the_deadline_of_a_head", 0),
+    ("body_stops", 0),
+    ("body_stops_to_the_millisecond", 0),
+    ("body_stops_and_no_room", 0),
+    ("second_body_stops", 0),
+    ("body_drips", 0),
+    ("size_line_drips", 0),
+    ("slow_stops", 0),
+    ("slow_stops_to_the_millisecond", 0),
+    ("slow_byte_by_byte", 0),
+    ("slow_goes_on_at_its_deadline", 0),
+    ("slow_head_has_no_deadline", 0),
+    ("slow_without_a_body", 0),
+    ("slow_and_next", 0),
+    ("fault_of_a_slow_write", 0),
+    ("reply_has_no_deadline", 0),
+];
+
 /// The command lines that read no script, each with its words and its exit status: `NAME.report` is
 /// expected.
 const COMMANDS: [(&str, &str, u8); 5] = [
@@ -123,6 +154,11 @@ fn main(rt: HostRuntime) -> io::Result<()> {
         println!(rt; "{name} {verdict}")?;
     }
     for (name, status) in LINK_EXAMPLES {
+        let script = fs::read(&rt, format!(in rt.alloc(); "{name}.script")?)?;
+        let verdict = verdict(is_as_expected(&rt, name, "script", &script, status)?);
+        println!(rt; "{name} {verdict}")?;
+    }
+    for (name, status) in DEADLINE_EXAMPLES {
         let script = fs::read(&rt, format!(in rt.alloc(); "{name}.script")?)?;
         let verdict = verdict(is_as_expected(&rt, name, "script", &script, status)?);
         println!(rt; "{name} {verdict}")?;

@@ -17,7 +17,7 @@ use Rattle.h1_transcript.specs.declared.transcript.How.{How}
 use Rattle.h1_transcript.specs.declared.transcript.How.TheVariants.{Open, Whole, Failed}
 use Rattle.h1_transcript.specs.Agrees.{Agrees, AreOf}
 use Rattle.h1_transcript.specs.Behind.{ReadBehind, AfterRead, is_until_close}
-use Rattle.h1_transcript.specs.Complete.{GaveOf, NoFault, KeepsOn, ServesAll}
+use Rattle.h1_transcript.specs.Complete.{GaveOf, NoFault, IsInTime, KeepsOn, ServesAll}
 use Rattle.h1_transcript.specs.Ends.{EndCause, FailureCause, StopsLast, LastAfter, LastStands, AreAllDone, OfLast, ReadAll}
 use Rattle.h1_transcript.specs.Exchange.{IsAllowed, IsDated, given_to, is_short}
 use Rattle.h1_transcript.specs.Lawful.{IsLawful}
@@ -175,12 +175,18 @@ all_last : (P : Entry → Type 0) (done : List Entry) (e : Entry) → AllByRecur
 all_last P [] e h = h.0
 all_last P (d ∷ later) e h = all_last P later e h.1
 
+-- no call of the link was not ready between these states
+pub record IsReady (old now : LinkState) : Type 0 where
+  pub reads : Rose old.read_waits now.read_waits → ⊥
+  pub writes : Rose old.write_waits now.write_waits → ⊥
+
 -- what is known of a connection over these bytes
 pub record Over (count : ℕ) (before old now : LinkState) (done : List Entry)
     (last : Option Entry) : Type 0 where
   pub few : count ≤ MOST_GENERATED
   pub gave : GaveOf (generated count) before now
   pub faultless : NoFault old now
+  pub ready : IsReady old now
   pub agrees : Agrees EchoGives None before now (done ++ option_to_list last)
   pub kept : AllByRecursion IsKeptOn (done ++ option_to_list last)
   pub behind : IfTold before.given now.given (AfterRead done (λ rest. Unit {0}))
@@ -271,8 +277,16 @@ refused_fails count before old now done e met error kind.WriteError o is at caus
 refused_fails count before old now done e met error kind.PrematureBodyEnd o is at cause =
     let clash : Some met ≡ None = sym is ∙ cause.1 in cc
 refused_fails count before old now done e met error kind.NoMemory o is at cause = at
-refused_fails count before old now done e met error kind.ReadTimedout o is at cause = absurd cause
-refused_fails count before old now done e met error kind.WriteTimedout o is at cause = absurd cause
+refused_fails count before old now done e met error kind.ReadTimedout o is at (inl h) = absurd (o.ready.reads h.0)
+refused_fails count before old now done e met error kind.ReadTimedout o is at (inr h) =
+    absurd (by h.0) where
+      by : StopsLast before now done e error (Rose old.read_waits now.read_waits) → ⊥
+      by (inl ends) =
+          at_some e.body_error error (λ error. error.kind ≢ kind.ReadTimedout) ends.is
+          (all_last IsKeptOn done e o.kept).in_time at
+      by (inr stops) = o.ready.reads stops.2
+refused_fails count before old now done e met error kind.WriteTimedout o is at cause =
+    absurd (o.ready.writes cause.0)
 refused_fails count before old now done e met error (kind.ConnectError fault) o is at cause =
     absurd cause
 refused_fails count before old now done e met error (kind.UnexpectedTask task) o is at cause =
@@ -312,6 +326,32 @@ refused_ends count before old now done e met end.Overread o is cause =
 refused_ends count before old now done e met (end.Failed error) o is cause =
     refused_fails count before old now done e met error error.kind o is refl cause.1
 
+-- no limit of time is the reason of an end where nothing was not ready
+in_time : (count : ℕ) (before old now : LinkState) (done : List Entry) (last : Option Entry) (reason : End)
+    → Over count before old now done last
+    → AllByRecursion (λ e. e.body_error ≡ None) (done ++ option_to_list last)
+    → EndCause before old now done last reason → IsInTime now reason
+in_time count before old now done last end.Finished o none cause = by cause.1 where
+  by : (now.ended ≡ true) ⊎ Rose old.read_waits now.read_waits → now.ended ≡ true
+  by (inl ended) = ended
+  by (inr rose) = absurd (o.ready.reads rose)
+in_time count before old now done last (end.Failed error) o none cause = by_kind last o none error.kind cause.1 where
+  by_kind : (last : Option Entry) → Over count before old now done last
+      → AllByRecursion (λ e. e.body_error ≡ None) (done ++ option_to_list last)
+      → (k : ErrorType) → FailureCause before old now done last error k
+      → IsInTime now (end.Failed (record error { kind = k }))
+  by_kind last o none kind.ReadTimedout (inl h) = absurd (o.ready.reads h.0)
+  by_kind None o none kind.ReadTimedout (inr h) = absurd h
+  by_kind (Some e) o none kind.ReadTimedout (inr h) = absurd (never h.0) where
+    never : StopsLast before now done e error (Rose old.read_waits now.read_waits) → ⊥
+    never (inl ends) =
+        let clash : Some error ≡ None = sym ends.is ∙ all_last (λ e. e.body_error ≡ None) done e none in cc
+    never (inr stops) = o.ready.reads stops.2
+  by_kind last o none kind.WriteTimedout h = absurd (o.ready.writes h.0)
+  by_kind last o none _ h = refl
+in_time count before old now done last end.NotKept o none cause = tt
+in_time count before old now done last end.Overread o none cause = tt
+
 kept_ends : (count : ℕ) (before old now : LinkState) (done : List Entry) (last : Option Entry)
     (reason : End)
     → Over count before old now done last
@@ -320,7 +360,7 @@ kept_ends : (count : ℕ) (before old now : LinkState) (done : List Entry) (last
     → ServesAll before now (messages count) done last reason
 kept_ends count before old now done last reason o none cause =
     served EchoGives None before old now (generated count) (messages count) done last reason
-    (valid count o.few) o.gave tt o.faultless o.agrees
+    (valid count o.few) o.gave tt o.faultless (in_time count before old now done last reason o none cause) o.agrees
     (keeps_all (done ++ option_to_list last) (known_of count before old now done last o) none) cause
 
 -- every end is that of a connection that served all

@@ -1,5 +1,5 @@
 -- Lemmas on scripts whose polls are all at one moment, and whose connection finished.
-use Rattle.std.proofs.Common.{◌≡◌, ℕ, ◌+◌, ◌/◌, List, [], ◌∷◌, ◌++◌, Bool, true, option_to_list, Option, Some, None, IfSome, IfNone, refl, sym, ap, subst, ◌∙◌, append-nil, append_assoc}
+use Rattle.std.proofs.Common.{◌≡◌, ◌⊎◌, inl, inr, arith, ℕ, ◌+◌, ◌≤◌, ◌/◌, List, [], ◌∷◌, ◌++◌, Bool, true, option_to_list, Option, Some, None, IfSome, IfNone, refl, sym, ap, subst, ◌∙◌, append-nil, append_assoc}
 use Rattle.std.specs.List.{AllByRecursion, flat_map}
 use Rattle.std.proofs.lemmas.List.Concat.{flat_map-cons}
 use Rattle.h1_error.specs.declared.progress.End.{End}
@@ -22,7 +22,8 @@ use Rattle.h1_transcript.specs.Growth.{DatedAt, IsBegun, Extends}
 use Rattle.h1_transcript.specs.Stream.{empty}
 use Rattle.h1_transcript.proofs.CompleteLemmas.{told_of}
 use Rattle.h1_serve.specs.State.{State, new_link, start_with, transcript}
-use Rattle.h1_serve.specs.PollLine.{AnswerCause, Polls, poll_line}
+use Rattle.h1_app.specs.Timely.{EndsInTime, IsLateHead, WaitsSince}
+use Rattle.h1_serve.specs.PollLine.{AnswerCause, AnswersInTime, Polls, poll_line}
 use Rattle.h1_serve.specs.ExchangeText.{exchanges_lines, wrote_line}
 use Rattle.h1_serve.specs.Report.{Lines, IsTextOf, limit_in}
 use Rattle.h1_serve.specs.Finished.{ArePolledAt, IsFinished, IsBehindPolls}
@@ -61,41 +62,92 @@ dated_all moment shut before behind (e ∷ f ∷ later) (n ∷ more) h dated = (
 
 -- how a connection stands that finished: it read what was put ahead at the last poll
 record StandsFinished (polled : List ℕ) (s : State) : Type 0 where
+  ended : s.link.ended ≡ true
   given : s.link.given ≡ Some polled
   cause : EndCause new_link s.link s.link s.done s.last end.Finished
   allowed : AllByRecursion (IsAllowed EchoGives) (transcript s)
 
+-- nothing waits, or since this moment
+abbrev IsSinceHere : ℕ → Option ℕ → Type 0
+IsSinceHere moment since = (since ≡ None) ⊎ (since ≡ Some moment)
+
+since_here : (moment : ℕ) (old new : Option ℕ) → IsSinceHere moment old → WaitsSince moment old new
+    → IsSinceHere moment new
+since_here moment old new (inl none) (inl same) = inl (same ∙ none)
+since_here moment old new (inr here) (inl same) = inr (same ∙ here)
+since_here moment old new before (inr (inl none)) = inl none
+since_here moment old new before (inr (inr here)) = inr here
+
+-- so no head is late at it
+never_late : (moment : ℕ) (since : Option ℕ) → IsSinceHere moment since → IsLateHead moment since → ⊥
+never_late moment since here late = by here where
+  by : IsSinceHere moment since → ⊥
+  by (inl none) = let never : None ≡ Some late.start = sym none ∙ late.from in cc
+  by (inr here) =
+      let same : Some moment ≡ Some late.start = sym here ∙ late.from in
+      let at : moment ≡ late.start = cc in
+      let reached = late.reached in omega (arith, reached, at)
+
 -- what holds between two commands
 record Holds (moment : ℕ) (polled : List ℕ) (s : State) : Type 0 where
   dated : AllByRecursion (IsDatedBy (moment / 1000)) (transcript s)
+  -- a head is waited for since no other moment
+  since : s.end ≡ None → IsSinceHere moment s.since
   finished : s.end ≡ Some end.Finished → StandsFinished polled s
 
--- a poll that answered that the connection finished has its cause
-finished_by : (s t : State) (answer : Progress) → AnswerCause s t answer → t.end ≡ Some end.Finished
-    → EndCause new_link t.link t.link t.done t.last end.Finished
-finished_by s t (progress.Pending what) cause is = absurd (never cause.0 is) where
+-- a poll that answered that the connection finished has its cause: the link ended
+finished_by : (moment : ℕ) (s t : State) (answer : Progress) → IsSinceHere moment s.since
+    → AnswersInTime moment s t answer → AnswerCause s t answer → t.end ≡ Some end.Finished
+    → (t.link.ended ≡ true) × EndCause new_link t.link t.link t.done t.last end.Finished
+finished_by moment s t (progress.Pending what) here timely cause is = absurd (never cause.0 is) where
   never : t.end ≡ None → t.end ≡ Some end.Finished → ⊥
   never e f = cc
-finished_by s t (progress.Ready reason) cause is =
+finished_by moment s t (progress.Ready reason) here timely cause is =
     let same : reason ≡ end.Finished = one cause.0 is in
     let ends : EndCause new_link s.link t.link t.done t.last end.Finished =
     subst (EndCause new_link s.link t.link t.done t.last) same cause.2 in
-    ends
+    let in_time : EndsInTime moment s.since t.link t.last end.Finished =
+    subst (EndsInTime moment s.since t.link t.last) same timely in
+    let ended = by t.last ends.0.none in_time in
+    (ended, (ends.0, inl ended, ends.2))
   where
     one : t.end ≡ Some reason → t.end ≡ Some end.Finished → reason ≡ end.Finished
     one e f = cc
 
+    by : (last : Option Entry) → last ≡ None → EndsInTime moment s.since t.link last end.Finished
+        → t.link.ended ≡ true
+    by None none (inl ended) = ended
+    by None none (inr late) = absurd (never_late moment s.since here late)
+    by (Some e) none timely = absurd cc
+
 -- by this poll, or by one before it
 finished_so : (moment : ℕ) (polled : List ℕ) (s t : State) (answer : Progress) (before : Option End)
     → s.end ≡ before
-    → Holds moment polled s → IfNone before (AnswerCause s t answer)
+    → Holds moment polled s → IfNone before (AnswersInTime moment s t answer) → IfNone before (AnswerCause s t answer)
     → IfSome before (λ reason. (answer ≡ progress.Ready reason) × (t ≡ s))
-    → t.end ≡ Some end.Finished → EndCause new_link t.link t.link t.done t.last end.Finished
-finished_so moment polled s t answer None at holds cause again is = finished_by s t answer cause is
-finished_so moment polled s t answer (Some reason) at holds cause again is =
-    let Ended : State → Type 0 = λ s. EndCause new_link s.link s.link s.done s.last end.Finished in
+    → t.end ≡ Some end.Finished
+    → (t.link.ended ≡ true) × EndCause new_link t.link t.link t.done t.last end.Finished
+finished_so moment polled s t answer None at holds timely cause again is =
+    finished_by moment s t answer (holds.since at) timely cause is
+finished_so moment polled s t answer (Some reason) at holds timely cause again is =
+    let Ended : State → Type 0 = λ s. (s.link.ended ≡ true)
+    × EndCause new_link s.link s.link s.done s.last end.Finished in
     let was : s.end ≡ Some end.Finished = ap (λ (s : State). s.end) (sym again.1) ∙ is in
-    subst Ended (sym again.1) (holds.finished was).cause
+    let stands = holds.finished was in
+    subst Ended (sym again.1) (stands.ended, stands.cause)
+
+-- since when a head is waited for behind a poll
+since_so : (moment : ℕ) (polled : List ℕ) (s t : State) (answer : Progress) (before : Option End)
+    → s.end ≡ before → Holds moment polled s → IfNone before (AnswersInTime moment s t answer)
+    → IfNone before (AnswerCause s t answer)
+    → IfSome before (λ reason. (answer ≡ progress.Ready reason) × (t ≡ s)) → t.end ≡ None
+    → IsSinceHere moment t.since
+since_so moment polled s t answer (Some reason) at holds timely cause again alive =
+    let never : Some reason ≡ None = sym at ∙ ap (λ (s : State). s.end) (sym again.1) ∙ alive in absurd cc
+since_so moment polled s t (progress.Pending what) None at holds timely cause again alive =
+    since_here moment s.since t.since (holds.since at) timely
+since_so moment polled s t (progress.Ready reason) None at holds timely cause again alive =
+    let never : Some reason ≡ None = sym cause.0 ∙ alive in absurd cc
 
 -- it holds after a poll
 polled_holds : (moment : ℕ) (polled : List ℕ) (s t : State) (answer : Progress)
@@ -103,11 +155,13 @@ polled_holds : (moment : ℕ) (polled : List ℕ) (s t : State) (answer : Progre
     → Polls moment s answer t → Holds moment t.put t
 polled_holds moment polled s t answer holds polls = record {
   dated = dated_all moment s.shut s.link t.link (transcript s) (transcript t) polls.extends holds.dated;
+  since = since_so moment polled s t answer s.end refl holds polls.timely polls.cause polls.again;
   finished = λ is.
-      let cause = finished_so moment polled s t answer s.end refl holds polls.cause polls.again is in
+      let cause = finished_so moment polled s t answer s.end refl holds polls.timely polls.cause polls.again is in
       record {
-        given = (polls.gives.ended cause.1).1;
-        cause = cause;
+        ended = cause.0;
+        given = (polls.gives.ended cause.0).1;
+        cause = cause.1;
         allowed = polls.agrees.allowed;
       };
 }
@@ -127,16 +181,18 @@ polled_in put polled (command.Limit count ∷ more) = polled_in put polled more
 
 -- and where the exchanges, the link and the end stay
 same_holds : (moment : ℕ) (polled : List ℕ) (s t : State) → t.done ≡ s.done → t.last ≡ s.last
-    → t.link ≡ s.link → t.end ≡ s.end
+    → t.link ≡ s.link → t.end ≡ s.end → t.since ≡ s.since
     → Holds moment polled s → Holds moment polled t
-same_holds moment polled s t done last link ends h =
+same_holds moment polled s t done last link ends since h =
     let entries : transcript t ≡ transcript s =
     ap (λ es. es ++ option_to_list t.last) done ∙ ap (λ e. s.done ++ option_to_list e) last in
     record {
       dated = subst (AllByRecursion (IsDatedBy (moment / 1000))) (sym entries) h.dated;
+      since = λ alive. rw since (h.since (sym ends ∙ alive));
       finished = λ is.
           let was = h.finished (sym ends ∙ is) in
           record {
+            ended = ap (λ (l : LinkState). l.ended) link ∙ was.ended;
             given = ap (λ (l : LinkState). l.given) link ∙ was.given;
             cause = rw (link, done, last) was.cause;
             allowed = subst (AllByRecursion (IsAllowed EchoGives)) (sym entries) was.allowed;
@@ -150,31 +206,31 @@ lines_hold moment [] s polled text t at holds h = subst (Holds moment polled) (s
 lines_hold moment (command.Give bytes ∷ more) s polled text t at holds h =
     let next : State = record s { put = s.put ++ bytes } in
     let lines : Lines next more h.2 t = subst (λ s. Lines s more h.2 t) h.4.1 h.5 in
-    lines_hold moment more next polled h.2 t at (same_holds moment polled s next refl refl refl refl holds) lines
+    lines_hold moment more next polled h.2 t at (same_holds moment polled s next refl refl refl refl refl holds) lines
 lines_hold moment (command.End ∷ more) s polled text t at holds h =
     let next : State = record s { said = true } in
     let lines : Lines next more h.2 t = subst (λ s. Lines s more h.2 t) h.4.1 h.5 in
-    lines_hold moment more next polled h.2 t at (same_holds moment polled s next refl refl refl refl holds) lines
+    lines_hold moment more next polled h.2 t at (same_holds moment polled s next refl refl refl refl refl holds) lines
 lines_hold moment (command.Room count ∷ more) s polled text t at holds h =
     let next : State = record s { gate = Room (s.link.bytes_out + count) } in
     let lines : Lines next more h.2 t = subst (λ s. Lines s more h.2 t) h.4.1 h.5 in
-    lines_hold moment more next polled h.2 t at (same_holds moment polled s next refl refl refl refl holds) lines
+    lines_hold moment more next polled h.2 t at (same_holds moment polled s next refl refl refl refl refl holds) lines
 lines_hold moment (command.Block ∷ more) s polled text t at holds h =
     let next : State = record s { gate = Blocked } in
     let lines : Lines next more h.2 t = subst (λ s. Lines s more h.2 t) h.4.1 h.5 in
-    lines_hold moment more next polled h.2 t at (same_holds moment polled s next refl refl refl refl holds) lines
+    lines_hold moment more next polled h.2 t at (same_holds moment polled s next refl refl refl refl refl holds) lines
 lines_hold moment (command.FaultRead ∷ more) s polled text t at holds h =
     let next : State = record s { reads_due = raised s.link.read_faults 1 } in
     let lines : Lines next more h.2 t = subst (λ s. Lines s more h.2 t) h.4.1 h.5 in
-    lines_hold moment more next polled h.2 t at (same_holds moment polled s next refl refl refl refl holds) lines
+    lines_hold moment more next polled h.2 t at (same_holds moment polled s next refl refl refl refl refl holds) lines
 lines_hold moment (command.FaultWrite ∷ more) s polled text t at holds h =
     let next : State = record s { writes_due = raised s.link.write_faults 1 } in
     let lines : Lines next more h.2 t = subst (λ s. Lines s more h.2 t) h.4.1 h.5 in
-    lines_hold moment more next polled h.2 t at (same_holds moment polled s next refl refl refl refl holds) lines
+    lines_hold moment more next polled h.2 t at (same_holds moment polled s next refl refl refl refl refl holds) lines
 lines_hold moment (command.Shutdown ∷ more) s polled text t at holds h =
     let next : State = record s { shut = true } in
     let lines : Lines next more h.2 t = subst (λ s. Lines s more h.2 t) h.4.1 h.5 in
-    lines_hold moment more next polled h.2 t at (same_holds moment polled s next refl refl refl refl holds) lines
+    lines_hold moment more next polled h.2 t at (same_holds moment polled s next refl refl refl refl refl holds) lines
 lines_hold moment (command.Limit count ∷ more) s polled text t at holds h =
     lines_hold moment more s polled h.2 t at holds (subst (λ s. Lines s more h.2 t) h.4.1 h.5)
 lines_hold moment (command.Poll here ∷ more) s polled text t at holds h =
@@ -249,7 +305,11 @@ finish moment polled s written holds is told =
     }
 
 first_holds : (moment : ℕ) (limit : Option ℕ) → Holds moment [] (start_with limit)
-first_holds moment limit = record { dated = tt; finished = λ is. absurd (never (start_with limit).end refl is) } where
+first_holds moment limit = record {
+  dated = tt;
+  since = λ alive. inl refl;
+  finished = λ is. absurd (never (start_with limit).end refl is);
+} where
   never : (o : Option End) → o ≡ None → o ≡ Some end.Finished → ⊥
   never o e f = cc
 

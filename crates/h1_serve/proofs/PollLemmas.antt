@@ -22,6 +22,7 @@ use Rattle.h1_app.specs.Accounted.{Accounted}
 use Rattle.h1_transcript.specs.Agrees.{Agrees}
 use Rattle.h1_transcript.specs.Growth.{Extends}
 use Rattle.h1_app.specs.Leaves.{Leaves}
+use Rattle.h1_app.specs.Timely.{IsTimely}
 use Rattle.h1_app.specs.Causes.{Cause, WaitCause, PendedNew, PendedOn, PendedBy}
 use Rattle.h1_echo.specs.Echo.{EchoGives}
 use Rattle.h1_words.specs.declared.command.Command.TheVariants as command
@@ -29,7 +30,7 @@ use Rattle.h1_words.specs.declared.place.Place.{Place}
 use Rattle.h1_serve.specs.declared.scripted.Scripted.{Scripted}
 use Rattle.h1_serve.specs.State.{State, Served, new_link, link_state, state_of}
 use Rattle.h1_serve.specs.LinkDoes.{GivesAhead, IsWithin, IsUsedUp, TakesWithin, NothingGiven, FailsAsPlanned}
-use Rattle.h1_serve.specs.PollLine.{PendsFor, IsAnswered, AnswerCause, Polls, poll_line}
+use Rattle.h1_serve.specs.PollLine.{PendsFor, IsAnswered, AnswerCause, AnswersInTime, Polls, poll_line}
 use Rattle.h1_serve.specs.Running.{EndsAt, IsRunning}
 use Rattle.h1_serve.specs.Done.{ObeysOnce}
 
@@ -238,6 +239,8 @@ pub record Polled (begins : EchoJob → Type 0) (moment : ℕ) (old : Scripted) 
       × (new.connection ≡ old.connection))
   pub leaves : IfNone old.connection.end (Leaves old.connection.session.link.state
       new.connection.session.link.state new.connection.last new.connection.end)
+  pub timely : IfNone old.connection.end
+      (IsTimely link_state moment old.connection new.connection answer)
   pub cause : IfNone old.connection.end
       (Cause link_state begins (λ _. 0) new_link old.connection new.connection answer)
 
@@ -247,6 +250,12 @@ same_state : (old new : Scripted) → new.shutdown ≡ old.shutdown → new.conn
 same_state old new shut same =
     let seen : Bool → Served → State = λ shut served. state_of (record { connection = served; shutdown = shut }) in
     ap (λ (b : Bool). seen b new.connection) shut ∙ ap (λ (c : Served). seen old.shutdown c) same
+
+timely_so : (moment : ℕ) (old new : Scripted) (answer : Progress)
+    → IsTimely link_state moment old.connection new.connection answer
+    → AnswersInTime moment (state_of old) (state_of new) answer
+timely_so moment old new (progress.Pending what) h = h
+timely_so moment old new (progress.Ready reason) h = h
 
 polls : (begins : EchoJob → Type 0) (place : Place) (moment : ℕ) (old new : Scripted)
     (answer : Progress)
@@ -271,6 +280,7 @@ polls begins place moment old new answer running polled before behind answered =
       again =
           if_some old.connection.end _ _ (λ reason same. (same.0, same_state old new polled.shut same.1)) polled.ended;
       leaves = polled.leaves;
+      timely = if_none old.connection.end _ _ (timely_so moment old new answer) polled.timely;
       cause = if_none old.connection.end _ _ (answer_cause begins old new answer answered) polled.cause;
     }
 

@@ -18,6 +18,7 @@ use Rattle.h1_transcript.specs.Told.{ToldGrowth}
 use Rattle.h1_echo.specs.Echo.{EchoGives}
 use Rattle.h1_transcript.specs.Entries.{replies}
 use Rattle.h1_app.specs.Leaves.{Leaves}
+use Rattle.h1_app.specs.Timely.{EndsInTime, WaitsSince}
 use Rattle.h1_serve.specs.State.{State, new_link, transcript}
 use Rattle.h1_serve.specs.LinkDoes.{GivesAhead, TakesWithin, FailsAsPlanned}
 use Rattle.h1_transfer.specs.declared.budget.TheConstants.{CALL_BUDGET}
@@ -50,6 +51,11 @@ AnswerCause s t (progress.Pending what) = (t.end ≡ None) × PendsFor s t what
 AnswerCause s t (progress.Ready reason) = (t.end ≡ Some reason) × HasMemory reason
     × EndCause new_link s.link t.link t.done t.last reason
 
+-- how long a head was waited for, by the answer of a poll of a connection that had not ended
+abbrev pub AnswersInTime : ℕ → State → State → Progress → Type 0
+AnswersInTime moment s t (progress.Pending what) = WaitsSince moment s.since t.since
+AnswersInTime moment s t (progress.Ready reason) = EndsInTime moment s.since t.link t.last reason
+
 -- One poll at a moment, between two states: what was read and written agrees with the transcript
 -- and the limit, and goes on from the state before; the link did what the lines before set, and the
 -- answer has its cause.
@@ -70,6 +76,7 @@ pub record Polls (moment : ℕ) (s : State) (answer : Progress) (t : State) : Ty
   pub again : IfSome s.end (λ reason. (answer ≡ progress.Ready reason) × (t ≡ s))
   -- a read or a write that failed is told, by the end or in the last exchange
   pub leaves : IfNone s.end (Leaves s.link t.link t.last t.end)
+  pub timely : IfNone s.end (AnswersInTime moment s t answer)
   pub cause : IfNone s.end (AnswerCause s t answer)
 
 -- poll N: ANSWER

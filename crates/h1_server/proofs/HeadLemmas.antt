@@ -1,45 +1,84 @@
 -- Lemmas on reading the head of a request.
-use Rattle.std.proofs.Common.{◌≡◌, ℕ, List, length, drop, Option, Some, None, Result, Ok, refl, ap, ◌∙◌, inl, inr}
-use Rattle.h1_server.specs.Words.{Poll, Ready, Error, LinkState, HasLooked, HeadSearch, MAX_HEADER_SIZE, RefusedAt, NotYetAt, body, reads, Settings, TransferView, HeadStop, ReadRequest, Request}
-use Rattle.h1_transfer.specs.Heads.{ReadsHead, StopCause}
+use Rattle.std.proofs.Common.{◌≡◌, ℕ, ◌<◌, nat_lt, Bool, true, false, List, [], ◌∷◌, length, arith, drop, Option, Some, None, Result, Ok, refl, ap, ◌∙◌, inl, inr}
+use Rattle.h1_server.specs.Words.{Poll, Ready, Error, LinkState, HasLooked, HeadSearch, MAX_HEADER_SIZE, RefusedAt, NotYetAt, body, reads, Settings, TransferView, BodyState, HeadStop, ReadRequest, Request}
+use Rattle.h1_transfer.specs.Heads.{HeadIsTimed, ReadsHead, StopCause}
+use Rattle.h1_transfer.specs.Budget.{allowance}
+use Rattle.h1_transfer.specs.Deadline.{Wait, noted_since}
+use Rattle.h1_link.specs.Counts.{Rose}
+use Rattle.h1_server.specs.Persistence.{is_nothing}
+use Rattle.h1_server.specs.Times.{head_deadline}
+use Rattle.std.proofs.lemmas.Bool.{false≢true, true≢false}
 use Rattle.h1_server.proofs.Words.{keepalive_set, SessionView, session}
 use Rattle.h1_server.specs.Keepalive.{wished}
 use Rattle.h1_transfer.specs.declared.reading_head.HeadRead.TheVariants as h
 use Rattle.h1_transfer.specs.declared.reading_head.HeadStop.TheVariants as s
-use Rattle.h1_server.specs.Requests.{IsRequestOf, ReadsRequest, HeadAnswer, BeginsNone, StopsFor}
+use Rattle.h1_server.specs.Requests.{IsRequestOf, ReadsRequest, HeadAnswer, HeadTimed, BeginsNone, StopsFor}
 use Rattle.h1_server.specs.SessionView.{IsSearched}
 use Rattle.h1_server.specs.declared.request.ReadRequest.TheVariants as read
 
+nothing : (bytes : List ℕ) → true ≡ is_nothing bytes → bytes ≡ []
+nothing [] is = refl
+nothing (b ∷ bytes) is = absurd (true≢false is)
+
+something : (bytes : List ℕ) → false ≡ is_nothing bytes → 0 < length bytes
+something [] is = absurd (false≢true is)
+something (b ∷ bytes) is = omega arith
+
 -- what a call answers that read no head, and keeps as the refusal of later ones
 stop_answer : {L C : Type 0} (state : L → LinkState) (old new : SessionView L C) (stop : HeadStop)
-    (left : ℕ) (result : Poll (Result ReadRequest Error))
-    → old.refused ≡ None → BeginsNone old new new.received → StopsFor old.refused new.refused stop
-    result
+    (left : ℕ) (result : Poll (Result ReadRequest Error)) (bare : Bool)
+    → bare ≡ is_nothing new.received → old.refused ≡ None → BeginsNone old new new.received
+    → StopsFor bare old.refused new.refused stop result
     → StopCause RefusedAt NotYetAt (state old.link) (state new.link) new.received left stop
     → HeadAnswer state old new new.received left result
-stop_answer state old new (s.Refused fault) left result none begins is cause = rw is.1
+stop_answer state old new (s.Refused fault) left result bare bare_is none begins is cause = rw is.1
     (begins, is.0, cause, refl)
-stop_answer state old new s.Closed left result none begins is cause = rw is.1
+stop_answer state old new s.Closed left result bare bare_is none begins is cause = rw is.1
     (begins, is.0 ∙ none, cause.0, cause.1)
-stop_answer state old new s.Cut left result none begins is cause = rw is.1
+stop_answer state old new s.Cut left result bare bare_is none begins is cause = rw is.1
     (begins, is.0, cause, refl)
-stop_answer state old new s.NotReady left result none begins is cause = rw is.1
+stop_answer state old new s.NotReady left result bare bare_is none begins is cause = rw is.1
     (begins, is.0 ∙ none, cause.1, inl cause.0)
-stop_answer state old new s.Spent left result none begins is cause = rw is.1
+stop_answer state old new s.Spent left result bare bare_is none begins is cause = rw is.1
     (begins, is.0 ∙ none, cause.1, inr cause.0)
-stop_answer state old new s.Failed left result none begins is cause = rw is.1
+stop_answer state old new s.Failed left result bare bare_is none begins is cause = rw is.1
     (begins, is.0, cause, refl)
-stop_answer state old new s.NoMemory left result none begins is cause = rw is.1
+stop_answer state old new s.Late left result true bare none begins is cause = rw is.1
+    (begins, is.0 ∙ none, cause.0, nothing new.received bare)
+stop_answer state old new s.Late left result false bare none begins is cause = rw is.1
+    (begins, is.0, (cause.0, cause.1, something new.received bare), refl)
+stop_answer state old new s.NoMemory left result bare bare_is none begins is cause = rw is.1
     (begins, is.0 ∙ none, tt, refl)
+
+-- what is noted of the wait of a call that read no head
+stop_timed : (wait : Wait) (since : Option ℕ) (before now : LinkState) (received : List ℕ) (left : ℕ) (bare : Bool)
+    (old new : Option Error) (stop : HeadStop) (result : Poll (Result ReadRequest Error))
+    → HeadIsTimed wait since (h.Stopped stop) → StopCause RefusedAt NotYetAt before now received left stop
+    → StopsFor bare old new stop result
+    → HeadTimed (noted_since (Rose before.read_waits now.read_waits) wait since) left result
+stop_timed wait since before now received left bare old new (s.Refused fault) result timed cause is = rw is.1 timed
+stop_timed wait since before now received left bare old new s.Closed result timed cause is = rw is.1 timed
+stop_timed wait since before now received left bare old new s.Cut result timed cause is = rw is.1 timed
+stop_timed wait since before now received left bare old new s.NotReady result timed cause is =
+    rw is.1 (inl (record { link = cause.0; noted = timed.0; judged = timed.1 }))
+stop_timed wait since before now received left true old new s.Late result timed cause is =
+    rw is.1 (record { link = cause.0; noted = timed.0; judged = timed.1 })
+stop_timed wait since before now received left false old new s.Late result timed cause is =
+    rw is.1 (record { link = cause.0; noted = timed.0; judged = timed.1 })
+stop_timed wait since before now received left bare old new s.Spent result timed cause is =
+    rw is.1 (inr (cause.0, timed))
+stop_timed wait since before now received left bare old new s.Failed result timed cause is = rw is.1 timed
+stop_timed wait since before now received left bare old new s.NoMemory result timed cause is = rw is.1 timed
 
 -- a call that read no head
 pub head_stopped : {L C : Type 0} (state : L → LinkState) (old : SessionView L C)
     (new : TransferView L) (found : Option Request)
-    (refused : Option Error) (stop : HeadStop) (result : Poll (Result ReadRequest Error))
-    → old.refused ≡ None → StopsFor old.refused refused stop result
-    → ReadsHead state IsRequestOf RefusedAt NotYetAt (session.transfer old) new found (h.Stopped stop)
-    → ReadsRequest state old (record (session.put old new) { request = found; refused = refused }) result
-head_stopped {L} {C} state old new found refused stop result none is reads =
+    (refused : Option Error) (stop : HeadStop) (result : Poll (Result ReadRequest Error)) (now : ℕ) (bare : Bool)
+    → bare ≡ is_nothing new.received → old.refused ≡ None → StopsFor bare old.refused refused stop result
+    → ReadsHead state IsRequestOf RefusedAt NotYetAt (head_deadline old.settings now) (session.transfer old) new
+    found (h.Stopped stop)
+    → ReadsRequest state now old (record (session.put old new) { request = found; refused = refused }) result
+head_stopped {L} {C} state old new found refused stop result now bare bare_is none is reads =
     let behind : SessionView L C = record (session.put old new) { request = found; refused = refused } in
     record {
       bytes = new.received;
@@ -50,13 +89,19 @@ head_stopped {L} {C} state old new found refused stop result none is reads =
       rest = ap (λ (t : TransferView L). let s : SessionView L C =
           record (session.put old new) { request = found; refused = refused; reply = t.outgoing } in s) reads.rest;
       few = reads.receives.few;
-      answer = stop_answer state old behind stop reads.left result none
+      answer = stop_answer state old behind stop reads.left result bare bare_is none
           (record {
             request = reads.cause.1;
             received = refl;
             body = ap (λ (t : TransferView L). t.body) reads.rest;
             settings = refl;
           }) is reads.cause.0;
+      timed = stop_timed (record {
+        deadline = head_deadline old.settings now;
+        moved = nat_lt reads.left (allowance old.budget);
+        since = old.body.since.read;
+      }) new.body.since.read (state old.link) (state new.link) new.received reads.left bare old.refused refused
+          stop result reads.timed reads.cause.0 is;
     }
 
 -- until a head is read, its search has looked at a front of what is received
@@ -67,21 +112,33 @@ unread_searched request search received none looked = rw none looked
 -- a call that read a head: it is passed over, and its body begins
 pub head_read : {L C : Type 0} (state : L → LinkState) (old : SessionView L C)
     (mid after new : TransferView L) (found : Option Request) (request : Request) (used n : ℕ)
-    (settings : Settings)
+    (settings : Settings) (now : ℕ)
     → old.refused ≡ None → found ≡ Some request
-    → ReadsHead state IsRequestOf RefusedAt NotYetAt (session.transfer old) mid found (h.Whole used)
+    → ReadsHead state IsRequestOf RefusedAt NotYetAt (head_deadline old.settings now) (session.transfer old) mid
+    found (h.Whole used)
     → after ≡ record mid { received = drop used mid.received }
     → ((rest : List ℕ) → reads new.body.reader rest ≡ body request.framing rest)
     → new ≡ record after { body = record after.body { reader = new.body.reader; refused = None } }
     → n ≡ length request.raw → settings ≡ keepalive_set old.settings (wished request.wish)
-    → ReadsRequest state old (record (session.put old new) { request = found; settings = settings })
+    → ReadsRequest state now old (record (session.put old new) { request = found; settings = settings })
     (Ready (Ok (read.Head n)))
-head_read {L} {C} state old mid after new found request used n settings none found_is told skips begins rest n_is
+head_read {L} {C} state old mid after new found request used n settings now none found_is told skips begins rest n_is
     settings_is =
     let is = rest
     ∙ ap (λ (t : TransferView L). record t { body = record t.body { reader = new.body.reader; refused = None } })
     (skips ∙ ap (λ (t : TransferView L). record t { received = drop used mid.received }) told.rest) in
     let link = ap (λ (t : TransferView L). t.link) is in
+    let ended : mid.body.since.read ≡ None = told.timed in
+    let begun : new.body ≡ record old.body {
+      reader = new.body.reader;
+      refused = None;
+      since = record old.body.since { read = None };
+    } = ap (λ (t : TransferView L). t.body) is
+    ∙ ap (λ (read : Option ℕ). record old.body {
+      reader = new.body.reader;
+      refused = None;
+      since = record old.body.since { read = read };
+    }) ended in
     record {
       bytes = mid.received;
       left = told.left;
@@ -100,10 +157,11 @@ head_read {L} {C} state old mid after new found request used n settings none fou
           received = ap (λ (t : TransferView L). t.received) is;
           raw = n_is;
           reader = begins;
-          body = ap (λ (t : TransferView L). t.body) is;
+          body = begun;
           settings = settings_is;
           refused = none;
         },
         rw link told.cause.1,
       );
+      timed = ap (λ (body : BodyState). body.since.read) begun;
     }

@@ -79,7 +79,7 @@ header_taken old mid new request was flag noted now None noted_is free goes take
   [],
   (refl, rw goes.1 at same),
   rw goes.1 (sym (append-nil old.outgoing.owed)),
-  rw goes.1 (record { step = free; refused = refl; sent = refl }),
+  rw goes.1 (record { step = free; refused = refl; sent = refl; write_since = refl }),
   rw goes.1 refl,
 )
 header_taken old mid new request was flag noted now (Some view) noted_is free goes takes same = (
@@ -91,6 +91,8 @@ header_taken old mid new request was flag noted now (Some view) noted_is free go
     bytes = rw (← noted_is) takes.0.bytes;
     headed = same.headed ∙ takes.0.headed;
     writer = same.writer ∙ takes.0.writer;
+    handed = same.handed ∙ takes.0.handed;
+    write_since = same.write_since ∙ takes.0.write_since;
   },
   rw takes.3 refl,
   takes.1,

@@ -26,6 +26,8 @@ pub record TakesHeader (old new : Outgoing) (request : Request) (flag : Bool)
   pub bytes : taking ≡ head_bytes (reply_head header date flag)
   pub headed : new.headed ≡ true
   pub writer : new.writer ≡ begun (out request.header.method header)
+  pub handed : new.handed ≡ old.handed
+  pub write_since : new.write_since ≡ old.write_since
 
 -- the flag that is noted: that of the header that is handed in
 abbrev pub keep_after : Option ResponseView → Bool → Bool → Bool

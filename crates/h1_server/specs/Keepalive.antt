@@ -1,6 +1,7 @@
 -- The setting of keep-alive (RFC 9112, section 9.3).
 use Rattle.std.specs.Prelude.{ℕ, Bool, true, false, Option, Some, None, if◌then◌else◌}
 use Rattle.h1_server.specs.Words.{Settings}
+use Rattle.h1_server.specs.Times.{new_times}
 
 -- what is set at first: keep-alive is off, a reply before the request's end closes, and nothing is
 -- pipelined
@@ -12,6 +13,7 @@ new_settings =
       closing = true;
       pipelining = false;
       reuses = None;
+      times = new_times;
     }
 
 -- None turns keep-alive off; a number turns it on and is the deadline of the next head

@@ -4,6 +4,7 @@ use Rattle.h1_server.specs.Words.{Poll, Error, ErrorType, LinkState, Framing}
 use Rattle.h1_body.specs.declared.framing.Framing.TheVariants.{Counted, Chunked, UntilClose}
 use Rattle.h1_transfer.specs.Payload as payloads
 use Rattle.h1_server.specs.SessionView.{SessionView, session}
+use Rattle.h1_server.specs.Times.{body_deadline, drain_limits}
 
 -- a request without a body
 abbrev pub is_empty_framing : Framing → Bool
@@ -23,10 +24,11 @@ abbrev pub PayloadAnswer : {L C : Type 0} → (L → LinkState) → SessionView 
 PayloadAnswer state old new payload left outcome =
     payloads.PayloadAnswer state (session.transfer old) (session.transfer new) payload left outcome
 
--- one call that reads a part of the body
-abbrev pub ReadsPayload : {L C : Type 0} → (L → LinkState) → SessionView L C → SessionView L C
+-- one call at a moment that reads a part of the body
+abbrev pub ReadsPayload : {L C : Type 0} → (L → LinkState) → ℕ → SessionView L C → SessionView L C
     → Poll (Result (Option (List ℕ)) Error) → Type 0
-ReadsPayload state old new outcome = payloads.ReadsPayload state session old new outcome
+ReadsPayload state now old new outcome =
+    payloads.ReadsPayload state session (body_deadline old.settings.times now) old new outcome
 
 -- the answer of a call that reads the rest of the body
 abbrev pub DrainAnswer : {L C : Type 0} → (L → LinkState) → SessionView L C → SessionView L C → ℕ
@@ -34,7 +36,8 @@ abbrev pub DrainAnswer : {L C : Type 0} → (L → LinkState) → SessionView L 
 DrainAnswer state old new left outcome =
     payloads.DrainAnswer state (session.transfer old) (session.transfer new) left outcome
 
--- one call that reads the rest of the body
-abbrev pub DrainsBody : {L C : Type 0} → (L → LinkState) → SessionView L C → SessionView L C
+-- one call at a moment that reads the rest of the body
+abbrev pub DrainsBody : {L C : Type 0} → (L → LinkState) → ℕ → SessionView L C → SessionView L C
     → Poll (Result (Unit {0}) Error) → Type 0
-DrainsBody state old new outcome = payloads.DrainsBody state session old new outcome
+DrainsBody state now old new outcome =
+    payloads.DrainsBody state session (drain_limits old.settings.times now) old new outcome

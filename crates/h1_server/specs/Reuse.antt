@@ -6,6 +6,7 @@ use Rattle.h1_link.specs.Steps.{after_shutdown}
 use Rattle.h1_server.specs.Payload.{DrainsBody}
 use Rattle.h1_server.specs.Persistence.{may_follow}
 use Rattle.h1_server.specs.SessionView.{SessionView}
+use Rattle.h1_server.specs.Times.{new_times}
 
 -- the link is reusable where the rest of the body was read and the next request may follow
 abbrev pub ReuseAnswer : {L C : Type 0} → SessionView L C → Poll (Result (Unit {0}) Error)
@@ -17,13 +18,13 @@ ReuseAnswer new (Ready (Err error)) result = (new.reusable ≡ false) × (result
 ReuseAnswer new Pending result = (new.reusable ≡ false) × (result ≡ Pending)
 
 -- A link that isn't kept is shut. Of one that is kept the rest of the body is read first.
-abbrev pub ReusesBy : {L C : Type 0} → (L → LinkState) → SessionView L C → SessionView L C
+abbrev pub ReusesBy : {L C : Type 0} → (L → LinkState) → ℕ → SessionView L C → SessionView L C
     → Poll (Result Bool Error) → Bool → Type 0
-ReusesBy {L} {C} state old new result true =
+ReusesBy {L} {C} state now old new result true =
     (drained : SessionView L C) × (outcome : Poll (Result (Unit {0}) Error))
-    × DrainsBody state old drained outcome × (new ≡ record drained { reusable = new.reusable })
+    × DrainsBody state now old drained outcome × (new ≡ record drained { reusable = new.reusable })
     × ReuseAnswer new outcome result
-ReusesBy state old new result false =
+ReusesBy state now old new result false =
     (result ≡ Ready (Ok false)) × (state new.link ≡ after_shutdown (state old.link))
     × (new ≡ record old { link = new.link; reusable = false })
 
@@ -39,7 +40,8 @@ one_less (Some n) = Some (n - 1)
 
 -- what stays set from one request to the next: keep-alive, pipelining and how many may follow
 abbrev pub next_settings : Settings → Settings
-next_settings settings = record settings { closing = true; reuses = one_less settings.reuses }
+next_settings settings =
+    record settings { closing = true; reuses = one_less settings.reuses; times = new_times }
 
 -- The session awaits the next request on the same link: what was received and not used is in front,
 -- and of the request before nothing is left.

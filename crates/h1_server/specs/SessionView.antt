@@ -2,6 +2,7 @@
 use Rattle.std.specs.Prelude.{◌≡◌, ℕ, List, [], Bool, Option, Some, None, true, false}
 use Rattle.h1_server.specs.Words.{Error, Request, BodyState, Outgoing, IsNoBody, no_reply, Settings, HasLooked, HeadSearch, MAX_HEADER_SIZE}
 use Rattle.h1_server.specs.Keepalive.{new_settings}
+use Rattle.h1_server.specs.declared.times.Times.{Times}
 use Rattle.h1_transfer.specs.TransferView.{Holds}
 
 pub record SessionView (L C : Type 0) : Type 0 where
@@ -60,3 +61,7 @@ pub record IsNewSession {L C : Type 0} (start : L) (view : SessionView L C) : Ty
   pub budget : view.budget ≡ None
   pub reusable : view.reusable ≡ false
   pub context : view.context ≡ None
+
+-- the session with other times
+abbrev pub times_set : {L C : Type 0} → SessionView L C → Times → SessionView L C
+times_set session times = record session { settings = record session.settings { times = times } }

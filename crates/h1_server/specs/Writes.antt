@@ -6,17 +6,19 @@ use Rattle.h1_transfer.specs.Writes as writes
 use Rattle.h1_transfer.specs.PieceWrites as pieces
 use Rattle.h1_transfer.specs.EndWrites as ends
 use Rattle.h1_server.specs.SessionView.{SessionView, session}
+use Rattle.h1_server.specs.Times.{piece_deadline}
 
 -- one call that writes
 abbrev pub Writes : {L C : Type 0} → (L → LinkState) → SessionView L C → SessionView L C → List ℕ
     → ℕ → Type 0
 Writes state old new taking left = writes.Writes state session old new taking left
 
--- one call that writes a piece of the body
-abbrev pub WritesPiece : {L C : Type 0} → (L → LinkState) → SessionView L C → SessionView L C
+-- one call at a moment that writes a piece of the body
+abbrev pub WritesPiece : {L C : Type 0} → (L → LinkState) → ℕ → SessionView L C → SessionView L C
     → Option (List ℕ) → Option (List ℕ) → Poll (Result (Option ℕ) Error) → Type 0
-WritesPiece state old new piece kept outcome =
-    pieces.WritesPiece state session old new piece kept outcome
+WritesPiece state now old new piece kept outcome =
+    pieces.WritesPiece state session (piece_deadline old.settings.times now old.reply piece) old new
+    piece kept outcome
 
 -- one call that writes the end of the body
 abbrev pub WritesEnd : {L C : Type 0} → (L → LinkState) → SessionView L C → SessionView L C

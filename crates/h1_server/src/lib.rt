@@ -1,6 +1,8 @@
 //! The server's side of HTTP/1 over a link, one exchange at a time (RFC 9112).
 #![tactic(auto)]
 
+#[cfg(test)]
+mod deadline_tests;
 mod persistence;
 mod reading_head;
 mod request;
@@ -11,9 +13,11 @@ mod settings;
 mod taking_up;
 #[cfg(test)]
 mod tests;
+mod times;
 
 pub use h1_transfer::{BodyState, CALL_BUDGET, Outgoing, Step};
 pub use request::{NoRequest, ReadRequest, Request};
 pub use reusable::ReusableHttpStream;
 pub use server::HttpSession;
 pub use settings::{Settings, one_less};
+pub use times::{READ_TIMEOUT, Times};

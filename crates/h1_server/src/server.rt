@@ -21,6 +21,7 @@ mod keeping;
 mod replies;
 mod requests;
 mod reusing;
+mod timing;
 
 /// A server's session over a link, for one request and its reply at a time.
 #[derive(Drop)]

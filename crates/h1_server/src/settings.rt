@@ -3,10 +3,12 @@ ghost use Rattle.std.specs.Prelude.{◌≡◌};
 ghost use Rattle.h1_server.specs.Keepalive.{keepalive_set, new_settings, wished};
 ghost use Rattle.h1_server.specs.Reuse.{next_settings, one_less};
 
-/// How a session treats its connection. Times are in seconds.
+use crate::Times;
+
+/// How a session treats its connection.
 #[derive(Clone, Copy, Debug, PartialEq, Eq)]
 pub struct Settings {
-    /// The deadline of the next head where keep-alive is on; 0 is none.
+    /// The deadline of the next head in seconds where keep-alive is on; 0 is none.
     pub keepalive: u64,
     /// Nothing may follow the reply.
     pub keep_off: bool,
@@ -16,6 +18,8 @@ pub struct Settings {
     pub pipelining: bool,
     /// How many requests more may be served after this one; None is no limit.
     pub reuses: Option<u32>,
+    /// How long its reads and writes may wait.
+    pub times: Times,
 }
 
 /// The settings with keep-alive off, or on with a deadline.
@@ -49,6 +53,7 @@ pub(crate) fn next_settings(settings: Settings) -> Settings
     Settings {
         closing: true,
         reuses: one_less(settings.reuses),
+        times: Times::new(),
         ..settings
     }
 }
@@ -74,6 +79,7 @@ impl Settings {
             closing: true,
             pipelining: false,
             reuses: None,
+            times: Times::new(),
         }
     }
 }

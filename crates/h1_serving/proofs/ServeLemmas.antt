@@ -1,10 +1,9 @@
 -- A connection that is served, from poll to poll.
-use Rattle.std.proofs.Common.{◌≡◌, ℕ, ◌+◌, ◌/◌, ◌≤◌, inl, inr, List, [], ◌∷◌, ◌++◌, false, option_to_list, Option, Some, None, IfSome, IfNone, refl, sym, ◌∙◌, ap, subst, arith}
+use Rattle.std.proofs.Common.{◌≡◌, ◌⊎◌, ℕ, ◌+◌, ◌/◌, ◌≤◌, inl, inr, true, List, [], ◌∷◌, ◌++◌, false, option_to_list, Option, Some, None, IfSome, IfNone, refl, sym, ◌∙◌, ap, subst, arith}
 use Rattle.std.specs.List.{AllByRecursion}
 use Rattle.h1_error.specs.declared.error.Error.{Error}
 use Rattle.h1_error.specs.declared.error.ErrorType.{ErrorType}
 use Rattle.h1_error.specs.declared.error.ErrorType.TheVariants as kind
-use Rattle.h1_error.specs.declared.error.ErrorType.TheVariants.{ReadError}
 use Rattle.h1_error.specs.declared.progress.End.{End}
 use Rattle.h1_error.specs.declared.progress.End.TheVariants as end
 use Rattle.h1_error.specs.declared.progress.Progress.{Progress}
@@ -12,12 +11,12 @@ use Rattle.h1_error.specs.declared.progress.Progress.TheVariants as progress
 use Rattle.h1_link.specs.Counts.{Rose}
 use Rattle.h1_link.specs.Later.{Later}
 use Rattle.h1_link.specs.LinkState.{LinkState}
-use Rattle.h1_link.proofs.Laters.{later_itself}
+use Rattle.h1_link.proofs.Laters.{later_itself, rose_read_faults, rose_read_waits}
 use Rattle.h1_head.specs.Views.{ResponseView}
 use Rattle.h1_transcript.specs.declared.transcript.Entry.{Entry}
 use Rattle.h1_transcript.specs.Agrees.{Agrees}
 use Rattle.h1_transcript.specs.Ends.{EndCause, FailureCause, StopsLast}
-use Rattle.h1_transcript.specs.Growth.{Stays, DatedAt, RefusedIn, Grows, IsBegun, Extends}
+use Rattle.h1_transcript.specs.Growth.{Stays, DatedAt, RoseFor, RefusedIn, Grows, IsBegun, Extends}
 use Rattle.h1_echo.specs.Echo.{EchoGives}
 use Rattle.h1_app.specs.Accounted.{Accounted}
 use Rattle.h1_app.specs.Causes.{Cause}
@@ -26,21 +25,23 @@ use Rattle.h1_serving.specs.Served.{IsUnpolled, KeptInCall, LeavesInCall, BeganI
 use Rattle.h1_serving.proofs.WaitLemmas.{PollLeaves, at_none, leaves_none, leaves_on, waited_on, waited_none, waits_in_call}
 
 -- what the exchanges are, they are over a longer stretch
-refused_wide : (a b c d : LinkState) (o : Option Error) → a.read_faults ≤ b.read_faults
-    → c.read_faults ≤ d.read_faults
+refused_wide : (a b c d : LinkState) (o : Option Error) → Later a b → Later c d
     → RefusedIn b c None o → RefusedIn a d None o
 refused_wide a b c d None low high h = tt
-refused_wide a b c d (Some error) low high h = λ is. let rose =
-    h is in omega (arith, rose, low, high)
+refused_wide a b c d (Some error) low high h = by error.kind h where
+  by : (k : ErrorType) → RoseFor b c k → RoseFor a d k
+  by kind.ReadError h = rose_read_faults 1 a b c d low h high
+  by kind.ReadTimedout h = rose_read_waits 1 a b c d low h high
+  by _ h = tt
 
 refused_grown : (a b c : LinkState) (old new : Option Error) → Later a b → Later b c
     → RefusedIn a b None old
     → Stays old new → RefusedIn b c old new → RefusedIn a c None new
 refused_grown a b c None new first second was stays h =
-    refused_wide a b c c new first.counts.read_faults (omega arith) h
+    refused_wide a b c c new first (later_itself c) h
 refused_grown a b c (Some error) new first second was stays h =
     subst (RefusedIn a c None) (sym stays)
-    (refused_wide a a b c (Some error) (omega arith) second.counts.read_faults was)
+    (refused_wide a a b c (Some error) (later_itself a) second was)
 
 abbrev DatedIn : ℕ → ℕ → Entry → Option ResponseView → Type 0
 DatedIn first last e head =
@@ -71,7 +72,7 @@ served_wide : (first mid now : ℕ) (a b c : LinkState) (e : Entry) → mid ≤ 
 served_wide first mid now a b c e high later s = record {
   began = s.began;
   dated = wide e.sent_head s.dated;
-  refused = refused_wide a a b c e.body_error (omega arith) later.counts.read_faults s.refused;
+  refused = refused_wide a a b c e.body_error (later_itself a) later s.refused;
 }
   where
     wide : (head : Option ResponseView) → DatedIn first mid e head → DatedIn first now e head
@@ -95,7 +96,7 @@ served_begun first now a b c (e ∷ more) low one h = (
   record {
     began = h.0.keep_off;
     dated = dated_now first now e e.sent_head low h.0.dated;
-    refused = refused_wide a b c c e.body_error one.counts.read_faults (omega arith) h.0.refused;
+    refused = refused_wide a b c c e.body_error one (later_itself c) h.0.refused;
   },
   served_begun first now a b c more low one h.1,
 )
@@ -141,6 +142,18 @@ fails_in_call before a b c done (Some e) error kind.ReadError later (inr h) =
           (λ rose. omega (arith, rose, later.counts.read_faults)) h.0,
       h.1,
     )
+fails_in_call before a b c done last error kind.ReadTimedout later (inl h) =
+    inl ((let rose = h.0 in omega (arith, rose, later.counts.read_waits)), h.1, h.2)
+fails_in_call before a b c done None error kind.ReadTimedout later (inr h) = absurd h
+fails_in_call before a b c done (Some e) error kind.ReadTimedout later (inr h) =
+    inr (
+      stops_in_call before c done e error (Rose b.read_waits c.read_waits)
+          (Rose a.read_waits c.read_waits)
+          (λ rose. omega (arith, rose, later.counts.read_waits)) h.0,
+      h.1,
+    )
+fails_in_call before a b c done last error kind.WriteTimedout later h =
+    ((let rose = h.0 in omega (arith, rose, later.counts.write_waits)), h.1)
 fails_in_call before a b c done last error kind.WriteError later h =
     omega (arith, h, later.counts.write_faults)
 fails_in_call before a b c done last error kind.PrematureBodyEnd later h = h
@@ -150,7 +163,10 @@ fails_in_call before a b c done last error _ later h = h
 ends_in_call : (before a b c : LinkState) (done : List Entry) (last : Option Entry) (reason : End)
     → Later a b
     → EndCause before b c done last reason → EndCause before a c done last reason
-ends_in_call before a b c done last end.Finished later h = h
+ends_in_call before a b c done last end.Finished later h = (h.0, by h.1, h.2) where
+  by : (c.ended ≡ true) ⊎ Rose b.read_waits c.read_waits → (c.ended ≡ true) ⊎ Rose a.read_waits c.read_waits
+  by (inl ended) = inl ended
+  by (inr rose) = inr (omega (arith, rose, later.counts.read_waits))
 ends_in_call before a b c done last end.NotKept later h = h
 ends_in_call before a b c done last end.Overread later h = h
 ends_in_call before a b c done last (end.Failed error) later h =

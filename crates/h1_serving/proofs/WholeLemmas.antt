@@ -4,11 +4,12 @@ use Rattle.std.specs.List.{AllByRecursion}
 use Rattle.std.proofs.lemmas.List.{take-append-drop}
 use Rattle.std.proofs.lemmas.Bool.{cases_lt}
 use Rattle.h1_error.specs.declared.error.Error.{Error}
-use Rattle.h1_error.specs.declared.error.ErrorType.TheVariants.{ReadError, NoMemory}
+use Rattle.h1_error.specs.declared.error.ErrorType.TheVariants.{ReadError, ReadTimedout, NoMemory}
 use Rattle.h1_error.specs.declared.progress.End.TheVariants as end
 use Rattle.h1_error.specs.declared.progress.Progress.{Progress}
 use Rattle.h1_error.specs.declared.progress.Progress.TheVariants as progress
 use Rattle.h1_link.specs.Gate.{IsClosed, gate_from}
+use Rattle.h1_link.specs.Counts.{Rose}
 use Rattle.h1_link.specs.LinkState.{LinkState}
 use Rattle.h1_link.specs.MemPlan.{SamePlan, faults_due}
 use Rattle.h1_link.specs.MemRule.{Rule, EndReached}
@@ -120,21 +121,30 @@ gave bytes link fed rule = record {
     reached : link.state.ended ≡ true → length bytes ≤ link.state.bytes_in
     reached h = subst (λ o. EndReached o link.state.bytes_in) fed.end_at (rule.ended h)
 
-kept_on : (first last : ℕ) (link : LinkState) (e : Entry) → link.read_faults ≡ 0
+kept_on : (first last : ℕ) (link : LinkState) (e : Entry) → link.read_faults ≡ 0 → link.read_waits ≡ 0
     → BeganInCall first last new_mem_state.state link e → IsKeptOn e
-kept_on first last link e none s =
-    record { began = s.began; unfailed = by e.body_error s.refused } where
+kept_on first last link e none ready s =
+    record { began = s.began; unfailed = by e.body_error s.refused; in_time = late e.body_error s.refused } where
+      late : (o : Option Error) → RefusedIn new_mem_state.state link None o
+          → IfSome o (λ error. error.kind ≢ ReadTimedout)
+      late None h = tt
+      late (Some error) h = λ is.
+          let rose : Rose new_mem_state.state.read_waits link.read_waits = rw is at h in
+          absurd (omega (arith, rose, ready))
+
       by : (o : Option Error) → RefusedIn new_mem_state.state link None o
           → IfSome o (λ error. error.kind ≢ ReadError)
       by None h = tt
-      by (Some error) h = λ is. let rose = h is in absurd (omega (arith, rose, none))
+      by (Some error) h = λ is.
+          let rose : Rose new_mem_state.state.read_faults link.read_faults = rw is at h in
+          absurd (omega (arith, rose, none))
 
-all_kept : (first last : ℕ) (link : LinkState) (es : List Entry) → link.read_faults ≡ 0
+all_kept : (first last : ℕ) (link : LinkState) (es : List Entry) → link.read_faults ≡ 0 → link.read_waits ≡ 0
     → AllByRecursion (BeganInCall first last new_mem_state.state link) es
     → AllByRecursion IsKeptOn es
-all_kept first last link [] none h = tt
-all_kept first last link (e ∷ more) none h =
-    (kept_on first last link e none h.0, all_kept first last link more none h.1)
+all_kept first last link [] none ready h = tt
+all_kept first last link (e ∷ more) none ready h =
+    (kept_on first last link e none ready h.0, all_kept first last link more none ready h.1)
 
 -- what the call that serves it gives
 pub record IsCalled {C A J : Type 0} (count first last : ℕ) (view : View MemState C A J)
@@ -161,8 +171,12 @@ over count first last view answer c =
         reads = λ rose. omega (arith, rose, never.read_faults);
         writes = λ rose. omega (arith, rose, never.write_faults);
       };
+      ready = record {
+        reads = λ rose. omega (arith, rose, never.reads);
+        writes = λ rose. omega (arith, rose, never.writes);
+      };
       agrees = c.agrees;
-      kept = all_kept first last view.session.link.state (entries view) never.read_faults c.served;
+      kept = all_kept first last view.session.link.state (entries view) never.read_faults never.reads c.served;
       behind = read_map view.done new_mem_state.state.given view.session.link.state.given
           (λ rest. ReadSo rest view.session view.last) (λ rest. Unit {0})
           (λ rest h. tt) c.accounted.read;
@@ -202,8 +216,11 @@ whole_of count first last view (progress.Ready end.Finished) c none =
     let all =
     ends_served count new_mem_state.state new_mem_state.state view.session.link.state view.done
     view.last end.Finished o c.answers.1 in
-    let rest : drop view.session.link.state.bytes_in (generated count) ≡ [] =
-    o.gave.ended c.answers.1.1 in
+    let ended : view.session.link.state.ended ≡ true = elim c.answers.1.1 [
+      | inl met ↦ met
+      | inr rose ↦ absurd (o.ready.reads rose)
+    ] in
+    let rest : drop view.session.link.state.bytes_in (generated count) ≡ [] = o.gave.ended ended in
     let split = take-append-drop view.session.link.state.bytes_in (generated count) in
     let front : take view.session.link.state.bytes_in (generated count) ≡ generated count =
     sym (append-nil (take view.session.link.state.bytes_in (generated count)))
@@ -214,7 +231,7 @@ whole_of count first last view (progress.Ready end.Finished) c none =
     record {
       end = c.answers.0;
       given = o.gave.now_is ∙ ap Some front;
-      ended = c.answers.1.1;
+      ended = ended;
       shut = subst (ShutBy false view.session.link.state.shut) c.answers.0 c.shut;
       many = ap length last_none ∙ served_many view.done (messages count) all.1 ∙ many count;
       served_all = all.1;

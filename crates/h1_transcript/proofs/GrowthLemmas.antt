@@ -1,10 +1,11 @@
 -- How a transcript grows over steps, one after the other.
 use Rattle.std.proofs.Common.{◌≡◌, ℕ, ◌+◌, ◌/◌, ◌≤◌, List, [], ◌∷◌, ◌++◌, Bool, Option, Some, None, IfSome, option_to_list, refl, sym, ◌∙◌, ap, append_assoc, append-nil, arith}
-use Rattle.h1_transcript.specs.Words.{AllByRecursion, Error, LinkState, ResponseView, Reply, Entry}
+use Rattle.h1_transcript.specs.Words.{AllByRecursion, Error, ErrorType, LinkState, ResponseView, Reply, Entry}
 use Rattle.h1_link.specs.Later.{Later}
-use Rattle.h1_link.proofs.Laters.{later_itself, rose_read_faults}
-use Rattle.h1_transcript.specs.Growth.{Extends, Grows, Stays, DatedAt, RepliedOn, RefusedIn, IsBegun, ExtendsLast}
+use Rattle.h1_link.proofs.Laters.{later_itself, rose_read_faults, rose_read_waits}
+use Rattle.h1_transcript.specs.Growth.{Extends, Grows, Stays, DatedAt, RepliedOn, RoseFor, RefusedIn, IsBegun, ExtendsLast}
 use Rattle.h1_transcript.specs.Entries.{replies}
+use Rattle.h1_error.specs.declared.error.ErrorType.TheVariants as kind
 
 -- what is there stays
 pub stays_itself : {T : Type 0} (o : Option T) → Stays o o
@@ -81,18 +82,26 @@ replied_on (Some reply) a b c first x y =
 
 module _ (now : ℕ) (shutdown : Bool) (first second third : LinkState)
     (before : Later first second) (behind : Later second third) where
-  -- a read that failed in a part failed in the whole
+  -- what failed or waited in a part did so in the whole
+  rose_front : (k : ErrorType) → RoseFor first second k → RoseFor first third k
+  rose_front kind.ReadError rose = rose_read_faults 1 first first second third (later_itself first) rose behind
+  rose_front kind.ReadTimedout rose = rose_read_waits 1 first first second third (later_itself first) rose behind
+  rose_front _ rose = tt
+
+  rose_back : (k : ErrorType) → RoseFor second third k → RoseFor first third k
+  rose_back kind.ReadError rose = rose_read_faults 1 first second third third before rose (later_itself third)
+  rose_back kind.ReadTimedout rose = rose_read_waits 1 first second third third before rose (later_itself third)
+  rose_back _ rose = tt
+
   refused_front : (refused : Option Error) → RefusedIn first second None refused
       → RefusedIn first third None refused
   refused_front None x = tt
-  refused_front (Some error) x = λ is.
-      rose_read_faults 1 first first second third (later_itself first) (x is) behind
+  refused_front (Some error) x = rose_front error.kind x
 
   refused_back : (refused : Option Error) → RefusedIn second third None refused
       → RefusedIn first third None refused
   refused_back None x = tt
-  refused_back (Some error) x = λ is.
-      rose_read_faults 1 first second third third before (x is) (later_itself third)
+  refused_back (Some error) x = rose_back error.kind x
 
   refused_on : (a b c : Option Error) → Stays a b → Stays b c → RefusedIn first second a b
       → RefusedIn second third b c → RefusedIn first third a c

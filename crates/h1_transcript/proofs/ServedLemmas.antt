@@ -1,7 +1,8 @@
 -- Every end of a connection with valid input is that of one that served it all, or being out of memory.
 use Rattle.std.proofs.Common.{◌≡◌, ◌≢◌, ℕ, ◌+◌, ◌-◌, ◌<◌, ◌⊎◌, inl, inr, List, [], ◌∷◌, ◌++◌, length, option_to_list, Bool, true, false, not, ◌&&◌, Option, Some, None, IfSome, refl, sym, ◌∙◌, ap, subst, append-nil, arith}
 use Rattle.h1_transcript.specs.Words.{AllByRecursion, Error, ErrorType, End, LinkState, ResponseView, wish, unfinished, broken, has_reuses, Reply, Entry, Whole}
-use Rattle.std.proofs.lemmas.Bool.{false≢true}
+use Rattle.std.proofs.lemmas.Bool.{false≢true, true≢false}
+use Rattle.h1_transfer.specs.Deadline.{is_timeout}
 use Rattle.h1_error.specs.declared.error.ErrorType.TheVariants as kind
 use Rattle.h1_error.specs.declared.progress.End.TheVariants as end
 use Rattle.h1_body.proofs.GrammarRuns.{above}
@@ -11,7 +12,7 @@ use Rattle.h1_transcript.specs.Given.{Given}
 use Rattle.h1_transcript.specs.Lawful.{IsLawful}
 use Rattle.h1_transcript.specs.Begun.{AreBegun, reuses_at}
 use Rattle.h1_transcript.specs.Ends.{EndCause, FailureCause, AreAllDone, StopsLast, OfLast, LastAfter, ReadAll}
-use Rattle.h1_transcript.specs.Complete.{IsValid, GaveOf, AreWithin, NoFault, KeepsOn, ServesAll}
+use Rattle.h1_transcript.specs.Complete.{IsValid, GaveOf, AreWithin, NoFault, IsInTime, KeepsOn, ServesAll}
 use Rattle.h1_transcript.specs.Exchange.{IsAllowed, IsDated, may_keep}
 use Rattle.h1_transcript.specs.Stream.{refused}
 use Rattle.h1_transcript.proofs.CompleteLemmas.{told_of, left_of, none_left, not_refused, not_begun, not_cut, not_broken, last_wished}
@@ -119,12 +120,12 @@ module _ (gives : Given → Reply → Type 0) (limit : Option ℕ) (before old n
   all_given rest P r none =
       subst (λ xs. Parses xs r.left empty) (ap (λ xs. r.behind ++ xs) none ∙ append-nil r.behind) r.parses
 
-  finished : (last : Option Entry) → Serving last → EndCause before old now done last end.Finished
-      → AreServed done requests
-  finished last s cause =
+  finished : (last : Option Entry) → Serving last → now.ended ≡ true
+      → EndCause before old now done last end.Finished → AreServed done requests
+  finished last s ended cause =
       let r = rest_of last (λ rest. EndsAs rest empty) s cause.2 in
       r.served (none_left r.behind r.left r.holds
-      (all_given s.gave.rest (λ rest. EndsAs rest empty) r (s.gave.ended cause.1)))
+      (all_given s.gave.rest (λ rest. EndsAs rest empty) r (s.gave.ended ended)))
 
   -- the connection is kept after each reply
   never_closed : (last : Option Entry) → Serving last
@@ -175,38 +176,40 @@ module _ (gives : Given → Reply → Type 0) (limit : Option ℕ) (before old n
   ]
 
   failed : (last : Option Entry) (error : Error) (why : ErrorType) → Serving last
-      → error.kind ≡ why → FailureCause before old now done last error why
+      → is_timeout why ≡ false → error.kind ≡ why → FailureCause before old now done last error why
       → error.kind ≡ kind.NoMemory
-  failed last error (kind.InvalidHTTPHeader fault) s is cause =
+  failed last error (kind.InvalidHTTPHeader fault) s in_time is cause =
       let r = rest_of last (λ rest. EndsAs rest (refused fault)) s cause.1 in
       absurd (not_refused r.behind s.gave.rest r.left fault r.parses r.holds)
-  failed last error kind.ConnectionClosed s is cause = absurd (never_inside last error s cause)
-  failed None error kind.InvalidBody s is cause = absurd cause
-  failed (Some e) error kind.InvalidBody s is cause =
+  failed last error kind.ConnectionClosed s in_time is cause = absurd (never_inside last error s cause)
+  failed None error kind.InvalidBody s in_time is cause = absurd cause
+  failed (Some e) error kind.InvalidBody s in_time is cause =
       let r = rest_of (Some e) (λ rest. LastStands rest e (broken e.body)) s cause.1 in
       absurd (not_broken r.behind s.gave.rest r.left e r.parses r.holds)
-  failed last error kind.ReadError s is cause = absurd (never_faulty last error s is cause)
-  failed last error kind.WriteError s is cause = absurd (s.faultless.writes cause)
-  failed None error kind.PrematureBodyEnd s is cause = absurd cause
-  failed (Some e) error kind.PrematureBodyEnd s is cause =
+  failed last error kind.ReadError s in_time is cause = absurd (never_faulty last error s is cause)
+  failed last error kind.WriteError s in_time is cause = absurd (s.faultless.writes cause)
+  failed None error kind.PrematureBodyEnd s in_time is cause = absurd cause
+  failed (Some e) error kind.PrematureBodyEnd s in_time is cause =
       absurd (false≢true (sym (all_last KeepsOn done e s.keeps).long ∙ cause.0.short))
-  failed last error kind.NoMemory s is cause = is
-  failed last error _ s is cause = absurd cause
+  failed last error kind.NoMemory s in_time is cause = is
+  failed last error kind.ReadTimedout s in_time is cause = absurd (true≢false in_time)
+  failed last error kind.WriteTimedout s in_time is cause = absurd (true≢false in_time)
+  failed last error _ s in_time is cause = absurd cause
 
   -- every end is that of a connection that served all
-  served_so : (last : Option Entry) (reason : End) → Serving last
+  served_so : (last : Option Entry) (reason : End) → Serving last → IsInTime now reason
       → EndCause before old now done last reason → ServesAll before now requests done last reason
-  served_so last end.Finished s cause = (cause.0, finished last s cause)
-  served_so last end.NotKept s cause = absurd (never_closed last s cause)
-  served_so last end.Overread s cause = absurd (never_over last s cause)
-  served_so last (end.Failed error) s cause = failed last error error.kind s refl cause.1
+  served_so last end.Finished s in_time cause = (cause.0, finished last s in_time cause)
+  served_so last end.NotKept s in_time cause = absurd (never_closed last s cause)
+  served_so last end.Overread s in_time cause = absurd (never_over last s cause)
+  served_so last (end.Failed error) s in_time cause = failed last error error.kind s in_time refl cause.1
 
   pub served : (last : Option Entry) (reason : End)
       → IsValid input requests → GaveOf input before now → AreWithin limit (length requests)
-      → NoFault old now → Agrees gives limit before now (done ++ option_to_list last)
+      → NoFault old now → IsInTime now reason → Agrees gives limit before now (done ++ option_to_list last)
       → AllByRecursion KeepsOn (done ++ option_to_list last)
       → EndCause before old now done last reason → ServesAll before now requests done last reason
-  served last reason valid gave within faultless agrees keeps cause =
+  served last reason valid gave within faultless in_time agrees keeps cause =
       served_so last reason
       (record { valid = valid; gave = gave; within = within; faultless = faultless; agrees = agrees; keeps = keeps })
-      cause
+      in_time cause

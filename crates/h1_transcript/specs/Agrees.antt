@@ -11,7 +11,8 @@ use Rattle.h1_transcript.specs.Stream.{Message, Begins}
 -- what an error of this kind says of a request's body
 abbrev pub RefusalOf : LinkState → Entry → Body → ErrorType → Type 0
 RefusalOf now e body kind = SaysOfBody (body ≡ broken e.body)
-    ((body ≡ unfinished e.body) × (now.ended ≡ true)) (body ≡ unfinished e.body) kind
+    ((body ≡ unfinished e.body) × (now.ended ≡ true)) (body ≡ unfinished e.body)
+    (body ≡ unfinished e.body) kind
 
 -- the body's error, which isn't for a retry, and how the body stood when the application replied
 pub record IsReadAs (now : LinkState) (e : Entry) (body : Body) : Type 0 where

@@ -1,5 +1,6 @@
 -- What each exchange begins with (RFC 9112, section 9.3).
 use Rattle.std.specs.Prelude.{◌≡◌, ℕ, ◌+◌, ◌-◌, List, [], ◌∷◌, length, Bool, true, false, Option, Some, None}
+use Rattle.h1_server.specs.Times.{new_times}
 use Rattle.h1_transcript.specs.Words.{Settings, Entry}
 
 -- how many requests more may follow the one with this index, under this limit
@@ -18,6 +19,7 @@ pub record IsSetFor (limit : Option ℕ) (i : ℕ) (pipelining : Bool)
   pub closing : settings.closing ≡ true
   pub pipelining_is : settings.pipelining ≡ pipelining
   pub reuses : settings.reuses ≡ reuses_at limit i
+  pub times : settings.times ≡ new_times
 
 -- each exchange, counted from this index, began so; pipelining is what the one before left
 abbrev pub AreBegun : Option ℕ → ℕ → Bool → List Entry → Type 0
@@ -34,6 +36,7 @@ pub record IsSetAlike (old new : Settings) : Type 0 where
   pub closing : new.closing ≡ old.closing
   pub pipelining : new.pipelining ≡ old.pipelining
   pub reuses : new.reuses ≡ old.reuses
+  pub times : new.times ≡ old.times
 
 -- an exchange that begins takes what was set, and it stays set where none begins
 abbrev pub BeginsWith : Settings → Settings → Option Entry → Option Entry → Type 0

@@ -7,6 +7,7 @@ use Rattle.h1_transcript.specs.Behind.{is_until_close}
 use Rattle.h1_transcript.specs.Ends.{AreAllDone}
 use Rattle.h1_transcript.specs.Exchange.{is_short}
 use Rattle.h1_transcript.specs.Stream.{Message, Parses, empty}
+use Rattle.h1_transfer.specs.Deadline.{is_timeout}
 
 -- a request that wishes the connection to be kept
 abbrev pub IsWished : Message → Type 0
@@ -45,6 +46,12 @@ AreWithin (Some limit) count = count ≤ limit
 pub record NoFault (old now : LinkState) : Type 0 where
   pub reads : Rose old.read_faults now.read_faults → ⊥
   pub writes : Rose old.write_faults now.write_faults → ⊥
+
+-- the reason isn't that a limit of time was reached
+abbrev pub IsInTime : LinkState → End → Type 0
+IsInTime now end.Finished = now.ended ≡ true
+IsInTime now (end.Failed error) = is_timeout error.kind ≡ false
+IsInTime now _ = Unit {0}
 
 -- the exchanges are these requests, all of them and each whole
 abbrev pub AreServed : List Entry → List Message → Type 0

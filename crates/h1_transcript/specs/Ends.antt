@@ -95,16 +95,25 @@ FailureCause before old now done last error kind.ReadError =
     ⊎ OfLast last (λ e. StopsLast before now done e error (Rose old.read_faults now.read_faults)
     × IfTold before.given now.given (λ since. LastAfter since done e (unfinished e.body)))
 FailureCause before old now done last error kind.WriteError = Rose old.write_faults now.write_faults
+FailureCause before old now done last error kind.ReadTimedout =
+    (Rose old.read_waits now.read_waits × AreAllDone before now done last
+    × IfTold before.given now.given (λ since. ReadAll since done begun))
+    ⊎ OfLast last (λ e. StopsLast before now done e error (Rose old.read_waits now.read_waits)
+    × IfTold before.given now.given (λ since. LastAfter since done e (unfinished e.body)))
+FailureCause before old now done last error kind.WriteTimedout =
+    Rose old.write_waits now.write_waits
+    × OfLast last (λ e. (e.sent_body ≢ None) × (e.owed ≡ true))
 FailureCause before old now done last error kind.PrematureBodyEnd =
     OfLast last (λ e. IsWrittenShort before now done e × (e.body_error ≡ None))
 FailureCause before old now done last error kind.NoMemory = Unit {0}
 FailureCause before old now done last error _ = ⊥
 
--- When a connection ends; `old` is the link's state before the poll that gave the end. An error
--- isn't for a retry.
+-- When a connection ends; `old` is the link's state before the poll that gave the end. It is finished
+-- where its link ended behind the last request, or waited too long there. An error isn't for a retry.
 abbrev pub EndCause : LinkState → LinkState → LinkState → List Entry → Option Entry → End → Type 0
 EndCause before old now done last end.Finished =
-    AreAllDone before now done last × (now.ended ≡ true)
+    AreAllDone before now done last
+    × ((now.ended ≡ true) ⊎ Rose old.read_waits now.read_waits)
     × IfTold before.given now.given (λ since. ReadAll since done empty)
 EndCause before old now done last end.NotKept =
     OfLast last (λ e. IsComplete before now done e × (is_short e ≡ false) × (e.body_error ≡ None)

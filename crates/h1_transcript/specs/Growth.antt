@@ -1,6 +1,7 @@
 -- How a transcript grows in a poll.
 use Rattle.std.specs.Prelude.{◌≡◌, ℕ, ◌/◌, ◌≤◌, List, [], ◌∷◌, ◌++◌, Bool, Option, Some, None, IfSome}
-use Rattle.h1_transcript.specs.Words.{AllByRecursion, Error, ReadError, LinkState, Rose, ResponseView, Reply, Entry}
+use Rattle.h1_error.specs.declared.error.ErrorType.TheVariants as kind
+use Rattle.h1_transcript.specs.Words.{AllByRecursion, Error, ErrorType, LinkState, Rose, ResponseView, Reply, Entry}
 
 -- a value that is there stays
 abbrev pub Stays : {T : Type 0} → Option T → Option T → Type 0
@@ -20,10 +21,16 @@ RepliedOn None old new = Unit {0}
 RepliedOn (Some reply) old new =
     (new.how ≡ old.how) × (new.left ≡ old.left) × (new.handed ≡ old.handed)
 
--- a body is refused for a failed read only where a read failed between these states of the link
+-- a read failed between these states of the link, or was not ready, where the error tells that
+abbrev pub RoseFor : LinkState → LinkState → ErrorType → Type 0
+RoseFor before behind kind.ReadError = Rose before.read_faults behind.read_faults
+RoseFor before behind kind.ReadTimedout = Rose before.read_waits behind.read_waits
+RoseFor before behind _ = Unit {0}
+
+-- a body is refused for a read that failed or waited too long only where one did between these
+-- states of the link
 abbrev pub RefusedIn : LinkState → LinkState → Option Error → Option Error → Type 0
-RefusedIn before behind None new =
-    IfSome new (λ error. error.kind ≡ ReadError → Rose before.read_faults behind.read_faults)
+RefusedIn before behind None new = IfSome new (λ error. RoseFor before behind error.kind)
 RefusedIn before behind (Some error) new = Unit {0}
 
 -- the same exchange, further on, at this moment and with these states of the link around

@@ -5,4 +5,5 @@ pub mod TakeLemmas
 pub mod BodyLemmas
 pub mod OptionLemmas
 pub mod WriteLemmas
+pub mod HeadLemmas
 pub mod Words

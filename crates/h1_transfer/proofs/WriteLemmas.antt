@@ -1,10 +1,14 @@
 -- Lemmas on the calls that write a message.
-use Rattle.std.proofs.Common.{◌≡◌, ℕ, ◌+◌, ◌-◌, ◌^◌, min, List, [], ◌++◌, length, Option, Some, None, Result, Ok, Err, refl, sym, ap, ◌∙◌, append-nil, length-append, arith}
+use Rattle.std.proofs.Common.{◌≡◌, ℕ, ◌+◌, ◌-◌, ◌^◌, min, nat_lt, List, [], ◌++◌, length, Option, Some, None, option_map, Result, Ok, Err, refl, sym, ap, ◌∙◌, append-nil, length-append, arith}
 use Rattle.h1_transfer.specs.Words.{Poll, Ready, Pending, Error, LinkState, piece_bytes, end_bytes, EndTaken, Delivery, Step, Outgoing, Piece, Finish}
 use Rattle.h1_transfer.proofs.Words.{TransferView, itself, PieceAnswer, DeliveryAnswer, sent_after, with_count}
 use Rattle.h1_transfer.specs.TransferView.{Settled}
-use Rattle.h1_transfer.specs.Writes.{Writes, IsSameMessage, Delivers}
-use Rattle.h1_transfer.specs.PieceWrites.{WritesPiece, PieceTaking}
+use Rattle.h1_transfer.specs.Writes.{Writes, IsSameBody, IsSameMessage, Delivers}
+use Rattle.h1_transfer.specs.Budget.{allowance}
+use Rattle.h1_transfer.specs.Moved.{Sent}
+use Rattle.h1_transfer.specs.Deadline.{IsTimed}
+use Rattle.h1_transfer.specs.declared.deadline.Deadline.{Deadline}
+use Rattle.h1_transfer.specs.PieceWrites.{WritesPiece, PieceTaking, noted_piece}
 use Rattle.h1_transfer.specs.EndWrites.{EndCall, EndAnswer, EndStage, EndTaking, WritesEnd, starts, goes_on, falls_short, stage_of}
 use Rattle.h1_transfer.specs.BodyWrites.{IsPieceStep, IsTakenUp, TakesUpPiece, TakesUpEnd, piece_count}
 use Rattle.h1_transfer.specs.declared.writing_body.EndTaken.TheVariants as e
@@ -17,6 +21,28 @@ counted_sent sent before owed piece is =
     let len : length before ≡ length piece + length owed = ap (λ bytes. length bytes) is ∙ length-append piece owed in
     omega arith
 
+-- a call that took up bytes behind those that were owed, and then sent
+writes_taken : {L : Type 0} (state : L → LinkState) (old new : TransferView L) (taken : Outgoing) (taking : List ℕ)
+    (left : ℕ) → taken.owed ≡ old.outgoing.owed ++ taking → taken.sent ≡ old.outgoing.sent
+    → Sent (state old.link) (state new.link) taken.owed new.outgoing.owed (allowance old.budget) left
+    → new.budget ≡ option_map (λ _. left) old.budget
+    → new ≡ record old { link = new.link; outgoing = new.outgoing; budget = new.budget }
+    → new.outgoing.sent ≡ sent_after taken.sent taken.owed new.outgoing.owed
+    → Writes state itself old new taking left
+writes_taken state old new taken taking left owes same sent budget rest counted = record {
+  sent = record {
+    piece = sent.piece;
+    moved = sent.moved;
+    bytes = sym owes ∙ sent.bytes;
+    within = sent.within;
+    unread = sent.unread;
+  };
+  budget = budget;
+  rest = rest;
+  counted = counted ∙ counted_sent taken.sent taken.owed new.outgoing.owed sent.piece sent.bytes
+      ∙ ap (λ n. min (n + length sent.piece) (2 ^ 64 - 1)) same;
+}
+
 -- a call that took up bytes behind those that were owed, and then delivered
 pub written : {L : Type 0} (state : L → LinkState) (how : Delivery) (old new : TransferView L) (taken : Outgoing)
     (taking : List ℕ) (step : Step) (outcome : Poll (Result (Unit {0}) Error))
@@ -25,19 +51,7 @@ pub written : {L : Type 0} (state : L → LinkState) (how : Delivery) (old new :
     → Writes state itself old new taking d.left
     × DeliveryAnswer how None (state old.link) (state new.link) new.outgoing step d.left outcome
 written state how old new taken taking step outcome owes up none d = (
-  record {
-    sent = record {
-      piece = d.sent.piece;
-      moved = d.sent.moved;
-      bytes = sym owes ∙ d.sent.bytes;
-      within = d.sent.within;
-      unread = d.sent.unread;
-    };
-    budget = d.budget;
-    rest = d.rest;
-    counted = d.counted ∙ counted_sent taken.sent taken.owed new.outgoing.owed d.sent.piece d.sent.bytes
-        ∙ ap (λ n. min (n + length d.sent.piece) (2 ^ 64 - 1)) up.sent;
-  },
+  writes_taken state old new taken taking d.left owes up.sent d.sent d.budget d.rest d.counted,
   rw (up.step, up.refused ∙ none) at d.answer,
 )
 
@@ -47,48 +61,66 @@ count_on outgoing count at = ap (λ (step : Step). piece_count (record outgoing 
 
 -- what a body call takes up before it delivers
 piece_taken : (old taken new : Outgoing) (piece : Option (List ℕ)) → TakesUpPiece old taken piece
-    → IsPieceStep piece old.step → Settled old → old.refused ≡ None → IsSameMessage taken new
+    → IsPieceStep piece old.step → Settled old → old.refused ≡ None → IsSameBody taken new
     → (taking : List ℕ) × PieceTaking old new taking piece × (taken.owed ≡ old.owed ++ taking)
     × IsTakenUp old taken (Piece (piece_count old piece))
 piece_taken old taken new None is free settled none same = (
   [],
   (refl, rw is at same),
   rw is (sym (append-nil old.owed)),
-  rw is (record { step = free.1 ∙ ap Piece (sym (count_on old free.0 free.1)); refused = refl; sent = refl }),
+  rw is (record {
+    step = free.1 ∙ ap Piece (sym (count_on old free.0 free.1));
+    refused = refl;
+    sent = refl;
+    write_since = refl;
+  }),
 )
 piece_taken old taken new (Some piece) is free settled none same =
     let kept = rw is at same in (
       piece_bytes old.writer piece,
-      (refl, kept.headed, kept.writer),
+      (refl, kept.headed, kept.writer, kept.handed),
       rw (is, settled.free free none) refl,
-      rw is (record { step = refl; refused = refl; sent = refl }),
+      rw is (record { step = refl; refused = refl; sent = refl; write_since = refl }),
     )
 
-piece_answer : (before now : LinkState) (new : Outgoing) (count : Option ℕ) (left : ℕ)
-    (outcome : Poll (Result (Unit {0}) Error))
-    → DeliveryAnswer delivery.Sent None before now new (Piece count) left outcome
-    → PieceAnswer before now new count left (with_count outcome count)
-piece_answer before now new count left (Ready (Ok done)) h = (h.0, refl)
-piece_answer before now new count left (Ready (Err error)) h = h
-piece_answer before now new count left Pending h = h
+-- what a piece that is being written comes to, behind what its call took up
+pub taken_piece : (old taken : Outgoing) (count : Option ℕ) (piece : Option (List ℕ)) → count ≡ piece_count old piece
+    → TakesUpPiece old taken piece → IsPieceStep piece old.step → taken.step ≡ Piece count
+taken_piece old taken count None counts is free =
+    rw (is, counts) (free.1 ∙ ap Piece (sym (count_on old free.0 free.1)))
+taken_piece old taken count (Some piece) counts is free = rw (is, counts) refl
+
+-- what is taken up doesn't touch the refusal
+pub taken_unrefused : (old taken : Outgoing) (piece : Option (List ℕ)) → TakesUpPiece old taken piece
+    → old.refused ≡ None → taken.refused ≡ None
+taken_unrefused old taken None is none = rw is none
+taken_unrefused old taken (Some piece) is none = rw is none
 
 -- a body call that wrote
-pub piece_written : {L : Type 0} (state : L → LinkState) (old new : TransferView L) (taken : Outgoing)
-    (count : Option ℕ) (outcome : Poll (Result (Unit {0}) Error)) (piece kept : Option (List ℕ))
+pub piece_written : {L : Type 0} (state : L → LinkState) (deadline : Deadline) (old new : TransferView L)
+    (taken : Outgoing) (count : Option ℕ) (left : ℕ) (outcome : Poll (Result (Option ℕ) Error))
+    (piece kept : Option (List ℕ))
     → kept ≡ None → count ≡ piece_count old.outgoing piece → TakesUpPiece old.outgoing taken piece
     → IsPieceStep piece old.outgoing.step → Settled old.outgoing → old.outgoing.refused ≡ None
-    → Delivers state delivery.Sent (record old { outgoing = taken }) new outcome
-    → WritesPiece state itself old new piece kept (with_count outcome count)
-piece_written state old new taken count outcome piece kept out counts takes free settled none d =
-    let up = piece_taken old.outgoing taken new.outgoing piece takes free settled none d.same in
-    let wrote = written state delivery.Sent old new taken up.0 _ outcome up.2 up.3 none d in
+    → Sent (state old.link) (state new.link) taken.owed new.outgoing.owed (allowance old.budget) left
+    → new.budget ≡ option_map (λ _. left) old.budget
+    → new ≡ record old { link = new.link; outgoing = new.outgoing; budget = new.budget }
+    → IsSameBody taken new.outgoing × (new.outgoing.sent ≡ sent_after taken.sent taken.owed new.outgoing.owed)
+    → PieceAnswer (state old.link) (state new.link) new.outgoing count left outcome
+    → IsTimed (noted_piece (state old.link) (state new.link) taken new.outgoing deadline
+    (nat_lt left (allowance old.budget))) left outcome
+    → WritesPiece state itself deadline old new piece kept outcome
+piece_written state deadline old new taken count left outcome piece kept out counts takes free settled none sent
+    budget rest same answer timed =
+    let up = piece_taken old.outgoing taken new.outgoing piece takes free settled none same.0 in
     record {
       taking = up.0;
-      left = d.left;
-      writes = wrote.0;
+      left = left;
+      writes = writes_taken state old new taken up.0 left up.2 up.3.sent sent budget rest same.1;
       takes = up.1;
       out = out;
-      answer = rw counts (piece_answer _ _ _ _ _ outcome wrote.1);
+      answer = rw counts at answer;
+      timed = rw up.3.write_since at timed;
     }
 
 -- what a call at the end of the body takes up before it delivers
@@ -103,7 +135,7 @@ end_taken old taken new e.GoesOn some is settled none same = (
   rw is.1 refl,
   (refl, rw is.0 at same),
   rw is.0 (sym (append-nil old.owed)),
-  rw is.0 (record { step = is.1; refused = refl; sent = refl }),
+  rw is.0 (record { step = is.1; refused = refl; sent = refl; write_since = refl }),
   rw is.0 refl,
 )
 end_taken old taken new e.Starts some is settled none same =
@@ -111,9 +143,9 @@ end_taken old taken new e.Starts some is settled none same =
       starts,
       end_bytes old.writer,
       rw (is.0, is.1, is.2) refl,
-      (refl, kept.headed, kept.writer),
+      (refl, kept.headed, kept.writer, kept.handed, kept.write_since),
       rw (is.3, settled.free is.0 none) refl,
-      rw is.3 (record { step = refl; refused = refl; sent = refl }),
+      rw is.3 (record { step = refl; refused = refl; sent = refl; write_since = refl }),
       rw is.3 refl,
     )
 

@@ -13,7 +13,8 @@ error_of kind = record { kind = kind; retry = false }
 abbrev pub RefusesBody : LinkState → LinkState → BodyReader → List ℕ → ErrorType → Type 0
 RefusesBody before now reader received kind = SaysOfBody (reads reader [] ≡ broken [])
     ((now.ended ≡ true) × Lacks reader received)
-    (Rose before.read_faults now.read_faults × Lacks reader received) kind
+    (Rose before.read_faults now.read_faults × Lacks reader received)
+    (Rose before.read_waits now.read_waits × Lacks reader received) kind
 
 -- every refusal but out of memory is answered again
 abbrev pub refused_for_good : Error → Option Error
@@ -35,6 +36,11 @@ pub record IsReadAtOnce (before now : LinkState) (was : Bool) (new : BodyState) 
   pub waits : new.waits ≡ was
   pub link_waits : now.read_waits ≡ before.read_waits
 
+-- a read that waited too long is noted as one that is pending is
+abbrev pub IsReadSo : LinkState → LinkState → Bool → BodyState → ErrorType → Type 0
+IsReadSo before now was new kind.ReadTimedout = new.waits ≡ true
+IsReadSo before now was new _ = IsReadAtOnce before now was new
+
 -- when each answer of a read of a part comes; a read that was pending is noted
 abbrev pub PartAnswer : LinkState → LinkState → Bool → BodyState → List ℕ → List ℕ → ℕ
     → Poll (Result (Option (List ℕ)) Error) → Type 0
@@ -46,7 +52,7 @@ PartAnswer before now was new received payload left (Ready (Ok None)) =
     × IsReadAtOnce before now was new
 PartAnswer before now was new received payload left (Ready (Err error)) =
     (payload ≡ []) × (new.refused ≡ refused_behind new.kept error)
-    × RefusesBody before now new.reader received error.kind × IsReadAtOnce before now was new
+    × RefusesBody before now new.reader received error.kind × IsReadSo before now was new error.kind
     × (error.retry ≡ false)
 PartAnswer before now was new received payload left Pending =
     (payload ≡ []) × Lacks new.reader received × (new.refused ≡ None) × (new.waits ≡ true)

@@ -26,11 +26,12 @@ piece_count outgoing None = count_at outgoing.step where
 abbrev pub IsEndStep : Step → Type 0
 IsEndStep step = (step ≡ Free) ⊎ (step ≡ Finish)
 
--- what is taken up doesn't touch the refusal and the count of written bytes
+-- what is taken up doesn't touch the refusal, the count of written bytes and the wait
 pub record IsTakenUp (old new : Outgoing) (next : Step) : Type 0 where
   pub step : new.step ≡ next
   pub refused : new.refused ≡ old.refused
   pub sent : new.sent ≡ old.sent
+  pub write_since : new.write_since ≡ old.write_since
 
 -- a piece that is handed in is taken up, and nothing where its call goes on
 abbrev pub TakesUpPiece : Outgoing → Outgoing → Option (List ℕ) → Type 0
@@ -40,7 +41,13 @@ TakesUpPiece old new (Some piece) =
       owed = piece_bytes old.writer piece;
       writer = after_piece old.writer piece;
       step = Piece (piece_count old (Some piece));
+      handed = length piece;
     })
+
+-- the length of the piece that a call writes: of the one that is handed in, or of the one that was
+abbrev pub piece_len : Outgoing → Option (List ℕ) → ℕ
+piece_len outgoing (Some piece) = length piece
+piece_len outgoing None = outgoing.handed
 
 -- what becomes of the end of the body
 abbrev pub TakesUpEnd : Outgoing → Outgoing → Result EndTaken Error → Type 0

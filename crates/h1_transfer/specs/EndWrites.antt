@@ -28,7 +28,8 @@ stage_of outgoing = end_stage outgoing.step (is_begun outgoing.writer) (is_short
 abbrev pub EndTaking : Outgoing → Outgoing → List ℕ → EndStage → Type 0
 EndTaking old new taking starts =
     (taking ≡ end_bytes old.writer) × (new.headed ≡ old.headed)
-    × (new.writer ≡ record old.writer { ended = true })
+    × (new.writer ≡ record old.writer { ended = true }) × (new.handed ≡ old.handed)
+    × (new.write_since ≡ old.write_since)
 EndTaking old new taking falls_short = ⊥
 EndTaking old new taking goes_on = (taking ≡ []) × IsSameMessage old new
 

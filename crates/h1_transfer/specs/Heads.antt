@@ -1,8 +1,12 @@
 -- Heads at the front of what is received, and what reading one comes to (RFC 9112, sections 2.2 and 8).
-use Rattle.std.specs.Prelude.{◌≡◌, ℕ, ◌<◌, ◌≤◌, ◌+◌, List, [], length, Bool, true, false, Option, None, IsSomeAnd, option_map}
+use Rattle.std.specs.Prelude.{◌≡◌, ℕ, ◌<◌, ◌≤◌, ◌+◌, nat_lt, List, [], length, Bool, true, false, Option, Some, None, IsSomeAnd, option_map}
 use Rattle.h1_error.specs.declared.head_fault.HeadFault.{HeadFault}
 use Rattle.h1_transfer.specs.Words.{LinkState, Rose}
 use Rattle.h1_transfer.specs.Budget.{allowance}
+use Rattle.h1_transfer.specs.Deadline.{Wait, start_of, left_of, is_over}
+use Rattle.h1_transfer.specs.declared.deadline.Deadline.{Deadline}
+use Rattle.h1_transfer.specs.declared.deadline.Went.{Went}
+use Rattle.h1_transfer.specs.declared.deadline.Went.TheVariants as w
 use Rattle.h1_transfer.specs.Calls.{Fault, no_fault, read_fault}
 use Rattle.h1_transfer.specs.Moved.{Received}
 use Rattle.h1_transfer.specs.TransferView.{TransferView}
@@ -30,6 +34,8 @@ StopCause refuses lacks before now received left s.Cut =
     (now.ended ≡ true) × lacks received × (0 < length received)
 StopCause refuses lacks before now received left s.NotReady =
     Rose before.read_waits now.read_waits × lacks received
+StopCause refuses lacks before now received left s.Late =
+    Rose before.read_waits now.read_waits × lacks received
 StopCause refuses lacks before now received left s.Spent = (left ≡ 0) × lacks received
 StopCause refuses lacks before now received left s.Failed =
     Rose before.read_faults now.read_faults × lacks received
@@ -43,6 +49,26 @@ HeadCause is_at refuses lacks before now received left found (h.Whole n) =
     IsSomeAnd found (is_at received n) × (now.read_waits ≡ before.read_waits)
 HeadCause is_at refuses lacks before now received left found (h.Stopped stop) =
     StopCause refuses lacks before now received left stop × (found ≡ None)
+
+-- how a read of a head went that came to this
+abbrev pub went_with : HeadRead → Went
+went_with (h.Whole n) = w.Done
+went_with (h.Stopped s.NotReady) = w.Waited
+went_with (h.Stopped _) = w.Stopped
+
+-- since when the reading of a head waits, and whether it is late, by what it came to
+abbrev pub HeadIsTimed : Wait → Option ℕ → HeadRead → Type 0
+HeadIsTimed wait since (h.Whole n) = since ≡ None
+HeadIsTimed wait since (h.Stopped s.NotReady) =
+    (since ≡ Some (start_of wait)) × (is_over wait ≡ false)
+HeadIsTimed wait since (h.Stopped s.Late) =
+    (since ≡ Some (start_of wait)) × (is_over wait ≡ true)
+HeadIsTimed wait since (h.Stopped stop) = since ≡ left_of wait
+
+-- a read of a head that is not ready is late where its limit is reached
+abbrev pub judged_head : Bool → HeadRead → HeadRead
+judged_head true (h.Stopped s.NotReady) = h.Stopped s.Late
+judged_head _ read = read
 
 -- a head is whole
 abbrev pub is_whole_head : HeadRead → Bool
@@ -70,13 +96,23 @@ pub record ReceivesHead (lacks : List ℕ → Type 0) (before now : LinkState) (
 
 -- one read of a head, which stays among the received bytes
 pub record ReadsHead {L H : Type 0} (state : L → LinkState) (is_at : List ℕ → ℕ → H → Type 0)
-    (refuses : List ℕ → HeadFault → Type 0) (lacks : List ℕ → Type 0) (old new : TransferView L)
-    (found : Option H) (read : HeadRead) : Type 0 where
+    (refuses : List ℕ → HeadFault → Type 0) (lacks : List ℕ → Type 0) (deadline : Deadline)
+    (old new : TransferView L) (found : Option H) (read : HeadRead) : Type 0 where
   pub left : ℕ
   pub receives : ReceivesHead lacks (state old.link) (state new.link) old.received new.received
       (allowance old.budget) left
   pub budget : new.budget ≡ option_map (λ _. left) old.budget
   -- all else stays
-  pub rest : new ≡ record old { link = new.link; received = new.received; budget = new.budget }
+  pub rest : new ≡ record old {
+    link = new.link;
+    received = new.received;
+    budget = new.budget;
+    body = record old.body { since = record old.body.since { read = new.body.since.read } };
+  }
   pub cause : HeadCause is_at refuses lacks (state old.link) (state new.link) new.received left found
       read
+  pub timed : HeadIsTimed (record {
+    deadline = deadline;
+    moved = nat_lt left (allowance old.budget);
+    since = old.body.since.read;
+  }) new.body.since.read read

@@ -2,6 +2,8 @@ pub mod Budget
 pub mod Moved
 pub mod Receiving
 pub mod Writing
+pub mod Deadline
+pub mod ReadWaits
 pub mod Decoding
 pub mod Taking
 pub mod ReplyFraming

@@ -1,7 +1,11 @@
 -- Reading a body (RFC 9112, sections 6 and 8).
-use Rattle.std.specs.Prelude.{◌≡◌, ℕ, ◌≤◌, ◌+◌, ◌<◌, List, [], Option, option_map, Result}
-use Rattle.h1_transfer.specs.Words.{Poll, Error, ErrorType, LinkState, unfinished, reads}
+use Rattle.std.specs.Prelude.{◌≡◌, ℕ, ◌≤◌, ◌+◌, ◌<◌, nat_lt, List, [], Option, None, option_map, Result}
+use Rattle.h1_transfer.specs.Words.{Poll, Error, ErrorType, LinkState, Rose, unfinished, reads}
 use Rattle.h1_transfer.specs.Budget.{allowance}
+use Rattle.h1_transfer.specs.Deadline.{IsTimed}
+use Rattle.h1_transfer.specs.ReadWaits.{noted_part, noted_rest}
+use Rattle.h1_transfer.specs.declared.deadline.Deadline.{Deadline}
+use Rattle.h1_transfer.specs.declared.since.DrainLimits.{DrainLimits}
 use Rattle.h1_transfer.specs.Decoding.{ReadsBody, IsUnfinished}
 use Rattle.h1_transfer.specs.TransferView.{TransferView, Holds}
 use Rattle.h1_transfer.specs.BodyAnswers.{RefusesBody, PartAnswer, RestAnswer}
@@ -19,9 +23,10 @@ abbrev pub PayloadAnswer : {L : Type 0} → (L → LinkState) → TransferView L
 PayloadAnswer state old new payload left outcome = PartAnswer (state old.link) (state new.link)
     old.body.waits new.body new.received payload left outcome
 
--- one call that reads a part of the body
-pub record ReadsPayload {L S : Type 0} (state : L → LinkState) (holds : Holds L S) (old new : S)
-    (outcome : Poll (Result (Option (List ℕ)) Error)) : Type 0 where
+-- one call that reads a part of the body, which may wait for the link so long
+pub record ReadsPayload {L S : Type 0} (state : L → LinkState) (holds : Holds L S)
+    (deadline : Deadline) (old new : S) (outcome : Poll (Result (Option (List ℕ)) Error))
+    : Type 0 where
   pub payload : List ℕ
   pub left : ℕ
   -- what was received before is used before any read
@@ -44,6 +49,12 @@ pub record ReadsPayload {L S : Type 0} (state : L → LinkState) (holds : Holds 
   pub few : (state (holds.transfer new).link).read_waits
       ≤ (state (holds.transfer old).link).read_waits + 1
   pub answer : PayloadAnswer state (holds.transfer old) (holds.transfer new) payload left outcome
+  pub timed : IsTimed (noted_part (Rose (state (holds.transfer old).link).read_waits
+      (state (holds.transfer new).link).read_waits)
+      deadline (nat_lt left (allowance (holds.transfer old).budget)) (holds.transfer old).body.since
+      (holds.transfer new).body.since) left outcome
+  -- what a read of the rest noted is dropped
+  pub undrained : (holds.transfer new).body.since.drain ≡ None
 
 -- when each answer of a drain comes
 abbrev pub DrainAnswer : {L : Type 0} → (L → LinkState) → TransferView L → TransferView L → ℕ
@@ -51,9 +62,9 @@ abbrev pub DrainAnswer : {L : Type 0} → (L → LinkState) → TransferView L �
 DrainAnswer state old new left outcome =
     RestAnswer (state old.link) (state new.link) new.body new.received left outcome
 
--- one call that reads the rest of the body
-pub record DrainsBody {L S : Type 0} (state : L → LinkState) (holds : Holds L S) (old new : S)
-    (outcome : Poll (Result (Unit {0}) Error)) : Type 0 where
+-- one call that reads the rest of the body, which may wait for the link so long
+pub record DrainsBody {L S : Type 0} (state : L → LinkState) (holds : Holds L S)
+    (limits : DrainLimits) (old new : S) (outcome : Poll (Result (Unit {0}) Error)) : Type 0 where
   pub payload : List ℕ
   pub left : ℕ
   -- what was received before is used before any read
@@ -75,3 +86,7 @@ pub record DrainsBody {L S : Type 0} (state : L → LinkState) (holds : Holds L 
   pub few : (state (holds.transfer new).link).read_waits
       ≤ (state (holds.transfer old).link).read_waits + 1
   pub answer : DrainAnswer state (holds.transfer old) (holds.transfer new) left outcome
+  pub timed : IsTimed (noted_rest (Rose (state (holds.transfer old).link).read_waits
+      (state (holds.transfer new).link).read_waits)
+      limits (nat_lt left (allowance (holds.transfer old).budget)) (holds.transfer old).body.since
+      (holds.transfer new).body.since) left outcome

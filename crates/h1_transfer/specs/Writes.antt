@@ -23,10 +23,19 @@ pub record Writes {L S : Type 0} (state : L → LinkState) (holds : Holds L S) (
   pub counted : (holds.transfer new).outgoing.sent
       ≡ min ((holds.transfer old).outgoing.sent + length sent.piece) (2 ^ 64 - 1)
 
+-- what an outgoing message has beside the bytes that are owed, the step in progress, the refusal and
+-- the wait of a piece
+pub record IsSameBody (old new : Outgoing) : Type 0 where
+  pub headed : new.headed ≡ old.headed
+  pub writer : new.writer ≡ old.writer
+  pub handed : new.handed ≡ old.handed
+
 -- what an outgoing message has beside the bytes that are owed, the step in progress and the refusal
 pub record IsSameMessage (old new : Outgoing) : Type 0 where
   pub headed : new.headed ≡ old.headed
   pub writer : new.writer ≡ old.writer
+  pub handed : new.handed ≡ old.handed
+  pub write_since : new.write_since ≡ old.write_since
 
 -- no write is in progress, nothing is owed, and no write was refused
 abbrev pub IsFree : Outgoing → Type 0

@@ -1,6 +1,7 @@
 //! Where the reading of a body stands.
 ghost use Rattle.h1_transfer.specs.Fresh.{IsNoBody};
 
+use crate::Since;
 use h1_body::{BodyBytes, BodyReader, Framing};
 use h1_error::Error;
 
@@ -14,6 +15,8 @@ pub struct BodyState {
     pub refused: Option<Error>,
     /// A read was pending since this was last asked.
     pub waits: bool,
+    /// Since when the read in progress waits.
+    pub since: Since,
 }
 
 impl BodyState {
@@ -26,6 +29,7 @@ impl BodyState {
             kept: None,
             refused: None,
             waits: false,
+            since: Since::new(),
         }
     }
 }

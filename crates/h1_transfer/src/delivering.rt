@@ -1,14 +1,16 @@
 //! Delivering the write that is in progress: sending what is owed, and flushing it.
-ghost use Rattle.std.specs.Prelude.{◌≡◌, ◌&&◌, [], Some, false};
+ghost use Rattle.std.specs.Prelude.{◌≡◌, ◌&&◌, nat_lt, [], None, Some};
 ghost use Rattle.h1_transfer.specs.Moved.{Moved, Sent};
-ghost use Rattle.h1_transfer.specs.Writes.{IsSameMessage};
+ghost use Rattle.h1_transfer.specs.Writes.{IsSameBody, IsSameMessage};
 ghost use Rattle.h1_transfer.specs.Writing.{DeliveryAnswer, FlushCause, sent_after, with_count};
 ghost use Rattle.h1_transfer.specs.Calls.{Called, is_unflushed, succeeds, write_fault_of, fault_of_flush};
-ghost use Rattle.h1_transfer.specs.declared.outgoing.Step.TheVariants.{Free};
-ghost use Rattle.h1_error.specs.declared.error.ErrorType.TheVariants.{WriteError};
+ghost use Rattle.h1_transfer.specs.BodyAnswers.{error_of};
+ghost use Rattle.h1_transfer.specs.Deadline.{IsTimed, went_so};
+ghost use Rattle.h1_transfer.specs.PieceWrites.{PieceAnswer, noted_piece};
+ghost use Rattle.h1_transfer.specs.declared.outgoing.Step.TheVariants.{Free, Piece};
 
 use crate::sending::{Sending, send};
-use crate::{Outgoing, Step};
+use crate::{Deadline, Outgoing, Step, Went};
 use futures::task::Poll;
 use h1_error::{Error, ErrorType};
 use h1_link::{FlushStep, Link};
@@ -20,6 +22,50 @@ pub enum Delivery {
     Sent,
     /// The link takes all bytes and flushes them.
     Flushed,
+}
+
+/// Goes on with the piece of a body that is being written, which may wait for the link so long, and
+/// says this count once all of it is written.
+#[inline(always)]
+pub fn deliver_piece<L: Link>(
+    link: &mut L,
+    outgoing: &mut Outgoing,
+    count: Option<usize>,
+    deadline: Deadline,
+    budget: &mut u32,
+) -> Poll<Result<Option<usize>, Error>>
+    requires piece { outgoing.old.step ≡ Piece count }
+    requires unrefused { outgoing.old.refused ≡ None }
+    ensures sent { Sent (L.state link.old)
+        (L.state link.new) outgoing.old.owed outgoing.new.owed budget.old budget.new }
+    ensures same { IsSameBody outgoing.old outgoing.new × (outgoing.new.sent
+        ≡ sent_after outgoing.old.sent outgoing.old.owed outgoing.new.owed) }
+    ensures answer { PieceAnswer (L.state link.old) (L.state link.new) outgoing.new count
+        budget.new result }
+    ensures timed { IsTimed (noted_piece (L.state link.old) (L.state link.new) outgoing.old
+        outgoing.new deadline (nat_lt budget.new budget.old)) budget.new result }
+    ensures calls { Called (L.state link.old) (L.state link.new) (succeeds result)
+        (write_fault_of result) }
+    ensures plan { L.same_plan link.old link.new }
+{
+    let allowed = *budget;
+    let answer = deliver(link, outgoing, Delivery::Sent, budget);
+    let went = went_so(&answer, *budget);
+    if deadline.judge(went, *budget < allowed, &mut outgoing.write_since) {
+        return Poll::Ready(Err(refuse(outgoing, ErrorType::WriteTimedout)));
+    }
+    with_count(answer, count)
+}
+
+/// How a write with this answer went, where so many calls are left.
+fn went_so(answer: &Poll<Result<(), Error>>, left: u32) -> Went
+    ensures { result ≡ went_so answer.now left }
+{
+    match answer {
+        Poll::Ready(Ok(())) => Went::Done,
+        Poll::Pending if 0 < left => Went::Waited,
+        _ => Went::Stopped,
+    }
 }
 
 /// Goes on with the write that is in progress, and ends it where all of it is delivered.
@@ -45,7 +91,7 @@ pub fn deliver<L: Link>(
         Sending::All => {}
         Sending::NotReady => return Poll::Pending,
         Sending::Spent => return Poll::Pending,
-        Sending::Failed => return Poll::Ready(Err(refuse(outgoing))),
+        Sending::Failed => return Poll::Ready(Err(refuse(outgoing, ErrorType::WriteError))),
         Sending::NoMemory => return Poll::Ready(Err(Error::from(ErrorType::NoMemory))),
     }
     match flush(link, how) {
@@ -54,7 +100,7 @@ pub fn deliver<L: Link>(
             Poll::Ready(Ok(()))
         }
         FlushStep::NotReady => Poll::Pending,
-        FlushStep::Failed => Poll::Ready(Err(refuse(outgoing))),
+        FlushStep::Failed => Poll::Ready(Err(refuse(outgoing, ErrorType::WriteError))),
     }
 }
 
@@ -73,12 +119,12 @@ fn flush<L: Link>(link: &mut L, how: Delivery) -> FlushStep
     }
 }
 
-/// Ends the write that is in progress with a fault of the link, which each later write answers.
-fn refuse(outgoing: &mut Outgoing) -> Error
-    ensures error { result ≡ record { kind = WriteError; retry = false } }
+/// Ends the write that is in progress with an error of this kind, which each later write answers.
+fn refuse(outgoing: &mut Outgoing, kind: ErrorType) -> Error
+    ensures error { result ≡ error_of kind }
     ensures refused { outgoing.new ≡ record outgoing.old { step = Free; refused = Some result } }
 {
-    let error = Error::from(ErrorType::WriteError);
+    let error = Error::from(kind);
     outgoing.step = Step::Free;
     outgoing.refused = Some(error);
     error

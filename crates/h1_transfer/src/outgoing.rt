@@ -30,6 +30,10 @@ pub struct Outgoing {
     pub refused: Option<Error>,
     /// How many bytes of the message were written; it stops at 2^64 - 1.
     pub sent: u64,
+    /// The length in bytes of the piece that was handed in last.
+    pub handed: usize,
+    /// Since when the piece that is being written waits for the link, in milliseconds.
+    pub write_since: Option<u64>,
 }
 
 impl Outgoing {
@@ -44,6 +48,8 @@ impl Outgoing {
             headed: false,
             refused: None,
             sent: 0,
+            handed: 0,
+            write_since: None,
         }
     }
 
@@ -57,5 +63,7 @@ impl Outgoing {
         self.headed = false;
         self.refused = None;
         self.sent = 0;
+        self.handed = 0;
+        self.write_since = None;
     }
 }

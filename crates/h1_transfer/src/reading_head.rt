@@ -1,12 +1,16 @@
 //! Reading a head off the link (RFC 9112, section 2.2).
-ghost use Rattle.std.specs.Prelude.{◌≡◌, None};
+ghost use Rattle.std.specs.Prelude.{◌≡◌, ◌≢◌, None};
 ghost use Rattle.h1_cut.specs.Search.{HasLooked};
 ghost use Rattle.h1_head.specs.declared.limits.TheConstants.{MAX_HEADER_SIZE};
-ghost use Rattle.h1_transfer.specs.Heads.{ReceivesHead, HeadCause, is_whole_head, fault_of_head};
+ghost use Rattle.h1_transfer.specs.Heads.{ReceivesHead, HeadCause, went_with, judged_head, is_whole_head, fault_of_head};
+ghost use Rattle.h1_transfer.specs.declared.reading_head.HeadRead.TheVariants.{Stopped};
+ghost use Rattle.h1_transfer.specs.declared.reading_head.HeadStop.TheVariants.{Late};
 ghost use Rattle.h1_transfer.specs.Calls.{Called};
+ghost use Rattle.h1_transfer.specs.Deadline.{is_over, since_behind};
 
 use crate::head::{Head, HeadFound};
 use crate::receiving::{Filled, fill};
+use crate::{Deadline, Went};
 use bytes::BytesMut;
 use h1_cut::HeadSearch;
 use h1_error::HeadFault;
@@ -23,6 +27,8 @@ pub enum HeadStop {
     /// The link ended inside a head.
     Cut,
     NotReady,
+    /// The link was not ready, and the limit of the wait is reached.
+    Late,
     /// No further link call may move bytes.
     Spent,
     Failed,
@@ -52,6 +58,7 @@ pub fn read_head<H: Head, L: Link>(
     requires none { found.old ≡ None }
     ensures receives { ReceivesHead H.lacks (L.state link.old)
         (L.state link.new) received.old.items received.new.items budget.old budget.new }
+    ensures unjudged { result ≢ Stopped Late }
     ensures cause { HeadCause H.is_at H.refuses H.lacks (L.state link.old)
         (L.state link.new) received.new.items budget.new found.new result }
     ensures looked { HasLooked MAX_HEADER_SIZE search.new received.new.items }
@@ -77,5 +84,37 @@ pub fn read_head<H: Head, L: Link>(
             Filled::Failed => return HeadRead::Stopped(HeadStop::Failed),
             Filled::NoMemory => return HeadRead::Stopped(HeadStop::NoMemory),
         }
+    }
+}
+
+/// Judges a read of a head that moved bytes, or didn't, and notes since when it waits.
+pub(crate) fn judge_head(
+    read: HeadRead,
+    moved: bool,
+    deadline: Deadline,
+    since: &mut Option<u64>,
+) -> HeadRead
+    ensures noted { since.new ≡ since_behind (went_with read) (record {
+      deadline = deadline;
+      moved = moved;
+      since = since.old;
+    }) }
+    ensures judged { result ≡ judged_head
+        (is_over (record { deadline = deadline; moved = moved; since = since.old })) read }
+{
+    if deadline.judge(went_with(read), moved, since) {
+        return HeadRead::Stopped(HeadStop::Late);
+    }
+    read
+}
+
+/// How a read of a head went that came to this.
+fn went_with(read: HeadRead) -> Went
+    ensures { result ≡ went_with read }
+{
+    match read {
+        HeadRead::Whole(_) => Went::Done,
+        HeadRead::Stopped(HeadStop::NotReady) => Went::Waited,
+        HeadRead::Stopped(_) => Went::Stopped,
     }
 }

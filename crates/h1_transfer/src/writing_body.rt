@@ -19,6 +19,7 @@ pub fn take_piece(outgoing: &mut Outgoing, buf: &mut Option<Bytes>) -> Option<us
         return count_at(outgoing.step);
     };
     let count = taken_count(&outgoing.writer, payload.as_slice());
+    outgoing.handed = payload.len();
     let Ok(owed) = outgoing.writer.piece(payload) else {
         unreachable!()
     };

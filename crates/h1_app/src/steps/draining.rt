@@ -80,7 +80,7 @@ fn reuse<L: Link + Drop, C: Drop>(
     requires free { session.old.reply.step ≡ Free }
     requires replied { is_replied session.old.reply ≡ true }
     requires kept { session.old.body.kept ≡ None }
-    ensures reuses { ReusesAs L.state session.old session.new entry.old entry.new result }
+    ensures reuses { ReusesAs L.state now session.old session.new entry.old entry.new result }
     ensures calls { CalledForReuse (L.state session.old.link) (L.state session.new.link)
         (keeps_alive session.old) (is_reused result) (read_fault_of result) }
     ensures plan { L.same_plan session.old.link session.new.link }

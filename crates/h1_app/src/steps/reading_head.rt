@@ -16,10 +16,10 @@ use h1_link::Link;
 use h1_server::{HttpSession, ReadRequest, Request, Settings};
 use std::alloc::Global;
 
-/// How long a connection waits for the next head, in seconds.
+/// How long a connection waits for a head, in seconds.
 const KEEPALIVE_SECONDS: u64 = 60;
 
-/// Reads a head. With one, the application is started for its request.
+/// Reads a head, for which there is a minute. With one, the application is started for its request.
 pub(super) fn read_head<L: Link + Drop, SV: ServeHttp<L, C> + Drop, B: Drop, C: Drop>(
     alloc: Global,
     server: &HttpServer<SV, B>,
@@ -36,6 +36,7 @@ pub(super) fn read_head<L: Link + Drop, SV: ServeHttp<L, C> + Drop, B: Drop, C: 
         result }
     ensures leaves { LeavesBy L.state exchange.old exchange.new result }
 {
+    exchange.session.set_server_keepalive(keepalive(shutdown));
     match exchange.session.poll_read_request(now) {
         Poll::Pending => Outcome::Waits(Waiting::Read),
         Poll::Ready(Ok(ReadRequest::Head(_))) => begin(

@@ -7,6 +7,7 @@ ghost use Rattle.h1_head.specs.Date.{IsDateAt};
 use super::HttpSession;
 use crate::persistence::keep_flag;
 use crate::taking_up::{head_delivery, is_passed_over, keep_after, take_header};
+use crate::times::piece_deadline;
 use bytes::Bytes;
 use futures::task::Poll;
 use h1_error::Error;
@@ -104,7 +105,8 @@ impl<L: Link + Drop, C: Drop> HttpSession<L, C> {
     }
 
     /// Writes a piece of the reply's body (RFC 9112, section 6), and says how much of it was
-    /// taken, or None where none is admitted any more.
+    /// taken, or None where none is admitted any more. A piece that waits too long without bytes
+    /// taken is refused: as long as the write timeout, or as the minimum send rate allows.
     #[inline(always)]
     pub fn poll_write_body(
         &mut self,
@@ -116,12 +118,13 @@ impl<L: Link + Drop, C: Drop> HttpSession<L, C> {
         ensures again { IfSome self.old.reply.refused (λ error. (result ≡ Ready (Err error))
             × (self.new ≡ self.old) × (buf.new ≡ buf.old)) }
         ensures writes { IfNone self.old.reply.refused
-            (WritesPiece L.state self.old self.new buf.old buf.new result) }
+            (WritesPiece L.state now self.old self.new buf.old buf.new result) }
         ensures calls { Called (L.state self.old.link) (L.state self.new.link) (succeeds result)
             (write_fault_of result) }
         ensures plan { L.same_plan self.old.link self.new.link }
     {
-        self.transfer.poll_write_body(buf)
+        let deadline = piece_deadline(self.settings.times, now, self.transfer.outgoing(), buf);
+        self.transfer.poll_write_body(buf, deadline)
     }
 
     /// Writes the end of the reply's body and flushes it, and says how much payload was taken in

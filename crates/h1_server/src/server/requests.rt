@@ -4,20 +4,26 @@ ghost use Rattle.futures.specs.declared.task.Poll.TheVariants.{Ready};
 ghost use Rattle.h1_transfer.specs.Calls.{read_fault_of};
 ghost use Rattle.h1_transfer.specs.Heads.{fault_of_stop};
 ghost use Rattle.h1_server.specs.Calls.{is_head};
+ghost use Rattle.h1_server.specs.Persistence.{is_nothing};
 ghost use Rattle.h1_server.specs.Requests.{StopsFor};
 
 use super::HttpSession;
 use crate::settings::{wished, with_keepalive};
+use crate::times::head_limit;
 use crate::{NoRequest, ReadRequest};
 use bytes::Bytes;
 use futures::task::Poll;
 use h1_error::{Error, ErrorType};
 use h1_link::Link;
-use h1_transfer::{HeadRead, HeadStop, refuse};
+use h1_transfer::{Deadline, HeadRead, HeadStop, refuse};
 
-/// What a call answers that read no head.
-fn stop_for(refused: &mut Option<Error>, stop: HeadStop) -> Poll<Result<ReadRequest, Error>>
-    ensures answer { StopsFor refused.old refused.new stop result }
+/// What a call answers that read no head, where no byte is received, or some are.
+fn stop_for(
+    refused: &mut Option<Error>,
+    stop: HeadStop,
+    none: bool,
+) -> Poll<Result<ReadRequest, Error>>
+    ensures answer { StopsFor none refused.old refused.new stop result }
     ensures told { (is_head result ≡ false) × (read_fault_of result ≡ fault_of_stop stop) }
 {
     match stop {
@@ -25,9 +31,18 @@ fn stop_for(refused: &mut Option<Error>, stop: HeadStop) -> Poll<Result<ReadRequ
         HeadStop::Closed => Poll::Ready(Ok(ReadRequest::None(NoRequest::Closed))),
         HeadStop::Cut => refuse(refused, ErrorType::ConnectionClosed),
         HeadStop::NotReady | HeadStop::Spent => Poll::Pending,
+        HeadStop::Late if none => Poll::Ready(Ok(ReadRequest::None(NoRequest::IdleTimeout))),
+        HeadStop::Late => refuse(refused, ErrorType::ReadTimedout),
         HeadStop::Failed => refuse(refused, ErrorType::ReadError),
         HeadStop::NoMemory => Poll::Ready(Err(Error::from(ErrorType::NoMemory))),
     }
+}
+
+/// Whether no byte is there.
+fn is_nothing(bytes: &[u8]) -> bool
+    ensures { result ≡ is_nothing bytes.now }
+{
+    bytes.is_empty()
 }
 
 impl<L: Link + Drop, C: Drop> HttpSession<L, C> {
@@ -37,13 +52,15 @@ impl<L: Link + Drop, C: Drop> HttpSession<L, C> {
     ghost use Rattle.h1_transfer.specs.Calls.{Called, succeeds, read_fault_of};
 
     /// Reads the head of the request (RFC 9112, sections 2.2 and 3). Bytes that were received
-    /// before are parsed before any read.
+    /// before are parsed before any read. Where the time of keep-alive is over, or the read timeout
+    /// with keep-alive off, there is no request if no byte of one was received, and else it is
+    /// refused.
     #[inline(always)]
     pub fn poll_read_request(&mut self, now: u64) -> Poll<Result<ReadRequest, Error>>
         requires { self.old.request ≡ None }
         ensures again { IfSome self.old.refused (λ error. (result ≡ Ready (Err error))
             × (self.new ≡ self.old)) }
-        ensures reads { IfNone self.old.refused (ReadsRequest L.state self.old self.new result) }
+        ensures reads { IfNone self.old.refused (ReadsRequest L.state now self.old self.new result) }
         ensures calls { Called (L.state self.old.link) (L.state self.new.link) (is_head result)
             (read_fault_of result) }
         ensures plan { L.same_plan self.old.link self.new.link }
@@ -52,9 +69,13 @@ impl<L: Link + Drop, C: Drop> HttpSession<L, C> {
             return Poll::Ready(Err(error));
         }
         let asked = &mut self.asked;
+        let deadline = Deadline {
+            moment: now,
+            limit: head_limit(&self.settings),
+        };
         let read = self
             .transfer
-            .read_head(&mut asked.search, &mut asked.request);
+            .read_head(&mut asked.search, &mut asked.request, deadline);
         match read {
             HeadRead::Whole(used) => {
                 let Some(request) = &self.asked.request else {
@@ -65,23 +86,31 @@ impl<L: Link + Drop, C: Drop> HttpSession<L, C> {
                 self.settings = with_keepalive(self.settings, wished(request.wish));
                 Poll::Ready(Ok(ReadRequest::Head(request.raw.len())))
             }
-            HeadRead::Stopped(stop) => stop_for(&mut self.asked.refused, stop),
+            HeadRead::Stopped(stop) => {
+                let none = is_nothing(self.transfer.received());
+                stop_for(&mut self.asked.refused, stop, none)
+            }
         }
     }
 
     /// Reads payload of the request's body; None is its end (RFC 9112, section 6). A refusal is
-    /// answered again; out of memory only while payload is kept.
+    /// answered again; out of memory only while payload is kept. A read that waits without bytes as
+    /// long as the read timeout is refused.
     pub fn poll_read_body_bytes(&mut self, now: u64) -> Poll<Result<Option<Bytes>, Error>>
         requires { IsSome self.old.request }
         ensures again { IfSome self.old.body.refused (λ error. (result ≡ Ready (Err error))
             × (self.new ≡ self.old)) }
         ensures reads { IfNone self.old.body.refused
-            (ReadsPayload L.state self.old self.new result) }
+            (ReadsPayload L.state now self.old self.new result) }
         ensures calls { Called (L.state self.old.link) (L.state self.new.link) (succeeds result)
             (read_fault_of result) }
         ensures plan { L.same_plan self.old.link self.new.link }
         ensures bound { length self.new.received < 2 ^ 63 }
     {
-        self.transfer.poll_read_body_bytes()
+        let deadline = Deadline {
+            moment: now,
+            limit: self.settings.times.read,
+        };
+        self.transfer.poll_read_body_bytes(deadline)
     }
 }

@@ -10,6 +10,7 @@ use crate::ReusableHttpStream;
 use crate::persistence::may_follow;
 use crate::request_state::RequestState;
 use crate::settings::next_settings;
+use crate::times::drain_limits;
 use bytes::BytesMut;
 use futures::task::Poll;
 use h1_error::Error;
@@ -22,18 +23,20 @@ impl<L: Link + Drop, C: Drop> HttpSession<L, C> {
     ghost use Rattle.h1_server.specs.Calls.{is_reused};
     ghost use Rattle.h1_transfer.specs.Calls.{Called, succeeds, read_fault_of};
 
-    /// Reads the rest of the request's body (RFC 9112, section 9.3).
+    /// Reads the rest of the request's body (RFC 9112, section 9.3). A read that waits is refused
+    /// where no byte came as long as the read timeout, or where the total drain timeout is over.
     pub fn poll_drain_request_body(&mut self, now: u64) -> Poll<Result<(), Error>>
         requires { IsSome self.old.request }
         ensures again { IfSome self.old.body.refused (λ error. (result ≡ Ready (Err error))
             × (self.new ≡ self.old)) }
         ensures drains { IfNone self.old.body.refused
-            (DrainsBody L.state self.old self.new result) }
+            (DrainsBody L.state now self.old self.new result) }
         ensures calls { Called (L.state self.old.link) (L.state self.new.link) (succeeds result)
             (read_fault_of result) }
         ensures plan { L.same_plan self.old.link self.new.link }
     {
-        self.transfer.poll_drain()
+        self.transfer
+            .poll_drain(drain_limits(self.settings.times, now))
     }
 
     /// Whether the link may serve the next request: the rest of this one's body is read first. A
@@ -42,7 +45,7 @@ impl<L: Link + Drop, C: Drop> HttpSession<L, C> {
     pub fn poll_reuse(&mut self, now: u64) -> Poll<Result<bool, Error>>
         requires request { IsSome self.old.request }
         requires free { self.old.reply.step ≡ Free }
-        ensures reuse { ReusesBy L.state self.old self.new result (may_go_on self.old) }
+        ensures reuse { ReusesBy L.state now self.old self.new result (may_go_on self.old) }
         ensures calls { may_go_on self.old ≡ true
             → Called (L.state self.old.link) (L.state self.new.link) (is_reused result)
             (read_fault_of result) }
@@ -53,7 +56,8 @@ impl<L: Link + Drop, C: Drop> HttpSession<L, C> {
             self.transfer.shutdown();
             return Poll::Ready(Ok(false));
         }
-        match self.transfer.poll_drain() {
+        let limits = drain_limits(self.settings.times, now);
+        match self.transfer.poll_drain(limits) {
             Poll::Pending => Poll::Pending,
             Poll::Ready(Err(error)) => Poll::Ready(Err(error)),
             Poll::Ready(Ok(())) => {

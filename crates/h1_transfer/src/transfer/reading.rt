@@ -7,8 +7,9 @@ use crate::answering::{part, rest};
 use crate::budget::{allowance_of, budget_left};
 use crate::head::Head;
 use crate::reading_body::{drain_body, read_body};
-use crate::reading_head::{HeadRead, read_head};
+use crate::reading_head::{HeadRead, judge_head, read_head};
 use crate::receiving::{Filled, fill};
+use crate::{Deadline, DrainLimits};
 use bytes::Bytes;
 use futures::task::Poll;
 use h1_cut::HeadSearch;
@@ -40,19 +41,25 @@ impl<L: Link + Drop> Transfer<L> {
     }
 
     /// Reads until a head is whole, is refused or can't go on, and puts a whole one in the place of
-    /// none. Its bytes stay among those received.
+    /// none. Its bytes stay among those received. A read that waited too long is late.
     #[inline(always)]
-    pub fn read_head<H: Head>(&mut self, search: &mut HeadSearch, found: &mut Option<H>) -> HeadRead
+    pub fn read_head<H: Head>(
+        &mut self,
+        search: &mut HeadSearch,
+        found: &mut Option<H>,
+        deadline: Deadline,
+    ) -> HeadRead
         requires looked { HasLooked MAX_HEADER_SIZE search.old self.old.received }
         requires none { found.old ≡ None }
-        ensures reads { ReadsHead L.state H.is_at H.refuses H.lacks self.old self.new found.new
-            result }
+        ensures reads { ReadsHead L.state H.is_at H.refuses H.lacks deadline self.old self.new
+            found.new result }
         ensures looked { HasLooked MAX_HEADER_SIZE search.new self.new.received }
         ensures calls { Called (L.state self.old.link) (L.state self.new.link)
             (is_whole_head result) (fault_of_head result) }
         ensures plan { L.same_plan self.old.link self.new.link }
     {
-        let mut left = allowance_of(self.budget);
+        let allowed = allowance_of(self.budget);
+        let mut left = allowed;
         let read = read_head(
             self.alloc,
             &mut self.link,
@@ -63,18 +70,18 @@ impl<L: Link + Drop> Transfer<L> {
             found,
         );
         self.budget = budget_left(self.budget, left);
-        read
+        judge_head(read, left < allowed, deadline, &mut self.body.since.read)
     }
 
     /// Reads payload of the body; None is its end (RFC 9112, section 6). A refusal is answered
     /// again; out of memory only while payload is kept. A piece may keep the block alive that it
-    /// was received in.
+    /// was received in. A read that waited too long is refused.
     #[inline(always)]
-    pub fn poll_read_body_bytes(&mut self) -> Poll<Result<Option<Bytes>, Error>>
+    pub fn poll_read_body_bytes(&mut self, deadline: Deadline) -> Poll<Result<Option<Bytes>, Error>>
         ensures again { IfSome self.old.body.refused (λ error. (result ≡ Ready (Err error))
             × (self.new ≡ self.old)) }
         ensures reads { IfNone self.old.body.refused
-            (ReadsPayload L.state itself self.old self.new result) }
+            (ReadsPayload L.state itself deadline self.old self.new result) }
         ensures calls { Called (L.state self.old.link) (L.state self.new.link) (succeeds result)
             (read_fault_of result) }
         ensures plan { L.same_plan self.old.link self.new.link }
@@ -85,7 +92,8 @@ impl<L: Link + Drop> Transfer<L> {
         if let Some(error) = self.body.refused {
             return Poll::Ready(Err(error));
         }
-        let mut left = allowance_of(self.budget);
+        let allowed = allowance_of(self.budget);
+        let mut left = allowed;
         let read = read_body(
             &mut self.link,
             &mut self.received,
@@ -95,16 +103,17 @@ impl<L: Link + Drop> Transfer<L> {
         );
         let _left_over = self.received.len();
         self.budget = budget_left(self.budget, left);
-        part(&mut self.body, read)
+        part(&mut self.body, read, left < allowed, deadline)
     }
 
-    /// Reads the rest of the body.
+    /// Reads the rest of the body. A read that waited too long is refused, and so is one that waits
+    /// when the time for all of the rest is over; that is counted from its first wait on.
     #[inline(always)]
-    pub fn poll_drain(&mut self) -> Poll<Result<(), Error>>
+    pub fn poll_drain(&mut self, limits: DrainLimits) -> Poll<Result<(), Error>>
         ensures again { IfSome self.old.body.refused (λ error. (result ≡ Ready (Err error))
             × (self.new ≡ self.old)) }
         ensures drains { IfNone self.old.body.refused
-            (DrainsBody L.state itself self.old self.new result) }
+            (DrainsBody L.state itself limits self.old self.new result) }
         ensures calls { Called (L.state self.old.link) (L.state self.new.link) (succeeds result)
             (read_fault_of result) }
         ensures plan { L.same_plan self.old.link self.new.link }
@@ -112,7 +121,8 @@ impl<L: Link + Drop> Transfer<L> {
         if let Some(error) = self.body.refused {
             return Poll::Ready(Err(error));
         }
-        let mut left = allowance_of(self.budget);
+        let allowed = allowance_of(self.budget);
+        let mut left = allowed;
         let stop = drain_body(
             &mut self.link,
             &mut self.received,
@@ -121,6 +131,6 @@ impl<L: Link + Drop> Transfer<L> {
             &mut left,
         );
         self.budget = budget_left(self.budget, left);
-        rest(&mut self.body, stop)
+        rest(&mut self.body, stop, left < allowed, limits)
     }
 }

@@ -3,10 +3,10 @@ ghost use Rattle.std.specs.Prelude.{◌≡◌, [], IfSome, IfNone, None, true, f
 ghost use Rattle.futures.specs.declared.task.Poll.TheVariants.{Ready};
 
 use super::Transfer;
-use crate::Step;
 use crate::budget::{allowance_of, budget_left};
-use crate::delivering::{Delivery, deliver, with_count};
+use crate::delivering::{Delivery, deliver, deliver_piece, with_count};
 use crate::writing_body::{EndTaken, take_end, take_piece};
+use crate::{Deadline, Step};
 use bytes::Bytes;
 use futures::task::Poll;
 use h1_body::Framing;
@@ -71,14 +71,19 @@ impl<L: Link + Drop> Transfer<L> {
     }
 
     /// Writes a piece of the body (RFC 9112, section 6), and says how much of it was taken, or None
-    /// where none is admitted any more.
+    /// where none is admitted any more. A piece that waited too long is refused, and each later
+    /// write with it.
     #[inline(always)]
-    pub fn poll_write_body(&mut self, buf: &mut Option<Bytes>) -> Poll<Result<Option<usize>, Error>>
+    pub fn poll_write_body(
+        &mut self,
+        buf: &mut Option<Bytes>,
+        deadline: Deadline,
+    ) -> Poll<Result<Option<usize>, Error>>
         requires free { IsPieceStep buf.old self.old.outgoing.step }
         ensures again { IfSome self.old.outgoing.refused (λ error. (result ≡ Ready (Err error))
             × (self.new ≡ self.old) × (buf.new ≡ buf.old)) }
         ensures writes { IfNone self.old.outgoing.refused
-            (WritesPiece L.state itself self.old self.new buf.old buf.new result) }
+            (WritesPiece L.state itself deadline self.old self.new buf.old buf.new result) }
         ensures calls { Called (L.state self.old.link) (L.state self.new.link) (succeeds result)
             (write_fault_of result) }
         ensures plan { L.same_plan self.old.link self.new.link }
@@ -87,7 +92,11 @@ impl<L: Link + Drop> Transfer<L> {
             return Poll::Ready(Err(error));
         }
         let count = take_piece(&mut self.outgoing, buf);
-        with_count(self.poll_deliver(Delivery::Sent), count)
+        let mut left = allowance_of(self.budget);
+        let (link, outgoing) = (&mut self.link, &mut self.outgoing);
+        let answer = deliver_piece(link, outgoing, count, deadline, &mut left);
+        self.budget = budget_left(self.budget, left);
+        answer
     }
 
     /// Writes the end of the body and flushes it, and says how much payload was taken in all, or

@@ -5,11 +5,11 @@ use Rattle.h1_echo.proofs.echo.read_piece.Goals as goal
 
 pub returns-in-Ready-Err-clause-reads : goal.returns-in-Ready-Err-clause-reads
 returns-in-Ready-Err-clause-reads g c =
-    reads_call g.L.Link.state _ _ _ c.requires.budget
+    reads_call g.L.Link.state c.args.now _ _ _ c.requires.budget
     c.poll_read_body_bytes.ensures.again c.poll_read_body_bytes.ensures.reads c.poll_read_body_bytes.ensures.calls
 
 pub returns-in-Ready-Err-clause-cause : goal.returns-in-Ready-Err-clause-cause
 returns-in-Ready-Err-clause-cause g c =
     let again = rw c.in-Ready-Err.field-0-is at c.in-Ready-Err.ensures.again in
     let reads = rw c.in-Ready-Err.field-0-is at c.in-Ready-Err.ensures.reads in
-    stop_cause _ g.L.Link.state _ _ _ _ again reads c.stop_of.ensures
+    stop_cause _ g.L.Link.state c.args.now _ _ _ _ again reads c.stop_of.ensures

@@ -30,5 +30,6 @@ returns c =
       reads_not_ready = polled.reads_not_ready;
       ended = polled.ended;
       leaves = polled.leaves;
+      timely = polled.timely;
       cause = if_none c.args.scripted.now.connection.end _ _ (λ cause. cause new_link running.accounted) polled.cause;
     }) before behind c.in_ok-check_memory.ensures is) c.push.ensures.ok

@@ -1,6 +1,7 @@
 -- The way goes on with each step that is done, and ends where one waits or ends the connection.
 use Rattle.std.proofs.Common.{refl}
 use Rattle.h1_app.proofs.GoneLemmas.{end_back, poll_waits, turned_on, way_itself, way_on}
+use Rattle.h1_app.proofs.TimelyLemmas.{ends_on, since_on}
 use Rattle.h1_app.proofs.connection.Connection.go_on.Goals as goal
 
 pub loop-what-init : goal.loop-what-init
@@ -11,7 +12,7 @@ loop-what-init g c =
 pub loop-what-preserved : goal.loop-what-preserved
 loop-what-preserved g c =
     way_on c.args.self.now c.loop-what.self c.turn.new.self (g.met.L.Link.plan_on _ _ _)
-    c.loop-what.invariant c.in-Done.ensures.turned c.in-Done.ensures.end
+    c.loop-what.invariant c.in-Done.ensures.turned c.in-Done.ensures.end c.in-Done.ensures.timely
     c.in-Done.ensures.outcome.1 c.in-Done.ensures.outcome.2
 
 pub returns-in-Waits-clause-turned : goal.returns-in-Waits-clause-turned
@@ -40,3 +41,12 @@ returns-in-Ends-clause-cause g c = λ before s.
       end_back before _ _ _ c.loop-what.invariant.turned.gone.moves.moved.later _ _ c.in-Ends.end
           (c.in-Ends.ensures.outcome before since),
     )
+
+pub returns-in-Waits-clause-timely : goal.returns-in-Waits-clause-timely
+returns-in-Waits-clause-timely g c =
+    since_on c.args.now _ _ _ c.loop-what.invariant.since c.in-Waits.ensures.timely
+
+pub returns-in-Ends-clause-timely : goal.returns-in-Ends-clause-timely
+returns-in-Ends-clause-timely g c =
+    ends_on c.args.now _ _ (g.L.Link.state c.turn.new.self.session.link) c.turn.new.self.last c.in-Ends.end
+    c.loop-what.invariant.since c.in-Ends.ensures.timely

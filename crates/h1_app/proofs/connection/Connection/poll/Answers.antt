@@ -4,6 +4,7 @@ use Rattle.h1_app.proofs.Words.{view_of, limit_of}
 use Rattle.h1_app.specs.Words.{arc_value}
 use Rattle.h1_app.proofs.AgreesLemmas.{agrees_sound}
 use Rattle.h1_app.proofs.GoneLemmas.{cause_same}
+use Rattle.h1_app.proofs.TimelyLemmas.{timely_same}
 use Rattle.h1_app.proofs.LeavesLemmas.{given_none}
 use Rattle.h1_app.proofs.LinkedLemmas.{accounted_budget}
 use Rattle.h1_app.proofs.SoundLemmas.{sound_linked}
@@ -60,3 +61,11 @@ returns-clause-extends g c =
 pub returns-clause-leaves : goal.returns-clause-leaves
 returns-clause-leaves g c = rw (← c.self.view_is) (given_none c.self.inside.end _
     (rw c.set_poll_budget.ensures at c.go_on.ensures.turned.leaves.leaves))
+
+pub returns-clause-timely : goal.returns-clause-timely
+returns-clause-timely g c = rw (← c.self.view_is) (given_none c.self.inside.end _
+    (let server = arc_value c.self.inside.server in
+    timely_same g.L.Link.state c.args.now
+    (view_of server.app (limit_of server.server_options) c.self.inside.exchange c.self.inside.end)
+    c.go_on.new.self (Some 64) c.go_on.result
+    (rw c.set_poll_budget.ensures at c.go_on.ensures.timely)))

@@ -2,7 +2,7 @@
 use Rattle.std.proofs.Common.{◌≡◌, None}
 use Rattle.h1_app.specs.Words.{arc_value}
 use Rattle.h1_app.proofs.Words.{limit_of}
-use Rattle.h1_app.proofs.NextLemmas.{sound_next, turned_next, caused_next, over_next}
+use Rattle.h1_app.proofs.NextLemmas.{sound_next, turned_next, caused_next, over_next, timely_next}
 use Rattle.h1_app.proofs.TurnLemmas.{sound_stepped, turned_stepped, caused_stepped}
 use Rattle.h1_app.proofs.connection.Connection.turn.Goals.{in-Next, in_default}
 use Rattle.h1_app.proofs.connection.Connection.turn.Goals as goal
@@ -73,4 +73,15 @@ returns-clause-outcome g c =
           (limit_of server.server_options) old w.step-outcome.new.exchange c.self.inside.end
           c.keep_end.new.end w.step-outcome.result w.step-outcome.ensures.continues
           w.step-outcome.ensures.stepped.outcome)
+    ]
+
+pub returns-clause-timely : goal.returns-clause-timely
+returns-clause-timely g c =
+    let old = c.self.inside.exchange in
+    elim c.match-self.branch [
+      | in-Next w ↦ rw (← c.self.view_is, w.outcome-is, w.self-inside-is)
+          (timely_next g.L.Link.state c.args.now old w.next_exchange.new.exchange w.in-Next.is
+          w.next_exchange.ensures)
+      | in_default w ↦ rw (← c.self.view_is, w.outcome-is, w.self-inside-is)
+          (w.step-outcome.ensures.stepped.timely)
     ]

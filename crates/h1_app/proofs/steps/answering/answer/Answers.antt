@@ -35,6 +35,11 @@ returns-in-Replied-clause-stepped g c = λ shutdown.
     c.requires.ready c.in-Answer.is c.last_entry-entry.ensures.value refl refl c.ask.ensures.asks (search rules)
     (search rules) (search rules) (search rules)
 
+pub returns-in-Reads-clause-leaves : goal.returns-in-Reads-clause-leaves
+returns-in-Reads-clause-leaves g c =
+    asked_leaves g.L.Link.state _ _ c.last_entry-entry.result.now c.ask.new.entry c.ask.new.entry _
+    c.ask.ensures.asks refl
+
 pub returns-in-Pends-clause-leaves : goal.returns-in-Pends-clause-leaves
 returns-in-Pends-clause-leaves g c =
     asked_leaves g.L.Link.state _ _ c.last_entry-entry.result.now c.ask.new.entry c.ask.new.entry _

@@ -4,4 +4,5 @@ use Rattle.h1_server.proofs.server.HttpSession.poll_drain_request_body.Goals as 
 
 pub returns-clause-drains : goal.returns-clause-drains
 returns-clause-drains g c = rw (← c.self.view_is)
-    (drains_in g.L.Link.state _ c.poll_drain.new.self c.poll_drain.result c.poll_drain.ensures.drains)
+    (drains_in g.L.Link.state _ c.poll_drain.new.self c.args.now c.poll_drain.result
+    (rw c.drain_limits.ensures at c.poll_drain.ensures.drains))

@@ -2,6 +2,7 @@
 use Rattle.std.proofs.Common.{ap, ◌∙◌}
 use Rattle.h1_transfer.proofs.OptionLemmas.{if_none, is_nothing}
 use Rattle.h1_server.proofs.Words.{keepalive_set}
+use Rattle.h1_server.specs.Persistence as persistence
 use Rattle.h1_server.proofs.HeadLemmas.{head_read, head_stopped}
 use Rattle.h1_server.proofs.server.HttpSession.poll_read_request.Goals as goal
 
@@ -12,7 +13,8 @@ returns-in-Some-request-clause-reads g c =
     rw (← c.self.view_is) (if_none c.self.inside.asked.refused _
     (head_read {C = g.row.C.Denot} g.L.Link.state _ c.read_head-read.new.self c.skip.new.self c.begin_body.new.self
     c.read_head-read.new.found _ c.in-Whole.used
-    c.len.result c.with_keepalive-self-inside.result unrefused c.in-Some-request.is c.in-Whole.ensures.reads
+    c.len.result c.with_keepalive-self-inside.result c.args.now unrefused c.in-Some-request.is
+    (rw c.head_limit.ensures at c.in-Whole.ensures.reads)
     c.skip.ensures c.begin_body.ensures.begins
     c.begin_body.ensures.rest c.len.ensures.value settings))
 
@@ -21,8 +23,9 @@ returns-in-Stopped-clause-reads g c =
     let unrefused = is_nothing c.self.inside.asked.refused c.in_default.not-Some in
     rw (← c.self.view_is) (if_none c.self.inside.asked.refused _
     (head_stopped {C = g.row.C.Denot} g.L.Link.state _ c.read_head-read.new.self c.read_head-read.new.found
-    c.stop_for.new.refused c.in-Stopped.stop c.stop_for.result
-    unrefused c.stop_for.ensures.answer c.in-Stopped.ensures.reads))
+    c.stop_for.new.refused c.in-Stopped.stop c.stop_for.result c.args.now c.is_nothing-none.result
+    (c.is_nothing-none.ensures ∙ ap persistence.is_nothing c.received.ensures) unrefused c.stop_for.ensures.answer
+    (rw c.head_limit.ensures at c.in-Stopped.ensures.reads)))
 
 pub returns-in-Stopped-clause-calls : goal.returns-in-Stopped-clause-calls
 returns-in-Stopped-clause-calls g c =

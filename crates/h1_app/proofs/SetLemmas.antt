@@ -1,0 +1,75 @@
+-- What is set before a head is read is no matter to the step.
+use Rattle.std.proofs.Common.{◌≡◌, ℕ, List, Bool, Option, Some, None, refl}
+use Rattle.h1_app.specs.Words.{LinkState, RequestView, SessionView, Settings, Reply, Entry, Exchange, Outcome, Stage, Waiting, Given, BeginsWith, IsSetAlike}
+use Rattle.h1_error.specs.declared.progress.Waiting.TheVariants as waiting
+use Rattle.h1_link.proofs.Laters.{keeps_itself}
+use Rattle.h1_app.specs.Outcome.{WaitsOn}
+use Rattle.h1_app.specs.Timely.{StepsInTime}
+use Rattle.h1_app.specs.declared.exchange.Outcome.TheVariants as outcome
+use Rattle.h1_app.proofs.BeginLemmas.{alike_on}
+use Rattle.h1_app.proofs.LinkedLemmas.{accounted_linked}
+use Rattle.h1_app.proofs.Words.{OutcomeCause, Stepped}
+
+begins_set : (a b c : Settings) (last behind : Option Entry) → IsSetAlike a b → BeginsWith b c last behind
+    → BeginsWith a c last behind
+begins_set a b c None None alike begins = alike_on a b c alike begins
+begins_set a b c None (Some e) alike begins = alike_on a b e.began alike begins
+begins_set a b c (Some e) behind alike begins = tt
+
+module _ {L C J : Type 0} (state : L → LinkState) (pends : J → ℕ)
+    (runs : J → RequestView → Settings → Settings → List ℕ → Type 0) (old new : SessionView L C)
+    (settings : Settings) (last : Option Entry) (from to : Stage J) where
+  waits_set : (what : Waiting) → WaitsOn state pends (record old { settings = settings }) new last from to what
+      → WaitsOn state pends old new last from to what
+  waits_set waiting.Read h = h
+  waits_set waiting.Write h = h
+  waits_set waiting.App h = h
+  waits_set waiting.Budget h = h
+
+  timely_set : (now : ℕ) (result : Outcome)
+      → StepsInTime state now from (record old { settings = settings }) to new last result
+      → StepsInTime state now from old to new last result
+  timely_set now outcome.Done h = h
+  timely_set now (outcome.Waits what) h = h
+  timely_set now (outcome.Ends reason) h = h
+
+  outcome_set : (result : Outcome)
+      → OutcomeCause state pends runs (record old { settings = settings }) new last from to result
+      → OutcomeCause state pends runs old new last from to result
+  outcome_set outcome.Done h = h
+  outcome_set (outcome.Waits what) h = (h.0, waits_set what h.1)
+  outcome_set (outcome.Ends reason) h = h
+
+-- a step behind which these settings were set before it
+pub set_stepped : {L C J : Type 0} (state : L → LinkState) (pends : J → ℕ) (gives : Given → Reply → Type 0)
+    (runs : J → RequestView → Settings → Settings → List ℕ → Type 0) (now : ℕ) (shutdown : Bool)
+    (x y : Exchange L J C) (settings : Settings) (result : Outcome) → IsSetAlike x.session.settings settings
+    → Stepped state pends gives runs now shutdown
+    (record x { session = record x.session { settings = settings } }) y result
+    → Stepped state pends gives runs now shutdown x y result
+set_stepped {L} {C} state pends gives runs now shutdown x y settings result alike s =
+    let set : SessionView L C = record x.session { settings = settings } in
+    record {
+      moves = record {
+        read = s.moves.read;
+        wrote = s.moves.wrote;
+        spent = s.moves.spent;
+        moved = s.moves.moved;
+        budget = s.moves.budget;
+        within = s.moves.within;
+        context = s.moves.context;
+      };
+      accounted = λ before done a. s.accounted before done
+          (accounted_linked state x.session set x.transcript.last before done
+          (keeps_itself (state x.session.link)) refl refl refl refl a);
+      allowed = s.allowed;
+      kept = s.kept;
+      extends = s.extends;
+      begins_with = begins_set x.session.settings settings y.session.settings x.transcript.last
+          y.transcript.last alike s.begins_with;
+      reads_not_ready = s.reads_not_ready;
+      timely = timely_set state pends runs x.session y.session settings y.transcript.last x.stage y.stage now
+          result s.timely;
+      outcome = outcome_set state pends runs x.session y.session settings y.transcript.last x.stage y.stage
+          result s.outcome;
+    }

@@ -1,0 +1,112 @@
+//! How long the reads and writes of a session may wait. All times are milliseconds.
+ghost use Rattle.std.specs.Prelude.{◌≡◌, ◌<◌};
+ghost use Rattle.h1_server.specs.Times.{drain_limits, head_limit, new_times, piece_deadline, piece_limit, rate_set, rate_time};
+
+use crate::{Outgoing, Settings};
+use bytes::Bytes;
+use h1_transfer::{Deadline, DrainLimits};
+
+/// How long a read of a head or of a body may wait, where nothing else is set.
+pub const READ_TIMEOUT: u64 = 60_000;
+
+/// How long the reads and writes of a session may wait without moving bytes; None is without a
+/// limit.
+#[derive(Clone, Copy, Debug, PartialEq, Eq)]
+pub struct Times {
+    /// A read of the body, or of a head where keep-alive is off.
+    pub read: Option<u64>,
+    /// Reading the rest of the body in all, from its first wait on.
+    pub drain: Option<u64>,
+    /// A write of a piece of the body, where no rate is set.
+    pub write: Option<u64>,
+    /// How many bytes a second are written at least; it is not 0.
+    pub min_send_rate: Option<usize>,
+}
+
+impl Times {
+    /// Reads may wait a minute, and nothing else has a limit.
+    pub(crate) fn new() -> Self
+        ensures { result ≡ new_times }
+    {
+        Times {
+            read: Some(READ_TIMEOUT),
+            drain: None,
+            write: None,
+            min_send_rate: None,
+        }
+    }
+}
+
+/// How long the read of a head may wait: the time of keep-alive, of which 0 is no limit, or the read
+/// timeout where keep-alive is off.
+pub(crate) fn head_limit(settings: &Settings) -> Option<u64>
+    ensures { result ≡ head_limit settings.now }
+{
+    if settings.keep_off {
+        settings.times.read
+    } else if settings.keepalive == 0 {
+        None
+    } else {
+        Some(settings.keepalive.saturating_mul(1000))
+    }
+}
+
+/// How long reading the rest of the body may wait.
+pub(crate) fn drain_limits(times: Times, moment: u64) -> DrainLimits
+    ensures { result ≡ drain_limits times moment }
+{
+    DrainLimits {
+        moment,
+        read: times.read,
+        total: times.drain,
+    }
+}
+
+/// How long the write of the piece that is handed in may wait, or of the one that goes on.
+pub(crate) fn piece_deadline(
+    times: Times,
+    moment: u64,
+    reply: &Outgoing,
+    piece: &Option<Bytes>,
+) -> Deadline
+    ensures { result ≡ piece_deadline times moment reply.now piece.now }
+{
+    let len = match piece {
+        Some(piece) => piece.len(),
+        None => reply.handed,
+    };
+    Deadline {
+        moment,
+        limit: piece_limit(times, len),
+    }
+}
+
+/// How long the write of a piece of this length may wait.
+fn piece_limit(times: Times, len: usize) -> Option<u64>
+    ensures { result ≡ piece_limit times len }
+{
+    match times.min_send_rate {
+        Some(rate) if 0 < rate => Some(rate_time(len, rate)),
+        _ => times.write,
+    }
+}
+
+/// The time that a piece of this length takes at a rate in bytes a second, which is at least a
+/// second; it stops at 2^64 - 1.
+fn rate_time(len: usize, rate: usize) -> u64
+    requires { 0 < rate }
+    ensures { result ≡ rate_time len rate }
+{
+    let time = len.max(rate) as u128 * 1000 / rate as u128;
+    time.min(u64::MAX as u128) as u64
+}
+
+/// A rate as it is set: 0 is none.
+pub(crate) fn rate_set(rate: Option<usize>) -> Option<usize>
+    ensures { result ≡ rate_set rate }
+{
+    match rate {
+        Some(0) => None,
+        rate => rate,
+    }
+}
