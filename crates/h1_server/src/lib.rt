@@ -1,8 +1,6 @@
 //! The server's side of HTTP/1 over a link, one exchange at a time (RFC 9112).
 #![tactic(auto)]
 
-#[cfg(test)]
-mod deadline_tests;
 mod persistence;
 mod reading_head;
 mod request;

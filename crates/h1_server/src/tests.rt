@@ -11,7 +11,7 @@ use std::process::Abort;
 use std::test::Fail;
 
 /// Sun, 06 Nov 1994 08:49:37 GMT, in milliseconds.
-pub(crate) const NOW: u64 = 784_111_777_000;
+const NOW: u64 = 784_111_777_000;
 
 const REQUEST: &[u8] = b"POST /a HTTP/1.1\r\nHost: a\r\nContent-Length: 3\r\n\r\nabc";
 
@@ -30,7 +30,7 @@ fn a_request_is_read_and_its_reply_is_written(rt: HostRuntime) -> Result<(), Fai
     read_head(&rt, &mut session, 48);
     read_payload(&rt, &mut session, Some(b"abc"));
     read_payload(&rt, &mut session, None);
-    reply(&rt, &mut session, reply_header(rt.alloc(), 2)?);
+    reply(&rt, &mut session, reply_header(rt.alloc())?);
     assert_eq!(rt; session.link().written(), REPLY);
     assert_eq!(rt; session.link().flushed(), session.written_bytes());
     Ok(())
@@ -60,7 +60,7 @@ fn a_link_is_handed_on_with_what_was_received_behind_the_request(
     session.set_close_on_response_before_downstream_finish(false);
     read_head(&rt, &mut session, 48);
     assert_eq!(rt; session.get_keepalive_timeout(), Some(0));
-    reply(&rt, &mut session, reply_header(rt.alloc(), 2)?);
+    reply(&rt, &mut session, reply_header(rt.alloc())?);
     assert!(rt; session.has_request() && session.is_free());
     assert!(rt; session.will_keepalive());
     assert_eq!(rt; session.poll_reuse(NOW), Poll::Ready(Ok(true)));
@@ -90,7 +90,7 @@ fn a_session_goes_on_with_the_requests_that_were_received(rt: HostRuntime) -> Re
     read_head(&rt, &mut session, 48);
     read_payload(&rt, &mut session, Some(b"abc"));
     session.set_close_on_response_before_downstream_finish(false);
-    reply(&rt, &mut session, reply_header(rt.alloc(), 2)?);
+    reply(&rt, &mut session, reply_header(rt.alloc())?);
     // With no budget, a head is read only where no link call is needed.
     session.set_poll_budget(Some(0));
     go_on(&rt, &mut session, Some(1));
@@ -100,7 +100,7 @@ fn a_session_goes_on_with_the_requests_that_were_received(rt: HostRuntime) -> Re
     assert!(rt; session.has_request());
     assert_eq!(rt; session.req_header().raw_path(), b"/b".as_slice());
     session.set_poll_budget(None);
-    reply(&rt, &mut session, reply_header(rt.alloc(), 2)?);
+    reply(&rt, &mut session, reply_header(rt.alloc())?);
     go_on(&rt, &mut session, Some(0));
     assert!(rt; !session.has_prefix());
     assert!(rt; !session.will_keepalive());
@@ -140,10 +140,10 @@ fn a_link_that_is_not_kept_is_shut(rt: HostRuntime) -> Result<(), Fail> {
     Ok(())
 }
 
-/// The head of a reply of this length, that of `REPLY` with 2.
-pub(crate) fn reply_header(alloc: Global, len: u64) -> Result<ResponseHeader, Error> {
+/// The head of `REPLY`.
+fn reply_header(alloc: Global) -> Result<ResponseHeader, Error> {
     let mut header = ResponseHeader::build(alloc, 200, None)?;
-    header.set_content_length(len)?;
+    header.set_content_length(2)?;
     Ok(header)
 }
 
@@ -193,18 +193,14 @@ fn finish(rt: &impl Abort, session: &mut HttpSession<MemLink, u32>) {
 }
 
 /// Writes a whole reply.
-pub(crate) fn reply(
-    rt: &impl Abort,
-    session: &mut HttpSession<MemLink, u32>,
-    header: ResponseHeader,
-) {
+fn reply(rt: &impl Abort, session: &mut HttpSession<MemLink, u32>, header: ResponseHeader) {
     write_header(rt, session, header);
     write_piece(rt, session);
     finish(rt, session);
 }
 
 /// Hands the link on to the next request, of which so many more may follow.
-pub(crate) fn go_on(rt: &impl Abort, session: &mut HttpSession<MemLink, u32>, reuses: Option<u32>) {
+fn go_on(rt: &impl Abort, session: &mut HttpSession<MemLink, u32>, reuses: Option<u32>) {
     assert!(rt; session.has_request() && session.is_free());
     assert_eq!(rt; session.poll_reuse(NOW), Poll::Ready(Ok(true)));
     assert!(rt; session.is_reusable());

@@ -29,6 +29,7 @@ pub fn refuse<T>(refused: &mut Option<Error>, kind: ErrorType) -> Poll<Result<T,
 
 /// What a read of a part of the body answers, which moved bytes, or didn't; a read that waits is noted.
 /// For a caller that keeps the payload a body whose read was out of memory has failed.
+#[inline(always)]
 pub(crate) fn part(
     body: &mut BodyState,
     read: BodyRead,
@@ -76,6 +77,7 @@ pub(crate) fn part(
 }
 
 /// What a read of the rest of the body answers, which moved bytes, or didn't.
+#[inline(always)]
 pub(crate) fn rest(
     body: &mut BodyState,
     stop: BodyStop,

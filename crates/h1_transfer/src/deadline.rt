@@ -1,7 +1,7 @@
 //! Limits of time: how long an operation may wait for its link without moving bytes. All times are
 //! milliseconds.
-ghost use Rattle.std.specs.Prelude.{◌≡◌, ◌&&◌};
-ghost use Rattle.h1_transfer.specs.Deadline.{is_late, is_over, is_reached, is_waiting, since_behind};
+ghost use Rattle.std.specs.Prelude.{◌≡◌, ◌&&◌, Some};
+ghost use Rattle.h1_transfer.specs.Deadline.{is_late, is_over, is_reached, is_waiting, since_behind, start_of};
 
 /// The moment of a call, and how long its operation may wait for its link without moving bytes;
 /// None is without a limit.
@@ -25,6 +25,7 @@ pub enum Went {
 impl Deadline {
     /// Notes since when the operation waits behind a call that moved bytes, or didn't, and says
     /// whether it waits and the limit is reached.
+    #[inline(always)]
     pub fn judge(self, went: Went, moved: bool, since: &mut Option<u64>) -> bool
         ensures noted { since.new ≡ since_behind went (record {
           deadline = self;
@@ -37,21 +38,41 @@ impl Deadline {
           since = since.old;
         })) }
     {
-        if moved {
-            *since = None;
-        }
         match went {
             Went::Done => {
                 *since = None;
                 false
             }
-            Went::Waited => {
-                let start = since.unwrap_or(self.moment);
-                *since = Some(start);
-                self.is_late(start)
+            Went::Waited => self.wait(moved, since),
+            Went::Stopped => {
+                if moved {
+                    *since = None;
+                }
+                false
             }
-            Went::Stopped => false,
         }
+    }
+
+    // Notes since when the operation waits, and says whether the limit is reached.
+    #[cold]
+    fn wait(self, moved: bool, since: &mut Option<u64>) -> bool
+        ensures noted { since.new ≡ Some (start_of (record {
+          deadline = self;
+          moved = moved;
+          since = since.old;
+        })) }
+        ensures judged { result ≡ is_over (record {
+          deadline = self;
+          moved = moved;
+          since = since.old;
+        }) }
+    {
+        let start = match *since {
+            Some(start) if !moved => start,
+            _ => self.moment,
+        };
+        *since = Some(start);
+        self.is_late(start)
     }
 
     /// Whether the limit of a wait that began at this moment is reached.

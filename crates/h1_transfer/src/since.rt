@@ -35,6 +35,7 @@ impl Since {
     }
 
     /// Judges a read of a part of the body. What a read of the rest noted is dropped.
+    #[inline(always)]
     pub fn judge_part(&mut self, went: Went, moved: bool, deadline: Deadline) -> bool
         ensures noted { self.new ≡ part_behind went deadline moved self.old }
         ensures judged { result ≡ (is_waiting went && is_over (part_wait deadline moved self.old)) }
@@ -46,6 +47,7 @@ impl Since {
     }
 
     /// Judges a read of the rest of the body. What a read of a part noted is dropped.
+    #[inline(always)]
     pub fn judge_rest(&mut self, went: Went, moved: bool, limits: DrainLimits) -> bool
         ensures noted { self.new ≡ rest_behind went limits moved self.old }
         ensures judged { result ≡ (is_waiting went && is_drain_over limits moved self.old) }

@@ -75,8 +75,8 @@ impl<L: Link + Drop, C: Drop> HttpSession<L, C> {
     }
 
     /// Begins the next request on the same link: what was received and not used is parsed before
-    /// any read. Keep-alive, pipelining, the budget and the context stay, and one request fewer may
-    /// follow.
+    /// any read. Keep-alive, pipelining, the budget and the context stay, the limits of time are set
+    /// as at first, and one request fewer may follow.
     #[inline(always)]
     pub fn next_request(&mut self)
         requires { self.old.reusable ≡ true }
