@@ -11,7 +11,9 @@ use Rattle.httparse.specs.Grammar.{is_token, is_token_byte}
 use Rattle.h1_echo.specs.Words.{Error, NoMemory, no_memory, ErrorType, Ready, LinkState, SessionView, Stopped, ReadsAtOnce, ReadsOnly, GivesReply, payload_of, how_of, Given, Reply, Open, Whole, Failed, RequestView, ResponseView, new_response, Settings, line_fault, RefusedFor}
 use Rattle.h1_error.specs.declared.head_fault.HeadFault.{HeadFault}
 use Rattle.futures.specs.declared.task.Poll.{Poll}
+use Rattle.h1_server.specs.Limit.{limited}
 use Rattle.h1_server.specs.Payload.{ReadsPayload}
+use Rattle.h1_server.specs.declared.limit.Limit.{Limit}
 use Rattle.h1_transfer.specs.Payload.{refused_behind}
 use Rattle.h1_echo.proofs.Words.{Reading, refused_reply, echo_settings}
 use Rattle.h1_echo.specs.EchoRun.{EchoRuns, StopCause, IsStopOf, Gathers}
@@ -193,8 +195,8 @@ reply_to_head (Some r) head body (Ok reply) there is h = h ∙ ap (λ asked. ech
 reply_to_head (Some r) head body (Err error) there is h = tt
 
 -- a limit that was set is set again
-set_twice : (slow : Bool) (write : Option ℕ)
-    → cond slow (Some 1000) (cond slow (Some 1000) write) ≡ cond slow (Some 1000) write
+set_twice : (slow : Bool) (write : Limit)
+    → cond slow (limited (Some 1000)) (cond slow (limited (Some 1000)) write) ≡ cond slow (limited (Some 1000)) write
 set_twice true write = refl
 set_twice false write = refl
 
@@ -206,7 +208,7 @@ settings_are : (request : Option Request) (head : RequestView) (began old begun 
 settings_are None head began old begun there is set from = absurd (false≢true there)
 settings_are (Some r) head began old begun there is set (inl same) = rw (set, is, same) refl
 settings_are (Some r) head began old begun there is set (inr same) =
-    rw (set, is, same) (ap (λ (write : Option ℕ). record began {
+    rw (set, is, same) (ap (λ (write : Limit). record began {
       pipelining = not (bytes_eq head.target (codes "/nopipe"));
       times = record began.times { write = write };
     }) (set_twice (bytes_eq head.target (codes "/slow")) began.times.write))

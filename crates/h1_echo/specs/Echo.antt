@@ -3,6 +3,8 @@ use Rattle.std.specs.Prelude.{◌≡◌, ◌≢◌, ℕ, ◌+◌, ◌^◌, ◌<�
 use Rattle.std.specs.Fmt.{decimal}
 use Rattle.h1_echo.specs.Words.{Error, RequestView, new_response, Settings, Reply, Open, Given}
 use Rattle.h1_fields.specs.Lines.{Line}
+use Rattle.h1_server.specs.Limit.{limited}
+use Rattle.h1_server.specs.declared.limit.Limit.{Limit}
 
 -- the body of an echo: the method, the target and the request's body
 abbrev pub echo_body : RequestView → List ℕ → List ℕ
@@ -37,8 +39,9 @@ echo_reply head handed None =
 echo_reply head handed (Some error) = refused_reply
 
 -- how long the write of the reply's body may wait: for one target a second
-abbrev pub echo_write : RequestView → Option ℕ → Option ℕ
-echo_write head write = if bytes_eq head.target (codes "/slow") then Some 1000 else write
+abbrev pub echo_write : RequestView → Limit → Limit
+echo_write head write =
+    if bytes_eq head.target (codes "/slow") then limited (Some 1000) else write
 
 -- pipelining is on but for one target, and for one the reply's body has a deadline
 abbrev pub echo_settings : RequestView → Settings → Settings

@@ -1,6 +1,7 @@
 pub mod Keepalive
 pub mod Persistence
 pub mod SessionView
+pub mod Limit
 pub mod Times
 pub mod RequestMade
 pub mod Requests

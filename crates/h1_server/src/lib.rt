@@ -1,6 +1,7 @@
 //! The server's side of HTTP/1 over a link, one exchange at a time (RFC 9112).
 #![tactic(auto)]
 
+mod limit;
 mod persistence;
 mod reading_head;
 mod request;
@@ -14,6 +15,7 @@ mod tests;
 mod times;
 
 pub use h1_transfer::{BodyState, CALL_BUDGET, Outgoing, Step};
+pub use limit::Limit;
 pub use request::{NoRequest, ReadRequest, Request};
 pub use reusable::ReusableHttpStream;
 pub use server::HttpSession;

@@ -106,6 +106,13 @@ impl<L: Link + Drop, C: Drop> HttpSession<L, C> {
         }
     }
 
+    /// Which write is in progress, and may be made again with nothing handed in.
+    pub fn step(&self) -> Step
+        ensures { result ≡ self.now.reply.step }
+    {
+        self.transfer.outgoing().step
+    }
+
     /// Whether no write is in progress.
     pub fn is_free(&self) -> bool
         ensures { IsTrue result ↔ (self.now.reply.step ≡ Free) }

@@ -1,26 +1,25 @@
 //! How long the reads and writes of a session may wait. All times are milliseconds.
 ghost use Rattle.std.specs.Prelude.{◌≡◌, ◌<◌};
-ghost use Rattle.h1_server.specs.Times.{drain_limits, head_limit, new_times, piece_deadline, piece_limit, rate_set, rate_time};
+ghost use Rattle.h1_server.specs.Times.{drain_limits, head_limit, new_times, piece_deadline, piece_limit, rate_time};
 
-use crate::{Outgoing, Settings};
+use crate::{Limit, Outgoing, Settings};
 use bytes::Bytes;
 use h1_transfer::{Deadline, DrainLimits};
 
 /// How long a read of a head or of a body may wait, where nothing else is set.
 pub const READ_TIMEOUT: u64 = 60_000;
 
-/// How long the reads and writes of a session may wait without moving bytes; None is without a
-/// limit.
+/// How long the reads and writes of a session may wait without moving bytes.
 #[derive(Clone, Copy, Debug, PartialEq, Eq)]
 pub struct Times {
     /// A read of the body, or of a head where keep-alive is off.
-    pub read: Option<u64>,
+    pub read: Limit,
     /// Reading the rest of the body in all, from its first wait on.
-    pub drain: Option<u64>,
+    pub drain: Limit,
     /// A write of a piece of the body, where no rate is set.
-    pub write: Option<u64>,
-    /// How many bytes a second are written at least; it is not 0.
-    pub min_send_rate: Option<usize>,
+    pub write: Limit,
+    /// How many bytes a second are written at least; 0 is none.
+    pub min_send_rate: usize,
 }
 
 impl Times {
@@ -29,10 +28,10 @@ impl Times {
         ensures { result ≡ new_times }
     {
         Times {
-            read: Some(READ_TIMEOUT),
-            drain: None,
-            write: None,
-            min_send_rate: None,
+            read: Limit::new(Some(READ_TIMEOUT)),
+            drain: Limit::new(None),
+            write: Limit::new(None),
+            min_send_rate: 0,
         }
     }
 }
@@ -43,7 +42,7 @@ pub(crate) fn head_limit(settings: &Settings) -> Option<u64>
     ensures { result ≡ head_limit settings.now }
 {
     if settings.keep_off {
-        settings.times.read
+        settings.times.read.get()
     } else if settings.keepalive == 0 {
         None
     } else {
@@ -57,8 +56,8 @@ pub(crate) fn drain_limits(times: Times, moment: u64) -> DrainLimits
 {
     DrainLimits {
         moment,
-        read: times.read,
-        total: times.drain,
+        read: times.read.get(),
+        total: times.drain.get(),
     }
 }
 
@@ -86,8 +85,8 @@ fn piece_limit(times: Times, len: usize) -> Option<u64>
     ensures { result ≡ piece_limit times len }
 {
     match times.min_send_rate {
-        Some(rate) if 0 < rate => Some(rate_time(len, rate)),
-        _ => times.write,
+        0 => times.write.get(),
+        rate => Some(rate_time(len, rate)),
     }
 }
 
@@ -99,14 +98,4 @@ fn rate_time(len: usize, rate: usize) -> u64
 {
     let time = len.max(rate) as u128 * 1000 / rate as u128;
     time.min(u64::MAX as u128) as u64
-}
-
-/// A rate as it is set: 0 is none.
-pub(crate) fn rate_set(rate: Option<usize>) -> Option<usize>
-    ensures { result ≡ rate_set rate }
-{
-    match rate {
-        Some(0) => None,
-        rate => rate,
-    }
 }

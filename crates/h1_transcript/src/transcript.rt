@@ -26,8 +26,6 @@ pub enum How {
 pub struct Entry {
     /// The head as it was read.
     pub head: RequestHeader,
-    /// Content-Length stood beside Transfer-Encoding and was dropped (RFC 9112, section 6.1).
-    pub both: bool,
     /// The head after the request filters.
     pub filtered: Option<RequestHeader>,
     /// All payload that was read.
@@ -36,28 +34,30 @@ pub struct Entry {
     pub handed: u64,
     /// Why the body couldn't be read on.
     pub body_error: Option<Error>,
-    /// What the application replied.
-    pub reply: Option<Reply>,
-    /// The reply's header after the response filters.
-    pub sent_head: Option<ResponseHeader>,
-    /// The reply's body after the response filters.
-    pub sent_body: Option<BodyBytes>,
-    /// The second of the reply's Date since the epoch.
-    pub date: u64,
-    /// Whether the reply said that the connection is kept.
-    pub keep: bool,
-    /// How many bytes of the reply were written.
-    pub written: u64,
     /// How the request's body stood when the reply was made.
     pub how: How,
     /// What was set as the exchange began.
     pub began: Settings,
     /// What the application left set.
     pub left: Settings,
-    /// The reply was taken up and is not flushed yet.
-    pub owed: bool,
+    /// What the application replied.
+    pub reply: Option<Reply>,
+    /// The reply's header after the response filters.
+    pub sent_head: Option<ResponseHeader>,
+    /// The reply's body after the response filters.
+    pub sent_body: Option<BodyBytes>,
+    /// How many bytes of the reply were written.
+    pub written: u64,
+    /// The second of the reply's Date since the epoch.
+    pub date: u64,
     /// The reply's Date, as it is written.
     pub date_text: [u8; 29],
+    /// Content-Length stood beside Transfer-Encoding and was dropped (RFC 9112, section 6.1).
+    pub both: bool,
+    /// Whether the reply said that the connection is kept.
+    pub keep: bool,
+    /// The reply was taken up and is not flushed yet.
+    pub owed: bool,
 }
 
 /// The exchanges of a connection, in order. Contracts see those that ended as `done`, and the one

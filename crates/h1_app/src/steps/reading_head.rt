@@ -106,22 +106,22 @@ fn start<L: Link + Drop, SV: ServeHttp<L, C> + Drop, C: Drop>(
     let job = app.start(alloc)?;
     transcript.begin(Entry {
         head,
-        both: request.both,
         filtered: Some(filtered),
         body: BodyBytes::new(alloc),
         handed: 0,
         body_error: None,
-        reply: None,
-        sent_head: None,
-        sent_body: None,
-        date: 0,
-        keep: false,
-        written: 0,
         how: How::Open,
         began: settings,
         left: settings,
-        owed: false,
+        reply: None,
+        sent_head: None,
+        sent_body: None,
+        written: 0,
+        date: 0,
         date_text: [0; 29],
+        both: request.both,
+        keep: false,
+        owed: false,
     })?;
     Ok(job)
 }

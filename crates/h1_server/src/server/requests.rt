@@ -109,7 +109,7 @@ impl<L: Link + Drop, C: Drop> HttpSession<L, C> {
     {
         let deadline = Deadline {
             moment: now,
-            limit: self.settings.times.read,
+            limit: self.settings.times.read.get(),
         };
         self.transfer.poll_read_body_bytes(deadline)
     }
