@@ -1,6 +1,6 @@
 //! How long the reads and writes of a session may wait. All times are milliseconds.
 ghost use Rattle.std.specs.Prelude.{◌≡◌, ◌<◌};
-ghost use Rattle.h1_server.specs.Times.{drain_limits, head_limit, new_times, piece_deadline, piece_limit, rate_time};
+ghost use Rattle.h1_server.specs.Times.{body_deadline, drain_limits, head_limit, new_times, piece_deadline, piece_limit, rate_time};
 
 use crate::{Limit, Outgoing, Settings};
 use bytes::Bytes;
@@ -47,6 +47,16 @@ pub(crate) fn head_limit(settings: &Settings) -> Option<u64>
         None
     } else {
         Some(settings.keepalive.saturating_mul(1000))
+    }
+}
+
+/// How long reading a part of the body may wait.
+pub(crate) fn body_deadline(times: Times, moment: u64) -> Deadline
+    ensures { result ≡ body_deadline times moment }
+{
+    Deadline {
+        moment,
+        limit: times.read.get(),
     }
 }
 

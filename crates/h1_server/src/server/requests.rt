@@ -9,7 +9,7 @@ ghost use Rattle.h1_server.specs.Requests.{StopsFor};
 
 use super::HttpSession;
 use crate::settings::{wished, with_keepalive};
-use crate::times::head_limit;
+use crate::times::{body_deadline, head_limit};
 use crate::{NoRequest, ReadRequest};
 use bytes::Bytes;
 use futures::task::Poll;
@@ -107,10 +107,7 @@ impl<L: Link + Drop, C: Drop> HttpSession<L, C> {
         ensures plan { L.same_plan self.old.link self.new.link }
         ensures bound { length self.new.received < 2 ^ 63 }
     {
-        let deadline = Deadline {
-            moment: now,
-            limit: self.settings.times.read.get(),
-        };
-        self.transfer.poll_read_body_bytes(deadline)
+        self.transfer
+            .poll_read_body_bytes(body_deadline(self.settings.times, now))
     }
 }
