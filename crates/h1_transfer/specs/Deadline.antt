@@ -14,6 +14,10 @@ pub record Wait : Type 0 where
   pub moved : Bool
   pub since : Option ℕ
 
+-- what a call finds that moved bytes, or didn't
+abbrev pub wait_with : Deadline → Bool → Option ℕ → Wait
+wait_with deadline moved since = record { deadline = deadline; moved = moved; since = since }
+
 -- since when a call waits that does so: since now, where bytes moved in it or its operation didn't
 -- wait before
 abbrev pub start_of : Wait → ℕ

@@ -1,7 +1,7 @@
 //! Limits of time: how long an operation may wait for its link without moving bytes. All times are
 //! milliseconds.
-ghost use Rattle.std.specs.Prelude.{◌≡◌, ◌&&◌, Some};
-ghost use Rattle.h1_transfer.specs.Deadline.{is_late, is_over, is_reached, is_waiting, since_behind, start_of};
+ghost use Rattle.std.specs.Prelude.{◌≡◌, ◌&&◌};
+ghost use Rattle.h1_transfer.specs.Deadline.{is_late, is_over, is_reached, is_waiting, since_behind, wait_with};
 
 /// The moment of a call, and how long its operation may wait for its link without moving bytes;
 /// None is without a limit.
@@ -27,52 +27,41 @@ impl Deadline {
     /// whether it waits and the limit is reached.
     #[inline(always)]
     pub fn judge(self, went: Went, moved: bool, since: &mut Option<u64>) -> bool
-        ensures noted { since.new ≡ since_behind went (record {
-          deadline = self;
-          moved = moved;
-          since = since.old;
-        }) }
-        ensures judged { result ≡ (is_waiting went && is_over (record {
-          deadline = self;
-          moved = moved;
-          since = since.old;
-        })) }
+        ensures noted { since.new ≡ since_behind went (wait_with self moved since.old) }
+        ensures judged { result
+            ≡ (is_waiting went && is_over (wait_with self moved since.old)) }
     {
         match went {
             Went::Done => {
                 *since = None;
                 false
             }
-            Went::Waited => self.wait(moved, since),
-            Went::Stopped => {
-                if moved {
-                    *since = None;
-                }
-                false
-            }
+            went => self.judge_stop(went, moved, since),
         }
     }
 
-    // Notes since when the operation waits, and says whether the limit is reached.
+    // The same of a call that stopped before it did what was asked, which few do.
     #[cold]
-    fn wait(self, moved: bool, since: &mut Option<u64>) -> bool
-        ensures noted { since.new ≡ Some (start_of (record {
-          deadline = self;
-          moved = moved;
-          since = since.old;
-        })) }
-        ensures judged { result ≡ is_over (record {
-          deadline = self;
-          moved = moved;
-          since = since.old;
-        }) }
+    fn judge_stop(self, went: Went, moved: bool, since: &mut Option<u64>) -> bool
+        ensures noted { since.new ≡ since_behind went (wait_with self moved since.old) }
+        ensures judged { result
+            ≡ (is_waiting went && is_over (wait_with self moved since.old)) }
     {
-        let start = match *since {
-            Some(start) if !moved => start,
-            _ => self.moment,
-        };
-        *since = Some(start);
-        self.is_late(start)
+        if moved {
+            *since = None;
+        }
+        match went {
+            Went::Done => {
+                *since = None;
+                false
+            }
+            Went::Waited => {
+                let start = since.unwrap_or(self.moment);
+                *since = Some(start);
+                self.is_late(start)
+            }
+            Went::Stopped => false,
+        }
     }
 
     /// Whether the limit of a wait that began at this moment is reached.

@@ -25,6 +25,7 @@ pub struct DrainLimits {
 
 impl Since {
     /// Nothing waits.
+    #[inline(always)]
     pub fn new() -> Self
         ensures { result ≡ no_wait }
     {
@@ -40,6 +41,21 @@ impl Since {
         ensures noted { self.new ≡ part_behind went deadline moved self.old }
         ensures judged { result ≡ (is_waiting went && is_over (part_wait deadline moved self.old)) }
     {
+        match went {
+            Went::Done => {
+                *self = Since::new();
+                false
+            }
+            went => self.judge_part_stop(went, moved, deadline),
+        }
+    }
+
+    // The same of a read that stopped before it did what was asked.
+    #[cold]
+    fn judge_part_stop(&mut self, went: Went, moved: bool, deadline: Deadline) -> bool
+        ensures noted { self.new ≡ part_behind went deadline moved self.old }
+        ensures judged { result ≡ (is_waiting went && is_over (part_wait deadline moved self.old)) }
+    {
         if self.drain.is_some() {
             *self = Since::new();
         }
@@ -49,6 +65,21 @@ impl Since {
     /// Judges a read of the rest of the body. What a read of a part noted is dropped.
     #[inline(always)]
     pub fn judge_rest(&mut self, went: Went, moved: bool, limits: DrainLimits) -> bool
+        ensures noted { self.new ≡ rest_behind went limits moved self.old }
+        ensures judged { result ≡ (is_waiting went && is_drain_over limits moved self.old) }
+    {
+        match went {
+            Went::Done => {
+                *self = Since::new();
+                false
+            }
+            went => self.judge_rest_stop(went, moved, limits),
+        }
+    }
+
+    // The same of a read that stopped before it did what was asked.
+    #[cold]
+    fn judge_rest_stop(&mut self, went: Went, moved: bool, limits: DrainLimits) -> bool
         ensures noted { self.new ≡ rest_behind went limits moved self.old }
         ensures judged { result ≡ (is_waiting went && is_drain_over limits moved self.old) }
     {
