@@ -37,11 +37,11 @@ pub enum ErrorType {
     /// The link failed in a write or a flush.
     #[error("a write to the link failed")]
     WriteError,
-    /// No byte came before a deadline.
-    #[error("no byte came before the deadline")]
+    /// A read waited past its deadline.
+    #[error("a read went past its deadline")]
     ReadTimedout,
-    /// No byte was taken before a deadline.
-    #[error("no byte was taken before the deadline")]
+    /// A write waited past its deadline.
+    #[error("a write went past its deadline")]
     WriteTimedout,
     /// A body ended before its Content-Length was reached.
     #[error("the body ended before its Content-Length was reached")]

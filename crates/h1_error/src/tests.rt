@@ -51,7 +51,7 @@ fn an_error_has_a_message_for_people(rt: HostRuntime) -> Result<(), Fail> {
             ErrorType::ConnectionClosed,
             "the peer closed the connection inside a message",
         ),
-        (ErrorType::ReadTimedout, "no byte came before the deadline"),
+        (ErrorType::ReadTimedout, "a read went past its deadline"),
         (
             ErrorType::ConnectError(ConnectFault::DialFailed),
             "no link to the server: the dialer failed",

@@ -7,7 +7,8 @@ use crate::acceptor::Acceptor;
 use crate::dialer::{DialStep, Dialer};
 use crate::link::{FlushStep, Link, ReadStep, WriteStep};
 use crate::memory::{Tally, raise};
-use std::io::{self, ErrorKind, Read, Write};
+use std::alloc::Global;
+use std::io::{self, BufWriter, ErrorKind, Read, Write};
 use std::marker::Model;
 use std::net::{Ipv4Addr, Net, OpenListener, OpenStream, Shutdown, SocketAddr, SocketAddrV4};
 use std::time::Duration;
@@ -15,10 +16,13 @@ use std::time::Duration;
 /// How long a read or a write waits for the peer, in milliseconds.
 const WAIT: u64 = 20;
 
-/// A link over a TCP stream, which tells no bytes.
+/// A link over a TCP stream, which tells no bytes. It holds up to 8,192 bytes of what it took until
+/// a flush, so that the parts of a message that are there together leave in one write. A piece of
+/// that length or more goes through at once behind what is held. A shutdown and a drop try once to
+/// send what is held.
 #[derive(Drop)]
 pub struct TcpLink<S: Read + Write + OpenStream + Drop> {
-    stream: S,
+    stream: BufWriter<S>,
     tally: Tally,
 }
 
@@ -31,9 +35,9 @@ impl<S: Read + Write + OpenStream + Drop> Model for TcpLink<S> {
 }
 
 impl<S: Read + Write + OpenStream + Drop> TcpLink<S> {
-    /// A link over this stream, which sends each piece at once; `None` where its calls can't be
-    /// kept from blocking, or pieces from waiting for each other.
-    pub fn new(stream: S) -> Option<Self>
+    /// A link over this stream; `None` where its calls can't be kept from blocking, or writes from
+    /// waiting for each other, or where there is no memory for what the link holds.
+    pub fn new(alloc: Global, stream: S) -> Option<Self>
         ensures { IfSome result (λ link. link ≡ untold_state) }
     {
         let wait = Some(Duration::from_millis(WAIT));
@@ -44,7 +48,7 @@ impl<S: Read + Write + OpenStream + Drop> TcpLink<S> {
             return None;
         }
         Some(TcpLink {
-            stream,
+            stream: BufWriter::new(alloc, stream).ok()?,
             tally: Tally::new(),
         })
     }
@@ -64,7 +68,7 @@ impl<S: Read + Write + OpenStream + Drop> Link for TcpLink<S> {
     ghost same_plan = { λ _ _. Unit {0} };
 
     fn poll_read(&mut self, buf: &mut [u8]) -> ReadStep {
-        let step = match self.stream.read(buf) {
+        let step = match self.stream.get_mut().read(buf) {
             Ok(0) => ReadStep::End,
             Ok(count) => ReadStep::Got(count),
             Err(error) if is_wait(&error) => ReadStep::NotReady,
@@ -95,8 +99,10 @@ impl<S: Read + Write + OpenStream + Drop> Link for TcpLink<S> {
     }
 
     fn shutdown(&mut self) {
-        // A stream that the peer has closed can't be shut down again, which is no fault.
-        let _ = self.stream.shutdown(Shutdown::Both);
+        // What can't be sent now is lost, and a stream that the peer has closed can't be shut down
+        // again: neither is a fault.
+        let _ = self.stream.flush();
+        let _ = self.stream.get_ref().shutdown(Shutdown::Both);
         self.tally.count_shutdown();
     }
 
@@ -136,7 +142,7 @@ impl<R: Net + Drop> TcpDialer<R> {
     }
 }
 
-impl<R: Net + Drop> Dialer for TcpDialer<R> {
+impl<R: Net + AllocGlobal + Drop> Dialer for TcpDialer<R> {
     type Link = TcpLink<R::Stream>;
 
     ghost state = { λ dialer. dialer };
@@ -147,7 +153,7 @@ impl<R: Net + Drop> Dialer for TcpDialer<R> {
         let dialed = u16::try_from(key)
             .ok()
             .and_then(|port| self.rt.connect(local(port)).ok())
-            .and_then(TcpLink::new);
+            .and_then(|stream| TcpLink::new(self.rt.alloc(), stream));
         match dialed {
             Some(link) => DialStep::Connected(link),
             None => {
@@ -193,7 +199,7 @@ impl<R: Net + Drop> TcpAcceptor<R> {
     }
 }
 
-impl<R: Net + Drop> Acceptor for TcpAcceptor<R> {
+impl<R: Net + AllocGlobal + Drop> Acceptor for TcpAcceptor<R> {
     type Link = TcpLink<R::Stream>;
 
     ghost state = { λ acceptor. acceptor };
@@ -212,7 +218,7 @@ impl<R: Net + Drop> Acceptor for TcpAcceptor<R> {
     }
 
     fn accept(&mut self) -> Option<TcpLink<R::Stream>> {
-        match accept_on(&self.listener) {
+        match accept_on(self.rt.alloc(), &self.listener) {
             Some(link) => {
                 self.accepted = raise(self.accepted);
                 Some(link)
@@ -226,10 +232,13 @@ impl<R: Net + Drop> Acceptor for TcpAcceptor<R> {
 }
 
 /// The next peer's link, where a port is held.
-fn accept_on<N: OpenListener>(listener: &Option<N>) -> Option<TcpLink<N::Stream>>
+fn accept_on<N: OpenListener>(alloc: Global, listener: &Option<N>) -> Option<TcpLink<N::Stream>>
 where
     N::Stream: Read + Write + OpenStream + Drop,
 {
     let (stream, _peer) = listener.as_ref()?.accept().ok()?;
-    TcpLink::new(stream)
+    TcpLink::new(alloc, stream)
 }
+
+#[cfg(test)]
+mod tests;

@@ -158,10 +158,14 @@ fn links_over_tcp_carry_bytes(rt: HostRuntime) -> Result<(), Fail> {
     let mut buf = [0u8; 8];
     assert_eq!(rt; far.poll_read(&mut buf), ReadStep::NotReady);
     assert_eq!(rt; near.poll_write(b"GET"), WriteStep::Took(3));
+    assert_eq!(rt; far.poll_read(&mut buf), ReadStep::NotReady);
+    assert_eq!(rt; near.poll_write(b" /"), WriteStep::Took(2));
     assert_eq!(rt; near.poll_flush(), FlushStep::Done);
-    assert_eq!(rt; far.poll_read(&mut buf), ReadStep::Got(3));
-    assert!(rt; buf.starts_with(b"GET"));
+    assert_eq!(rt; far.poll_read(&mut buf), ReadStep::Got(5));
+    assert!(rt; buf.starts_with(b"GET /"));
+    assert_eq!(rt; near.poll_write(b"a"), WriteStep::Took(1));
     near.shutdown();
+    assert_eq!(rt; far.poll_read(&mut buf), ReadStep::Got(1));
     assert_eq!(rt; far.poll_read(&mut buf), ReadStep::End);
     Ok(())
 }

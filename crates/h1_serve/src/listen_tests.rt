@@ -179,7 +179,7 @@ fn a_port_or_a_count_that_is_too_large_has_status_2(rt: HostRuntime) -> Result<(
 }
 
 /// Runs the program with these words over TCP and the runtime's clock.
-fn run_over_tcp<R: Wait + Threads + Net + time::Clock + Sync + Send + Clone + Drop>(
+fn run_over_tcp<R: Wait + Threads + Net + AllocGlobal + time::Clock + Sync + Send + Clone + Drop>(
     rt: &R,
     alloc: Global,
     words: &[&str],

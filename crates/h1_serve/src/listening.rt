@@ -96,6 +96,10 @@ fn serve_peer<L: Link + Drop, T: Clock>(
     let server = Arc::new(alloc, echo_server(Some(REQUEST_LIMIT)))?;
     let mut connection: Echoed<L> = Connection::new(alloc, server, link)?;
     let answer = serve_link(&mut connection, clock);
+    // A connection may end without a flush, as behind a reply that is shorter than stated. The line
+    // tells why it ended, whatever comes of this one.
+    let mut served = connection.into_link();
+    let _ = served.poll_flush();
     Ok(answer)
 }
 
