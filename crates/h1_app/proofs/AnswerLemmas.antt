@@ -1,8 +1,10 @@
 -- Steps in which the application goes on.
 use Rattle.std.proofs.Common.{◌≡◌, ℕ, ◌⊎◌, inl, List, [], ◌∷◌, ◌++◌, Bool, true, false, Option, Some, None, IfSome, unwrap_or, refl, sym, ◌∙◌, ap, subst, length, length-append, arith}
 use Rattle.std.proofs.lemmas.Option.{IfSome_then, same_Some}
-use Rattle.h1_app.specs.Words.{Error, ErrorType, BodyRefusal, LinkState, Rose, RequestView, SessionView, Settings, Reply, Entry, Exchange, Outcome, Stage, Asked, Given, ReadsOnly, payload_of, LacksSo, IsAllowed, Grows, Stays}
+use Rattle.h1_app.specs.Words.{Error, ErrorType, no_memory, BodyRefusal, LinkState, Rose, RequestView, SessionView, Settings, Reply, Entry, Exchange, Outcome, Stage, Asked, Given, ReadsOnly, payload_of, LacksSo, IsAllowed, Grows, Stays}
 use Rattle.h1_error.specs.declared.error.ErrorType.TheVariants as kind
+use Rattle.h1_error.specs.declared.progress.End.TheVariants as end
+use Rattle.h1_app.specs.declared.exchange.Outcome.TheVariants as outcome
 use Rattle.h1_app.specs.declared.exchange.Stage.TheVariants as stage
 use Rattle.h1_app.specs.declared.steps.answering.Asked.TheVariants as asked
 use Rattle.h1_application.specs.Application.{RefusedBy, RefusesWith, WaitsBy}
@@ -10,6 +12,8 @@ use Rattle.h1_app.proofs.Words.{AsksAs, noted, Accounted, StopsBody, StopsWith, 
 use Rattle.h1_transcript.specs.Growth.{RefusedIn, RoseFor}
 use Rattle.h1_transcript.proofs.GrowthLemmas.{stays_itself}
 use Rattle.h1_app.proofs.EndReplies.{stands_unfinished}
+use Rattle.h1_app.specs.Timely.{StepsInTime}
+use Rattle.h1_app.proofs.TimelyLemmas.{fails_anyhow, untimed_waits}
 use Rattle.h1_app.proofs.StepLemmas.{grown_stepped}
 use Rattle.h1_app.proofs.StoodLemmas.{stood_so}
 use Rattle.h1_app.proofs.AccountedLemmas.{accounted_read, entry_on, stops_on}
@@ -97,6 +101,7 @@ still_answers {L} {C} state old new e e2 answer a h =
         filtered = a.asked.filtered;
         kept = refl;
         waits = refl;
+        undrained = r.undrained a.asked.undrained;
         written = rw r.reply a.asked.written;
         limit = a.asked.limit;
       };
@@ -207,6 +212,27 @@ asked_moves {L} {C} state old new e e2 answer h =
       context = h.reads.context;
     })
 
+-- where an exchange stands after its application was asked: it is asked again, its reply is taken up,
+-- or memory ran out
+abbrev pub StandsAsked : {J : Type 0} → Stage J → Outcome → Type 0
+StandsAsked to outcome.Done = to ≡ stage.TakeHeader
+StandsAsked {J} to (outcome.Waits what) = (job : J) × (to ≡ stage.Answer job)
+StandsAsked {J} to (outcome.Ends reason) =
+    ((job : J) × (to ≡ stage.Answer job)) × (reason ≡ end.Failed no_memory)
+
+-- the connection has no limit for what the application does
+asked_in_time : {L C J : Type 0} (state : L → LinkState) (now : ℕ) (old new : SessionView L C)
+    (from to : Stage J) (job : J) (last : Option Entry) (result : Outcome) → from ≡ stage.Answer job
+    → MovesWithin state old new → StandsAsked to result
+    → StepsInTime state now from to old new last result
+asked_in_time state now old new from to job last outcome.Done at moves stands = rw stands tt
+asked_in_time state now old new from to job last (outcome.Waits what) at moves stands =
+    rw (at, stands.1) (untimed_waits state now (stage.Answer job) (stage.Answer stands.0) old new last moves
+    (omega arith) what refl)
+asked_in_time state now old new from to job last (outcome.Ends reason) at moves stands =
+    rw (at, stands.0.1, stands.1) (fails_anyhow state now (stage.Answer job) (stage.Answer stands.0.0) old new last
+    moves (omega arith) no_memory refl)
+
 -- the application goes on: what it read joins the exchange, and its reply may
 pub asked_stepped : {L C J : Type 0} (state : L → LinkState) (pends : J → ℕ)
     (gives : Given → Reply → Type 0)
@@ -216,12 +242,15 @@ pub asked_stepped : {L C J : Type 0} (state : L → LinkState) (pends : J → �
     → y.transcript.last ≡ Some e3 → e3 ≡ record e2 { reply = e3.reply }
     → AsksAs state x.session y.session e e2 answer → IsAllowed gives e3 → IsKept y.session e3
     → FewReadsNotReady (state x.session.link) (state y.session.link) (e ∷ []) (e3 ∷ []) result
+    → StandsAsked y.stage result
     → OutcomeCause state pends runs x.session y.session (Some e3) x.stage y.stage result
     → Stepped state pends gives runs now shutdown x y result
 asked_stepped {L} {C} state pends gives runs now shutdown x y e e2 e3 job answer result ready at
-    was is like asks allowed kept few outcome =
+    was is like asks allowed kept few stands outcome =
     let s = at_answer runs x.session x.transcript.last x.stage e job ready.sound at was in
     grown_stepped state pends gives runs now shutdown x y e e3 result was is
     (asked_moves state x.session y.session e e2 answer asks)
     (asked_on state x.session y.session e e2 e3 answer like s.0 asks)
-    allowed kept (asked_grows state now x.session y.session e e2 e3 answer like s.0 asks) few outcome
+    allowed kept (asked_grows state now x.session y.session e e2 e3 answer like s.0 asks) few
+    (asked_in_time state now x.session y.session x.stage y.stage job (Some e3) result at
+    (asked_moves state x.session y.session e e2 answer asks) stands) outcome

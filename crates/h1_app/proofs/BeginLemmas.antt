@@ -1,16 +1,18 @@
 -- Steps that begin an exchange.
-use Rattle.std.proofs.Common.{inl, inr, ◌≡◌, ℕ, ◌+◌, ◌*◌, ◌<◌, ◌≤◌, List, [], ◌∷◌, Bool, true, false, Option, Some, None, option_map, Ok, refl, sym, ◌∙◌, ap, subst, lit<, arith}
+use Rattle.std.proofs.Common.{◌≡◌, ℕ, ◌+◌, ◌*◌, ◌<◌, ◌≤◌, List, [], ◌∷◌, Bool, true, false, Option, Some, None, option_map, Ok, refl, sym, ◌∙◌, ap, subst, lit<, arith}
 use Rattle.std.proofs.lemmas.Bool.{false≢true}
 use Rattle.std.proofs.lemmas.Option.{same_Some}
-use Rattle.h1_app.specs.Words.{Ready, LinkState, RequestView, body, reads, framing, SessionView, allowance, Request, Settings, Reply, Entry, Exchange, TranscriptView, Outgoing, Stage, Outcome, Given, IsSetAlike, IsAllowed, keepalive_set, replies}
+use Rattle.h1_app.specs.Words.{Ready, LinkState, no_memory, RequestView, body, reads, framing, SessionView, allowance, Request, Settings, Reply, Entry, Exchange, TranscriptView, Outgoing, Stage, Outcome, Given, IsSetAlike, IsAllowed, keepalive_set, replies}
 use Rattle.h1_server.specs.declared.request.ReadRequest.TheVariants as read
 use Rattle.h1_app.specs.declared.exchange.Stage.TheVariants as stage
 use Rattle.h1_app.specs.declared.exchange.Outcome.TheVariants as outcome
+use Rattle.h1_error.specs.declared.progress.End.TheVariants as end
 use Rattle.h1_app.proofs.Words.{IsAwaiting, IsAnswering, IsNewEntry, MovesWithin, Stepped, ahead, BegunAs, head_time}
 use Rattle.h1_server.specs.Keepalive.{wished}
 use Rattle.h1_server.specs.Requests.{BeginsRequest}
 use Rattle.h1_app.proofs.AccountedLemmas.{accounted_headed, accounted_begun, memory_ends, moves_received}
 use Rattle.h1_app.proofs.HeadLemmas.{AtHead}
+use Rattle.h1_app.proofs.TimelyLemmas.{ends_anyhow}
 
 -- the application is started for the request that was read
 begun_sound : {L C : Type 0} (state : L → LinkState) (old mid : SessionView L C)
@@ -31,6 +33,7 @@ begun_sound state old mid settings e bytes request n a reply asked b is = record
     filtered = rw is.head is.filtered;
     kept = rw b.body a.kept;
     waits = rw b.body a.waits;
+    undrained = rw b.body a.undrained;
     written = rw (is.written, reply) (sym a.unwritten.sent);
     limit = rw is.written (lit< tt);
   };
@@ -116,6 +119,9 @@ begun_stepped {L} {C} {J} state begins pends gives runs now shutdown x mid trans
     reply : mid.reply ≡ old.reply
     reply = ap (λ s. s.reply) h.reads.rest
 
+    at_head : Stage J
+    at_head = stage.Head
+
     moves : MovesWithin state old new
     moves = moves_received state old new h.reads.bytes h.reads.left h.reads.received h.reads.budget
         (ap (λ s. s.context) h.reads.rest)
@@ -158,7 +164,7 @@ begun_stepped {L} {C} {J} state begins pends gives runs now shutdown x mid trans
           });
           begins_with = rw (h.alone, b.4, entry.began) alike;
           reads_not_ready = rw (h.alone, b.4) (omega (arith, unread, none));
-          timely = rw b.6 (inr (inl refl));
+          timely = rw b.6 tt;
           outcome = rw (at, b.6) (
             (
               b.1,
@@ -187,7 +193,8 @@ begun_stepped {L} {C} {J} state begins pends gives runs now shutdown x mid trans
           extends = rw (h.alone, b.0) tt;
           begins_with = rw (h.alone, b.0) alike;
           reads_not_ready = rw (h.alone, b.0) (omega (arith, unread));
-          timely = rw (b.0, b.2) tt;
+          timely = rw (at, b.1, b.2) (ends_anyhow state now at_head at_head old new transcript.last moves
+              (omega arith) (end.Failed no_memory) (λ moved. tt));
           outcome = λ before done s. memory_ends before (state old.link) (state new.link) done
               transcript.last reason b.2;
         }

@@ -8,7 +8,8 @@ use Rattle.h1_app.proofs.LeavesLemmas.{write_fails}
 use Rattle.h1_app.proofs.PartLemmas.{Part, WritesPart, more_of, more_part, part_accounted, part_grows, part_replied, replying}
 use Rattle.h1_app.proofs.ReplyLemmas.{ahead_down, at_some, headed_on, moves_wrote, refused_cause, settled_owed, waits_why}
 use Rattle.h1_app.proofs.StepLemmas.{allowed_written, grown_stepped, unread_few}
-use Rattle.h1_app.proofs.Words.{IsHeaded, IsReplied, JobFrom, Leaves, OutcomeCause, SettledSo, SoundStage, StepReady, Stepped, coming, outcome_end, rank, still, ahead, place, StandsAfter, Continues, OthersFew}
+use Rattle.h1_app.specs.Timely.{StepsInTime}
+use Rattle.h1_app.proofs.Words.{IsHeaded, IsReplied, JobFrom, Leaves, MovesWithin, OutcomeCause, SettledSo, SoundStage, StepReady, Stepped, coming, outcome_end, rank, still, ahead, place, StandsAfter, Continues, OthersFew}
 
 -- a part that waited too long, which only one of a body does
 abbrev pub IsLatePart : LinkState → LinkState → Bool → ErrorType → Type 0
@@ -106,18 +107,20 @@ module _ {L C J : Type 0} (state : L → LinkState) (pends : J → ℕ) (gives :
       (state y.session.link).bytes_out
       → SettledSo before (state y.session.link) done (Some (replying e p)))
       → IsAllowed gives (replying e p)
+      → (MovesWithin state x.session y.session
+      → StepsInTime state now x.stage y.stage x.session y.session (Some (replying e p)) result)
       → OutcomeCause state pends runs x.session y.session (Some (replying e p)) x.stage y.stage
       result
       → Stepped state pends gives runs now shutdown x y result
-  part_stepped p taking left w is settled allowed outcome =
-      grown_stepped state pends gives runs now shutdown x y e (replying e p) result was is
-      (moves_wrote state x.session y.session w.flag taking left w.writes)
+  part_stepped p taking left w is settled allowed timely outcome =
+      let moves = moves_wrote state x.session y.session w.flag taking left w.writes in
+      grown_stepped state pends gives runs now shutdown x y e (replying e p) result was is moves
       (λ before done s. part_accounted state now before done x.session y.session taking left e p w
       (settled before done) s)
       allowed w.counted (part_grows state now x.session y.session taking left e p w)
       (unread_few (state x.session.link) (state y.session.link) e (replying e p) result refl
       w.writes.sent.unread)
-      outcome
+      (timely moves) outcome
 
   -- the same where the reply is owed, by what the call answered
   pub call_stepped : {T : Type 0} (body : Bool) (p : Part) (taking : List ℕ) (left : ℕ) (step : Step)
@@ -132,12 +135,14 @@ module _ {L C J : Type 0} (state : L → LinkState) (pends : J → ℕ) (gives :
       × (rank later < rank x.stage)
       × (ahead y.session.budget later < ahead x.session.budget x.stage))
       → StandsAfter answer owed later x.stage y.stage result
+      → (MovesWithin state x.session y.session
+      → StepsInTime state now x.stage y.stage x.session y.session (Some (replying e p)) result)
       → Stepped state pends gives runs now shutdown x y result
   call_stepped {T} body p taking left step answer owed later w is unflushed allowed sends told waits
-      done stands =
+      done stands timely =
       part_stepped p taking left w is
       (λ before done rose. settled_owed before (state y.session.link) done (replying e p) unflushed)
-      allowed (by_answer answer told stands)
+      allowed timely (by_answer answer told stands)
     where
       by_answer : (answer : Poll (Result T Error))
           → AnswersCall (state x.session.link) (state y.session.link) y.session.reply step left
@@ -191,9 +196,12 @@ module _ {L C J : Type 0} (state : L → LinkState) (pends : J → ℕ) (gives :
       → IsFree y.session.reply
       → SoundStage runs y.session (Some (record e { written = written })) later)
       → StandsAfter answer from later x.stage y.stage result
+      → (MovesWithin state x.session y.session
+      → StepsInTime state now x.stage y.stage x.session y.session
+      (Some (record e { written = written })) result)
       → Stepped state pends gives runs now shutdown x y result
   goes_on_stepped body request reply taking left written step answer from later stage less before is
-      count replied headed w takes sends told owed free stands =
+      count replied headed w takes sends told owed free stands timely =
       let p : Part = more_of e e.owed written in
       let part : WritesPart state now x.session y.session taking left e p =
       more_part state now x.session y.session e e.owed written request reply taking left replied w
@@ -209,4 +217,4 @@ module _ {L C J : Type 0} (state : L → LinkState) (pends : J → ℕ) (gives :
       (allowed_written gives e e.sent_body e.owed written allowed_before
       allowed_before.sent_body (λ owed. owed))
       sends told (λ refused at_step. owed after (headed_after refused) at_step)
-      (λ done. (free after (headed_after done.refused) done, below.0, below.1)) stands
+      (λ done. (free after (headed_after done.refused) done, below.0, below.1)) stands timely

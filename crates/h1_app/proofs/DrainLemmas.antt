@@ -84,7 +84,7 @@ pub record Reused {L C : Type 0} (state : L → LinkState) (old new : SessionVie
   pub few : (state new.link).read_waits ≤ (state old.link).read_waits + 1
 
 -- the session after the drain, from which the payload was taken
-abbrev taken_from : {L C : Type 0} → SessionView L C → Bool → SessionView L C
+abbrev pub taken_from : {L C : Type 0} → SessionView L C → Bool → SessionView L C
 taken_from drained reusable = record drained { reusable = reusable; body = record drained.body { kept = None } }
 
 -- a shutdown moves no byte
@@ -137,7 +137,7 @@ reused_shut {L} {C} state old behind new e f shut is session entry =
     subst (λ (x : SessionView L C). Reused state old x e f) (sym shape) made
 
 -- the session after a drain of a link that is kept
-drained_shape : {L C : Type 0} (drained behind new : SessionView L C)
+pub drained_shape : {L C : Type 0} (drained behind new : SessionView L C)
     → behind ≡ record drained { reusable = behind.reusable }
     → new ≡ record behind { body = record behind.body { kept = None } }
     → new ≡ taken_from drained behind.reusable

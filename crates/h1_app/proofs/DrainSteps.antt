@@ -1,10 +1,14 @@
 -- The step that drains a request's body, whole.
 use Rattle.std.proofs.Common.{◌≡◌, ℕ, List, [], ◌∷◌, Bool, true, false, inl, Some, Result, Ok, Err, sym, ◌∙◌, ap, subst, ◌+◌, ◌≤◌, arith, ◌-◌, ◌<◌, Option, None, option_map, refl}
 use Rattle.h1_app.specs.Words.{Poll, Ready, Pending, Error, FaultsBy, LinkState, RequestView, keeps_alive, SessionView, Settings, Reply, Entry, Exchange, TranscriptView, Stage, Outcome, Given, IsAllowed, replies}
-use Rattle.h1_app.proofs.Words.{ReusesAs, IsDraining, JobFrom, Leaves, StepReady, Stepped, OutcomeCause, FewReadsNotReady, outcome_end, ahead, CalledForReuse, ShutUnless, StandsDrained, Continues, OthersFew}
+use Rattle.h1_app.proofs.Words.{ReusesAs, IsDraining, JobFrom, Leaves, MovesWithin, StepReady, Stepped, OutcomeCause, FewReadsNotReady, outcome_end, ahead, CalledForReuse, ShutUnless, StandsDrained, Continues, OthersFew}
 use Rattle.h1_app.proofs.DrainEnds.{at_drain, drain_moves, drain_accounted, drain_allowed, drain_kept, drain_grows, drain_waits, drain_fails, drain_overread, drain_more, drain_shut, draining_on, drain_over}
 use Rattle.h1_app.proofs.DrainLemmas.{Answered, Reused, answered, reused}
+use Rattle.h1_app.proofs.DrainTimes.{DrainTimed, drain_timed}
 use Rattle.h1_app.proofs.LeavesLemmas.{reads_failed}
+use Rattle.h1_app.proofs.TimelyLemmas.{ends_anyhow}
+use Rattle.h1_app.specs.Timely.{StepsInTime}
+use Rattle.h1_error.specs.declared.progress.End.TheVariants as end
 use Rattle.h1_app.proofs.ReplyLemmas.{at_some}
 use Rattle.h1_app.proofs.StepLemmas.{grown_stepped}
 use Rattle.h1_server.specs.Calls.{is_reused}
@@ -95,6 +99,30 @@ module _ {L C J : Type 0} (state : L → LinkState) (gives : Given → Reply →
           drain_shut state old new e f draining did before done gives
           (at_some (IsAllowed gives) x.transcript.last e was ready.allowed) (sym a.0 ∙ lives) s)
 
+  -- how long it waits
+  drained_timely : MovesWithin state x.session new
+      → StepsInTime state now x.stage to x.session new (Some f) result
+  drained_timely moves = by_answer answer (keeps_alive new)
+      (drain_timed state now x.session new e f answer ready.budget reuses) stands
+    where
+      drain_at : Stage J
+      drain_at = at.Drain
+
+      by_answer : (answer : Poll (Result Bool Error)) (alive : Bool)
+          → DrainTimed state now x.session new answer
+          → StandsDrained answer alive x.stage to result
+          → StepsInTime state now x.stage to x.session new (Some f) result
+      by_answer Pending alive t stands = rw (stands.0, stands.1, stage) (omega arith, t)
+      by_answer (Ready (Err error)) alive t stands =
+          rw (stands.0, stands.1, stage) (omega arith, t f)
+      by_answer (Ready (Ok true)) alive t stands = rw (stands.0, stands.1) tt
+      by_answer (Ready (Ok false)) true t stands = rw (stands.0, stands.1, stage)
+          (ends_anyhow state now drain_at drain_at x.session new (Some f) moves (omega arith)
+          end.Overread (λ moved. tt))
+      by_answer (Ready (Ok false)) false t stands = rw (stands.0, stands.1, stage)
+          (ends_anyhow state now drain_at drain_at x.session new (Some f) moves (omega arith)
+          end.NotKept (λ moved. tt))
+
   -- the rest of the request's body is read
   pub drain_stepped : (pends : J → ℕ) (shutdown : Bool) (transcript : TranscriptView)
       → transcript.last ≡ Some f → Stepped state pends gives runs now shutdown x
@@ -107,7 +135,8 @@ module _ {L C J : Type 0} (state : L → LinkState) (gives : Given → Reply →
       (drain_allowed state x.session new e f draining did gives
       (at_some (IsAllowed gives) x.transcript.last e was ready.allowed))
       (drain_kept state x.session new e f draining did)
-      (drain_grows state x.session new e f draining did now) drained_few (drained_outcome pends)
+      (drain_grows state x.session new e f draining did now) drained_few
+      (drained_timely (drain_moves state x.session new e f draining did)) (drained_outcome pends)
 
   -- what continues through the step
   pub drain_continues : (same_plan : L → L → Type 0) (begins : J → Type 0) (pends : J → ℕ)

@@ -177,7 +177,7 @@ refusal_cause before old now done reply last body_error error kind.NoMemory is o
     plain_cause before old now done last body_error error kind.NoMemory is (inr refl) once tt
 refusal_cause before old now done reply last body_error error _ is once h = absurd h
 
-same_error : (a b : Error) → ◌≡◌ {A = Poll (Result (Option ℕ) Error)} (Ready (Err a))
+pub same_error : (a b : Error) → ◌≡◌ {A = Poll (Result (Option ℕ) Error)} (Ready (Err a))
     (Ready (Err b)) → a ≡ b
 same_error a b h = cc
 

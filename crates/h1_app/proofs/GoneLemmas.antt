@@ -1,9 +1,8 @@
 -- What steps of a connection leave, one after the other.
 use Rattle.std.proofs.Common.{◌≡◌, ℕ, ◌+◌, ◌-◌, ◌<◌, ◌≤◌, ◌⊎◌, inl, inr, List, ◌++◌, length, Bool, true, false, Option, Some, None, IsSome, option_map, refl, sym, ◌∙◌, ap, length-append, arith}
 use Rattle.h1_app.proofs.LeavesLemmas.{leaves_further, leaves_itself}
-use Rattle.h1_app.proofs.TimelyLemmas.{since_on}
-use Rattle.h1_app.specs.Timely.{WaitsSince}
-use Rattle.h1_app.specs.View.{since_of}
+use Rattle.h1_app.specs.View.{work_of}
+use Rattle.h1_app.specs.Work.{IsUnwaited}
 use Rattle.h1_app.proofs.Words.{Leaves, WaitCause, PendedBy, Gone, Turned, still_calls, Accounted, MovesWithin, rank, WaitsOn, View, entries, Cause, PendedOn, PendedNew, JobNew, waiting_for, JobPends}
 use Rattle.std.specs.Prelude.{◌==◌, if◌then◌else◌}
 use Rattle.std.proofs.lemmas.Bool.{false≢true}
@@ -23,7 +22,7 @@ use Rattle.h1_transcript.proofs.AloneLemmas.{join_none, join_on}
 use Rattle.h1_transcript.proofs.GrowthLemmas.{extends_itself, extends_on, replies_grow}
 use Rattle.h1_app.proofs.ReplyLemmas.{moves_none}
 
-moves_on : {L C : Type 0} (state : L → LinkState) (a b c : SessionView L C) → MovesWithin state a b
+pub moves_on : {L C : Type 0} (state : L → LinkState) (a b c : SessionView L C) → MovesWithin state a b
     → MovesWithin state b c → MovesWithin state a c
 moves_on state a b c x y = record {
   read = x.read ++ y.read;
@@ -175,6 +174,13 @@ Stands begins from to =
     ⊎ (JobNew begins to.stage
     × (length to.done ≡ length from.done → rank to.stage < rank from.stage))
 
+-- no step was made, or the work began in one, and the exchange that was last came nearer to its end
+abbrev pub HasBegun : {L C A J : Type 0} → View L C A J → View L C A J → Type 0
+HasBegun from to =
+    (to ≡ from)
+    ⊎ (IsUnwaited (work_of to)
+    × (length to.done ≡ length from.done → rank to.stage < rank from.stage))
+
 pended_by : {L C A J : Type 0} (begins : J → Type 0) (pends : J → ℕ) (a b c : View L C A J)
     → c.done ≡ b.done → length a.done ≤ length b.done → Stands begins a b
     → JobPends pends b.stage c.stage → PendedBy begins pends a.done c.done a.stage c.stage
@@ -234,8 +240,8 @@ pub record IsOnWay {L C A J : Type 0} (state : L → LinkState) (begins : J → 
   pub turned : Turned state same_plan now shutdown from to false
   pub alive : to.end ≡ None
   pub budget : IsSome to.session.budget
-  -- since when the reading of a head waits
-  pub since : WaitsSince now (since_of from) (since_of to)
+  -- what the connection does
+  pub begun : HasBegun from to
   pub stands : Stands begins from to
 
 pub way_itself : {L C A J : Type 0} (state : L → LinkState) (begins : J → Type 0)
@@ -247,7 +253,7 @@ way_itself state begins same_plan now shutdown at plan alive some = record {
       (rw alive (leaves_itself (state at.session.link) at.last));
   alive = alive;
   budget = some;
-  since = inl refl;
+  begun = inl refl;
   stands = inl (refl, refl);
 }
 
@@ -257,28 +263,28 @@ pub way_on : {L C A J : Type 0} {state : L → LinkState} {begins : J → Type 0
     → (same_plan a.session.link b.session.link → same_plan b.session.link c.session.link
     → same_plan a.session.link c.session.link) → IsOnWay state begins same_plan now shutdown a b
     → Turned state same_plan now shutdown b c false → c.end ≡ None
-    → WaitsSince now (since_of b) (since_of c)
+    → IsUnwaited (work_of c)
     → (length c.done ≡ length b.done → rank c.stage < rank b.stage) → JobNew begins c.stage
     → IsOnWay state begins same_plan now shutdown a c
-way_on {L} {C} {A} {J} {state} {begins} {same_plan} {now} a b c on x y alive waits less new = record {
+way_on {L} {C} {A} {J} {state} {begins} {same_plan} {now} a b c on x y alive unwaited less new = record {
   turned = turned_on a b c on x.alive x.turned y;
   alive = alive;
   budget = some_left state b.session c.session y.gone.moves x.budget;
-  since = since_on now (since_of a) (since_of b) (since_of c) x.since waits;
-  stands = inr (
-    new,
-    λ same. falls x.stands (omega (
-      arith,
-      same,
-      x.turned.gone.longer,
-      y.gone.longer,
-    )) (less (omega (arith, same, x.turned.gone.longer, y.gone.longer))),
-  );
+  begun = inr (unwaited, lower);
+  stands = inr (new, lower);
 } where
   falls : Stands begins a b → length b.done ≡ length a.done → rank c.stage < rank b.stage
       → rank c.stage < rank a.stage
   falls (inl stood) same less = rw stood.0 at less
   falls (inr stepped) same less = let first = stepped.1 same in omega (arith, first, less)
+
+  lower : length c.done ≡ length a.done → rank c.stage < rank a.stage
+  lower same = falls x.stands (omega (
+    arith,
+    same,
+    x.turned.gone.longer,
+    y.gone.longer,
+  )) (less (omega (arith, same, x.turned.gone.longer, y.gone.longer)))
 
 step_waits : {L C A J : Type 0} (pends : J → ℕ) {state : L → LinkState} {begins : J → Type 0}
     {same_plan : L → L → Type 0} {now : ℕ} {shutdown : Bool} (before : LinkState)

@@ -33,6 +33,7 @@ awaits_set old settings alike a = record {
   kept = a.kept;
   body_refused = a.body_refused;
   waits = a.waits;
+  undrained = a.undrained;
   times = alike.times ∙ a.times;
 }
 
@@ -66,6 +67,7 @@ still_awaits state old new last answer h none kept =
       kept = ap (λ (b : BodyState). b.kept) none.body ∙ a.kept;
       body_refused = ap (λ (b : BodyState). b.refused) none.body ∙ a.body_refused;
       waits = ap (λ (b : BodyState). b.waits) none.body ∙ a.waits;
+      undrained = ap (λ (b : BodyState). b.since.drain) none.body ∙ a.undrained;
       times = ap (λ (s : Settings). s.times) none.settings ∙ a.times;
     }
 
@@ -159,7 +161,7 @@ pub none_stepped : {L C J : Type 0} (state : L → LinkState) (pends : J → ℕ
     → (h : AtHead state now x.session y.session x.transcript.last answer)
     → BeginsNone x.session y.session h.reads.bytes → y.transcript.last ≡ x.transcript.last
     → FewReadsNotReady (state x.session.link) (state y.session.link) [] [] result
-    → StepsInTime state now x.stage x.session y.stage y.session None result
+    → StepsInTime state now x.stage y.stage x.session y.session None result
     → OutcomeCause state pends runs x.session y.session None x.stage y.stage result
     → Stepped state pends gives runs now shutdown x y result
 none_stepped state pends gives runs now shutdown x y answer result h none same few timely outcome =

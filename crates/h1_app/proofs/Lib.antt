@@ -8,6 +8,7 @@ pub mod BodyReplies
 pub mod DrainEnds
 pub mod DrainLemmas
 pub mod DrainSteps
+pub mod DrainTimes
 pub mod EndReplies
 pub mod EndSteps
 pub mod FinishReplies
@@ -19,6 +20,8 @@ pub mod ReplyLemmas
 pub mod ReplySteps
 pub mod CallSteps
 pub mod PartLemmas
+pub mod PieceTimes
+pub mod WorkLemmas
 pub mod AccountedLemmas
 pub mod JoinLemmas
 pub mod WaitingLemmas

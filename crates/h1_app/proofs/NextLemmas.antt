@@ -1,5 +1,5 @@
 -- What becomes of a connection where its last exchange is over and the next head is awaited.
-use Rattle.std.proofs.Common.{◌≡◌, ℕ, ◌+◌, ◌<◌, inl, inr, List, [], ◌∷◌, ◌++◌, length, Bool, true, false, Option, Some, None, refl, sym, ◌∙◌, ap, subst, append-nil, length-append, arith}
+use Rattle.std.proofs.Common.{◌≡◌, ℕ, ◌+◌, ◌<◌, List, [], ◌∷◌, ◌++◌, length, Bool, true, false, Option, Some, None, refl, sym, ◌∙◌, ap, subst, append-nil, length-append, arith}
 use Rattle.std.proofs.lemmas.Bool.{false≢true}
 use Rattle.h1_app.specs.Words.{End, LinkState, RequestView, AwaitsNext, AfterRead, WithinRead, may_follow, one_less, BodyState, SessionView, Settings, Reply, Entry, Exchange, Stage, Given, AreBegun, IfTold, IsNextSet, reuses_at, IsAllowed, Extends}
 use Rattle.h1_app.specs.declared.exchange.Stage.TheVariants as stage
@@ -82,10 +82,11 @@ sound_joined gives runs limit old new done e s d a = record {
       request = ap (λ s. s.request) a.rest;
       refused = ap (λ s. s.refused) a.rest;
       unwritten = subst IsUnwritten (sym (ap (λ s. s.reply) a.rest))
-          (record { owed = refl; free = refl; headed = refl; refused = refl; sent = refl });
+          (record { owed = refl; free = refl; headed = refl; refused = refl; sent = refl; write_since = refl });
       kept = ap (λ b. b.kept) a.body.rest;
       body_refused = ap (λ b. b.refused) a.body.rest;
       waits = ap (λ b. b.waits) a.body.rest;
+      undrained = ap (λ (b : BodyState). b.since.drain) a.body.rest;
       times = ap (λ s. s.settings.times) a.rest;
     },
   );
@@ -214,8 +215,6 @@ caused_next {J = J} state begins pends app limit x y first second over is h =
     )
 
 -- behind the step to the next exchange no read waits
-pub timely_next : {L C J : Type 0} (state : L → LinkState) (now : ℕ) (x y : Exchange L J C) → x.stage ≡ stage.Next
-    → JoinsNext x y
-    → StepsInTime state now x.stage x.session y.stage y.session y.transcript.last outcome.Done
-timely_next state now x y at joins = rw (at, joins.stage)
-    (inr (inl (ap (λ (b : BodyState). b.since.read) joins.awaits.body.rest)))
+pub timely_next : {L C J : Type 0} (state : L → LinkState) (now : ℕ) (x y : Exchange L J C) → JoinsNext x y
+    → StepsInTime state now x.stage y.stage x.session y.session y.transcript.last outcome.Done
+timely_next state now x y joins = rw joins.stage (ap (λ (b : BodyState). b.since.read) joins.awaits.body.rest)

@@ -191,6 +191,7 @@ part_replied state now old new taking left e p request reply w r =
         filtered = r.asked.filtered;
         kept = rw (ap (λ s. s.body) rest) r.asked.kept;
         waits = rw (ap (λ s. s.body) rest) r.asked.waits;
+        undrained = rw (ap (λ s. s.body) rest) r.asked.undrained;
         written = w.counted;
         limit = omega (arith, w.writes.counted, w.counted);
       };

@@ -15,12 +15,15 @@ use Rattle.http.specs.declared.version.Http.{Http}
 use Rattle.http.specs.declared.version.Http.TheVariants.{Http10, Http11}
 use Rattle.http.specs.declared.version.Version.{Version}
 use Rattle.h1_app.proofs.BodyReplies.{body_part, empty_body, empty_part, some_body}
+use Rattle.h1_app.specs.Timely.{StepsInTime}
+use Rattle.h1_app.proofs.PieceTimes.{header_in_time, piece_in_time}
+use Rattle.h1_app.proofs.TimelyLemmas.{fails_anyhow}
 use Rattle.h1_app.proofs.CallSteps.{AnswersCall, call_stepped, goes_on_stepped, lower}
 use Rattle.h1_app.proofs.HeaderTaken.{headed_noted, header_ahead, header_allowed, header_begins, header_part, taken_up, taking_header}
 use Rattle.h1_app.proofs.PartLemmas.{Part, WritesPart, more_of, part_replied, replying}
 use Rattle.h1_app.proofs.ReplyLemmas.{at_none, at_some, headed_on}
 use Rattle.h1_app.proofs.StepLemmas.{allowed_written, unchanged_stepped}
-use Rattle.h1_app.proofs.Words.{IsPieceOf, IsReplied, SoundStage, StepReady, Stepped, filled, NotesHeader, StandsAfter}
+use Rattle.h1_app.proofs.Words.{IsPieceOf, IsReplied, MovesWithin, SoundStage, StepReady, Stepped, filled, NotesHeader, StandsAfter}
 use Rattle.h1_app.specs.declared.exchange.Stage.TheVariants as at
 use Rattle.h1_error.specs.declared.error.ErrorType.TheVariants as kind
 use Rattle.h1_app.specs.declared.exchange.Outcome.TheVariants as outcome
@@ -91,6 +94,12 @@ back_cause header before old now done last error (kind.InvalidHTTPHeader Unsuppo
 back_cause header before old now done last error kind.NoMemory lawful refused = tt
 back_cause header before old now done last error _ lawful refused = absurd refused
 
+-- and it tells of no time
+back_untimed : (header : ResponseView) (k : ErrorType) → HeaderRefusal header k → is_timeout k ≡ false
+back_untimed header (kind.InvalidHTTPHeader fault) refused = refl
+back_untimed header kind.NoMemory refused = refl
+back_untimed header _ refused = absurd refused
+
 module _ {L C J : Type 0} (state : L → LinkState) (pends : J → ℕ) (gives : Given → Reply → Type 0)
     (runs : J → RequestView → Settings → Settings → List ℕ → Type 0) (now : ℕ) (shutdown : Bool)
     (x y : Exchange L J C) (result : Outcome) (ready : StepReady gives runs now x) where
@@ -121,9 +130,23 @@ module _ {L C J : Type 0} (state : L → LinkState) (pends : J → ℕ) (gives :
       (λ never. absurd (false≢true never))
       (header_answered (state x.session.link) (state y.session.link) y.session.reply w.left answer
       w.answer)
-      (λ r headed at_step. (f, refl, h.2, h.3, r, headed, h.6, begun, at_step))
-      (λ r headed done. (f, refl, h.2, h.3, r, headed, h.6, begun, done.free, done.owed))
+      (λ r headed at_step. (f, refl, h.2, h.3, r, headed, h.6, begun, at_step, same.write_since ∙ h.9))
+      (λ r headed done. (
+        f,
+        refl,
+        h.2,
+        h.3,
+        r,
+        headed,
+        h.6,
+        begun,
+        done.free,
+        done.owed,
+        same.write_since ∙ h.9,
+      ))
       stands
+      (λ moves. header_in_time state now x.stage y.stage x.session y.session (Some f) w.left answer result moves
+      (rw stage (omega arith)) w.answer stands)
 
   -- the body goes on
   pub body_stepped : (kept : Option (List ℕ)) (answer : Poll (Result (Option ℕ) Error))
@@ -151,6 +174,8 @@ module _ {L C J : Type 0} (state : L → LinkState) (pends : J → ℕ) (gives :
       (λ r headed at_step. (f, refl, h.2, h.3, r, headed, h.6, filled_is, (count_is, at_step)))
       (λ r headed done. (f, refl, h.2, h.3, r, headed, h.6, rw done.free (done.owed, filled_is)))
       stands
+      (λ moves. piece_in_time state now x.session y.session None kept answer w ready.budget x.stage y.stage f
+      result (rw stage refl) y.session.reply.write_since (rw stage refl) (rw stage (omega arith)) stands)
 
   -- the header is taken up, or it is handed back
   pub taken_header_stepped : (sent : ResponseView) (kept : Option ResponseView)
@@ -188,6 +213,8 @@ module _ {L C J : Type 0} (state : L → LinkState) (pends : J → ℕ) (gives :
           let back_is : h.3.header ≡ back = same_Some h.3.header back w.back in
           unchanged_stepped state pends gives runs now shutdown x y h.0 result ready h.1
           (is ∙ ap Some notes) w.same
+          (λ moves. rw (ends.0, ends.1) (fails_anyhow state now x.stage x.stage x.session y.session (Some h.0) moves
+          (omega arith) w.error (back_untimed back w.error.kind w.cause)))
           (rw ends.1 (λ before done s. (
             w.retry,
             back_cause h.3.header before (state x.session.link) (state y.session.link) done
@@ -204,6 +231,7 @@ module _ {L C J : Type 0} (state : L → LinkState) (pends : J → ℕ) (gives :
           part h.4 in
           let begun = header_begins state now x.session y.session h.0 h.2 h.3 answer text h.4 w in
           let noted = headed_noted state now x.session y.session h.0 h.2 h.3 answer text h.4 w in
+          let unwaited = w.takes.write_since ∙ h.5.write_since in
           call_stepped state pends gives runs now shutdown x y result ready h.0 h.1 false p w.taking
           w.left step.Head answer at.Header at.TakeBody part (is ∙ ap Some f_is) refl
           (header_allowed state now x.session y.session h.0 h.2 h.3 answer text h.4 w gives notes.0
@@ -212,14 +240,16 @@ module _ {L C J : Type 0} (state : L → LinkState) (pends : J → ℕ) (gives :
           (λ never. absurd (false≢true never))
           (header_answered (state x.session.link) (state y.session.link) y.session.reply w.left
           answer w.answer)
-          (λ refused at_step. (g, refl, h.2, h.3, r, noted refused, h.7, begun, at_step))
+          (λ refused at_step. (g, refl, h.2, h.3, r, noted refused, h.7, begun, at_step, unwaited))
           (λ done. (
-            (g, refl, h.2, h.3, r, noted done.refused, h.7, begun, done.free, done.owed),
+            (g, refl, h.2, h.3, r, noted done.refused, h.7, begun, done.free, done.owed, unwaited),
             rw stage (omega arith),
             header_ahead state now x.session y.session h.0 h.2 h.3 answer text h.4 w x.stage
                 ready.budget done.owed stage,
           ))
           stands
+          (λ moves. header_in_time state now x.stage y.stage x.session y.session (Some g) w.left answer result moves
+          (rw stage (omega arith)) w.answer stands)
 
   -- the body is taken up: by a call that writes it, or without one where it is empty
   body_taken_stepped : (answer : Poll (Result (Option ℕ) Error)) (written : ℕ)
@@ -235,9 +265,12 @@ module _ {L C J : Type 0} (state : L → LinkState) (pends : J → ℕ) (gives :
       → AnswersCall (state x.session.link) (state y.session.link) y.session.reply (step.Piece count)
       left true answer
       → StandsAfter answer at.Body at.Finish x.stage y.stage result
+      → (MovesWithin state x.session y.session
+      → StepsInTime state now x.stage y.stage x.session y.session
+      (Some (record h.0 { sent_body = Some h.3.body; written = written })) result)
       → Stepped state pends gives runs now shutdown x y result
   body_taken_stepped answer written count taking left h stage is part headed keep writer told
-      stands =
+      stands timely =
       let p : Part = record (more_of h.0 h.0.owed written) { body = Some h.3.body } in
       let f : Entry = replying h.0 p in
       let r : IsReplied f y.session h.2 h.3 =
@@ -259,7 +292,7 @@ module _ {L C J : Type 0} (state : L → LinkState) (pends : J → ℕ) (gives :
         below.0,
         below.1,
       ))
-      stands
+      stands timely
 
   -- a body without bytes needs no call
   pub empty_body_stepped : (piece : Option (List ℕ)) (none : Bool) (f : Entry)
@@ -280,7 +313,7 @@ module _ {L C J : Type 0} (state : L → LinkState) (pends : J → ℕ) (gives :
       body_taken_stepped (Ready (Ok None)) h.0.written None [] (allowance x.session.budget) h stage
       (is ∙ ap Some b.1) (rw same part.0) (rw same refl) (rw same refl) (rw same part.1)
       (rw same (record { owed = h.9; free = h.8; refused = h.5.refused }))
-      (finish, done)
+      (finish, done) (λ moves. rw (finish, done) tt)
 
   -- the body is taken up as one piece
   pub taken_body_stepped : (piece kept : Option (List ℕ)) (none : Bool)
@@ -313,3 +346,6 @@ module _ {L C J : Type 0} (state : L → LinkState) (pends : J → ℕ) (gives :
       (piece_count x.session.reply (Some h.3.body)) w.left
       (piece_wait x.session now (Some h.3.body) w.left) y.session.reply.write_since answer w.answer w.timed)
       stands
+      (λ moves. piece_in_time state now x.session y.session (Some h.3.body) kept answer w ready.budget x.stage y.stage
+      (record h.0 { sent_body = Some h.3.body; written = written }) result (rw stage (sym h.10)) None
+      (rw stage refl) (rw stage (omega arith)) stands)

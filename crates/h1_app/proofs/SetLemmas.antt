@@ -5,6 +5,7 @@ use Rattle.h1_error.specs.declared.progress.Waiting.TheVariants as waiting
 use Rattle.h1_link.proofs.Laters.{keeps_itself}
 use Rattle.h1_app.specs.Outcome.{WaitsOn}
 use Rattle.h1_app.specs.Timely.{StepsInTime}
+use Rattle.h1_app.specs.declared.exchange.Stage.TheVariants as stage
 use Rattle.h1_app.specs.declared.exchange.Outcome.TheVariants as outcome
 use Rattle.h1_app.proofs.BeginLemmas.{alike_on}
 use Rattle.h1_app.proofs.LinkedLemmas.{accounted_linked}
@@ -26,12 +27,12 @@ module _ {L C J : Type 0} (state : L → LinkState) (pends : J → ℕ)
   waits_set waiting.App h = h
   waits_set waiting.Budget h = h
 
-  timely_set : (now : ℕ) (result : Outcome)
-      → StepsInTime state now from (record old { settings = settings }) to new last result
-      → StepsInTime state now from old to new last result
-  timely_set now outcome.Done h = h
-  timely_set now (outcome.Waits what) h = h
-  timely_set now (outcome.Ends reason) h = h
+  timely_set : (now : ℕ) (result : Outcome) → from ≡ stage.Head
+      → StepsInTime state now from to (record old { settings = settings }) new last result
+      → StepsInTime state now from to old new last result
+  timely_set now outcome.Done at h = h
+  timely_set now (outcome.Waits what) at h = rw at (rw at at h)
+  timely_set now (outcome.Ends reason) at h = rw at (rw at at h)
 
   outcome_set : (result : Outcome)
       → OutcomeCause state pends runs (record old { settings = settings }) new last from to result
@@ -43,11 +44,12 @@ module _ {L C J : Type 0} (state : L → LinkState) (pends : J → ℕ)
 -- a step behind which these settings were set before it
 pub set_stepped : {L C J : Type 0} (state : L → LinkState) (pends : J → ℕ) (gives : Given → Reply → Type 0)
     (runs : J → RequestView → Settings → Settings → List ℕ → Type 0) (now : ℕ) (shutdown : Bool)
-    (x y : Exchange L J C) (settings : Settings) (result : Outcome) → IsSetAlike x.session.settings settings
+    (x y : Exchange L J C) (settings : Settings) (result : Outcome) → x.stage ≡ stage.Head
+    → IsSetAlike x.session.settings settings
     → Stepped state pends gives runs now shutdown
     (record x { session = record x.session { settings = settings } }) y result
     → Stepped state pends gives runs now shutdown x y result
-set_stepped {L} {C} state pends gives runs now shutdown x y settings result alike s =
+set_stepped {L} {C} state pends gives runs now shutdown x y settings result at alike s =
     let set : SessionView L C = record x.session { settings = settings } in
     record {
       moves = record {
@@ -69,7 +71,7 @@ set_stepped {L} {C} state pends gives runs now shutdown x y settings result alik
           y.transcript.last alike s.begins_with;
       reads_not_ready = s.reads_not_ready;
       timely = timely_set state pends runs x.session y.session settings y.transcript.last x.stage y.stage now
-          result s.timely;
+          result at s.timely;
       outcome = outcome_set state pends runs x.session y.session settings y.transcript.last x.stage y.stage
           result s.outcome;
     }

@@ -1,21 +1,11 @@
 -- What a step of the exchange that is last leaves, whole.
-use Rattle.std.proofs.Common.{inl, inr, Bool, IfSome, List, None, Option, Some, [], ap, arith, refl, true, ℕ, ◌∷◌, ◌≡◌}
-use Rattle.h1_app.specs.Words.{Entry, Exchange, Given, Grows, IsAllowed, IsDated, IsLawful, LinkState, Outcome, Reply, RequestView, ResponseView, SessionView, Settings, Stage, replies}
+use Rattle.std.proofs.Common.{Bool, IfSome, List, None, Option, Some, [], ap, arith, refl, true, ℕ, ◌∷◌, ◌≡◌}
+use Rattle.h1_app.specs.Words.{Entry, Exchange, Given, Grows, IsAllowed, IsDated, IsLawful, LinkState, Outcome, Reply, RequestView, ResponseView, SessionView, Settings, replies}
 use Rattle.h1_transcript.proofs.GrowthLemmas.{grows_same}
 use Rattle.h1_app.specs.Timely.{StepsInTime}
 use Rattle.h1_app.proofs.ReplyLemmas.{at_some, moves_none}
-use Rattle.h1_app.proofs.TimelyLemmas.{head_none}
 use Rattle.h1_app.proofs.Words.{Accounted, FewReadsNotReady, IsKept, MovesWithin, OutcomeCause, StepReady, Stepped}
 use Rattle.h1_app.specs.declared.exchange.Outcome.TheVariants as outcome
-
--- where an exchange goes on, no head is awaited behind the step
-grown_timely : {L C J : Type 0} (state : L → LinkState) (pends : J → ℕ)
-    (runs : J → RequestView → Settings → Settings → List ℕ → Type 0) (now : ℕ) (old new : SessionView L C)
-    (f : Entry) (from to : Stage J) (result : Outcome) → OutcomeCause state pends runs old new (Some f) from to result
-    → StepsInTime state now from old to new (Some f) result
-grown_timely state pends runs now old new f from to outcome.Done h = inr (inl (head_none runs new f to h.0))
-grown_timely state pends runs now old new f from to (outcome.Waits what) h = inr (inl (head_none runs new f to h.0))
-grown_timely state pends runs now old new f from to (outcome.Ends reason) h = tt
 
 -- the exchange that is last goes on
 pub grown_stepped : {L C J : Type 0} (state : L → LinkState) (pends : J → ℕ)
@@ -29,10 +19,11 @@ pub grown_stepped : {L C J : Type 0} (state : L → LinkState) (pends : J → �
     → IsAllowed gives f → IsKept y.session f → Grows now (state x.session.link)
     (state y.session.link) e f
     → FewReadsNotReady (state x.session.link) (state y.session.link) (e ∷ []) (f ∷ []) result
+    → StepsInTime state now x.stage y.stage x.session y.session (Some f) result
     → OutcomeCause state pends runs x.session y.session (Some f) x.stage y.stage result
     → Stepped state pends gives runs now shutdown x y result
 grown_stepped state pends gives runs now shutdown x y e f result was is went since allowed kept
-    grows few outcome = record {
+    grows few timely outcome = record {
       moves = went;
       accounted = λ before done s. rw is (since before done (rw was at s));
       allowed = rw is allowed;
@@ -40,7 +31,7 @@ grown_stepped state pends gives runs now shutdown x y e f result was is went sin
       extends = rw (was, is) grows;
       begins_with = rw was tt;
       reads_not_ready = rw (was, is) few;
-      timely = rw is (grown_timely state pends runs now x.session y.session f x.stage y.stage result outcome);
+      timely = rw is timely;
       outcome = rw is outcome;
     }
 
@@ -85,15 +76,17 @@ pub unchanged_stepped : {L C J : Type 0} (state : L → LinkState) (pends : J �
     (now : ℕ) (shutdown : Bool) (x y : Exchange L J C) (e : Entry) (result : Outcome)
     → StepReady gives runs now x → x.transcript.last ≡ Some e → y.transcript.last ≡ Some e
     → y.session ≡ x.session
+    → (MovesWithin state x.session y.session
+    → StepsInTime state now x.stage y.stage x.session y.session (Some e) result)
     → OutcomeCause state pends runs x.session y.session (Some e) x.stage y.stage result
     → Stepped state pends gives runs now shutdown x y result
 unchanged_stepped {L} {C} {J} state pends gives runs now shutdown x y e result ready was is same
-    outcome =
-    grown_stepped state pends gives runs now shutdown x y e e result was is
-    (moves_none state x.session y.session (ap (λ (s : SessionView L C). s.link) same)
-    (ap (λ (s : SessionView L C). s.budget) same) (ap (λ (s : SessionView L C). s.context) same))
+    timely outcome =
+    let moves = moves_none state x.session y.session (ap (λ (s : SessionView L C). s.link) same)
+    (ap (λ (s : SessionView L C). s.budget) same) (ap (λ (s : SessionView L C). s.context) same) in
+    grown_stepped state pends gives runs now shutdown x y e e result was is moves
     (λ before done s. rw same s) (at_some (IsAllowed gives) x.transcript.last e was ready.allowed)
     (rw same (at_some (IsKept x.session) x.transcript.last e was ready.kept))
     (grows_same now (state x.session.link) (state y.session.link) e)
     (unread_few (state x.session.link) (state y.session.link) e e result refl
-    (ap (λ (s : SessionView L C). (state s.link).read_waits) same)) outcome
+    (ap (λ (s : SessionView L C). (state s.link).read_waits) same)) (timely moves) outcome

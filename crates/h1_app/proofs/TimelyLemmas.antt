@@ -1,64 +1,113 @@
--- Lemmas on how long a connection waits for a head.
-use Rattle.std.proofs.Common.{◌≡◌, ℕ, ◌+◌, ◌≤◌, nat_lt, nat_le, ◌⊎◌, inl, inr, List, Bool, true, false, Option, Some, None, Result, Ok, Err, refl, sym, ◌∙◌, ap, subst, arith}
+-- Lemmas on how long a connection waits for its link.
+use Rattle.std.proofs.Common.{◌≡◌, ℕ, ◌-◌, ◌<◌, ◌≤◌, nat_lt, ◌⊎◌, inl, inr, List, Bool, true, false, Option, Some, None, IsSome, Result, Ok, Err, refl, sym, subst, arith}
+use Rattle.std.proofs.lemmas.Bool.{false≢true}
 use Rattle.std.proofs.lemmas.Bool.Decides.{nat_tests}
-use Rattle.h1_app.specs.Words.{Poll, Ready, Pending, Error, ErrorType, End, LinkState, Rose, RequestView, SessionView, Settings, Entry, Stage, Outcome, Progress, Waiting, keepalive_set}
+use Rattle.h1_app.specs.Words.{Poll, Ready, Pending, Error, ErrorType, End, LinkState, Rose, Moved, SessionView, Settings, Entry, Stage, Waiting, keepalive_set, allowance}
 use Rattle.h1_error.specs.declared.error.ErrorType.TheVariants as kind
 use Rattle.h1_error.specs.declared.progress.End.TheVariants as end
 use Rattle.h1_server.specs.Requests.{HeadTimed, HeadAnswer}
-use Rattle.h1_server.specs.Times.{head_deadline, head_limit, new_times}
+use Rattle.h1_server.specs.Times.{head_deadline, new_times}
 use Rattle.h1_server.specs.declared.request.ReadRequest.{ReadRequest}
 use Rattle.h1_server.specs.declared.request.ReadRequest.TheVariants as read
 use Rattle.h1_server.specs.declared.request.NoRequest.{NoRequest}
 use Rattle.h1_server.specs.declared.request.NoRequest.TheVariants.{Closed, IdleTimeout}
-use Rattle.h1_transfer.specs.Deadline.{FailsInTime, Wait, Waited, is_late, is_over, is_timeout, left_of, noted_since, start_of}
-use Rattle.h1_transfer.specs.Budget.{allowance}
+use Rattle.h1_transfer.specs.Deadline as deadlines
+use Rattle.h1_transfer.specs.Deadline.{Noted, Wait, is_timeout, noted_since}
+use Rattle.h1_transfer.specs.declared.deadline.Deadline.{Deadline}
+use Rattle.h1_application.proofs.ReadLemmas.{budget_none}
 use Rattle.h1_app.specs.Beginning.{head_time}
 use Rattle.h1_app.proofs.HeadLemmas.{AtHead}
-use Rattle.h1_app.specs.Sound.{SoundStage}
-use Rattle.h1_app.specs.Timely as timely
-use Rattle.h1_app.specs.Timely.{EndsInTime, IsLateHead, IsTimely, StepsInTime, WaitsSince}
-use Rattle.h1_app.specs.View.{View, head_since, since_of}
-use Rattle.h1_error.specs.declared.progress.Progress.TheVariants as progress
+use Rattle.h1_app.specs.Pace.{rank}
+use Rattle.h1_app.specs.Timely.{EndsAsTimed, FailsInTime, HasMoved, StepsInTime, noted_of, wait_at}
+use Rattle.h1_app.specs.Work.{Work, untimed, work_at}
+use Rattle.h1_app.proofs.Words.{MovesWithin}
 use Rattle.h1_app.specs.declared.exchange.Stage.TheVariants as stage
 use Rattle.h1_app.specs.declared.exchange.Outcome.TheVariants as outcome
 
--- a wait that is left, or that a call began or goes on with
-left_since : (now : ℕ) (wait : Wait) (since : Option ℕ) → since ≡ left_of wait → WaitsSince now wait.since since
-left_since now wait since is = by wait.moved (is ∙ refl) where
-  by : (moved : Bool) → since ≡ left_of (record wait { moved = moved }) → WaitsSince now wait.since since
-  by true is = inr (inl is)
-  by false is = inl is
+-- whether bytes moved in a call that had this budget, of which so much is left
+pub call_moved : (before now : LinkState) (gave wrote : List ℕ) (budget left : ℕ)
+    → Moved before now gave wrote (budget - left) → HasMoved (nat_lt left budget) before now
+call_moved before now gave wrote budget left moved = by (nat_lt left budget) refl where
+  by : (test : Bool) → nat_lt left budget ≡ test → HasMoved test before now
+  by true is =
+      let some : left < budget = grind (arith, nat_tests, is) in
+      let rose = moved.rose in omega (arith, rose, some)
+  by false is =
+      let none : budget ≤ left = grind (arith, nat_tests, is) in
+      let most = moved.most in
+      let falls = moved.later.counts in omega (arith, most, falls.moves, none)
 
-start_since : (now : ℕ) (wait : Wait) → wait.deadline.moment ≡ now
-    → (wait.since ≡ Some (start_of wait)) ⊎ (start_of wait ≡ now)
-start_since now wait moment = by wait.moved wait.since where
-  by : (moved : Bool) (since : Option ℕ)
-      → (since ≡ Some (start_of (record wait { moved = moved; since = since })))
-      ⊎ (start_of (record wait { moved = moved; since = since }) ≡ now)
-  by true since = inr moment
-  by false None = inr moment
-  by false (Some before) = inl refl
+-- the same by what was spent
+pub step_moved : {L C : Type 0} (state : L → LinkState) (old new : SessionView L C)
+    (m : MovesWithin state old new) → HasMoved (nat_lt 0 m.spent) (state old.link) (state new.link)
+step_moved state old new m = by (nat_lt 0 m.spent) refl where
+  by : (test : Bool) → nat_lt 0 m.spent ≡ test → HasMoved test (state old.link) (state new.link)
+  by true is =
+      let some : 0 < m.spent = grind (arith, nat_tests, is) in
+      let rose = m.moved.rose in omega (arith, rose, some)
+  by false is =
+      let none : m.spent ≤ 0 = grind (arith, nat_tests, is) in
+      let most = m.moved.most in
+      let falls = m.moved.later.counts in omega (arith, most, falls.moves, none)
 
-noted_waits : (now : ℕ) (wait : Wait) (since : Option ℕ) → wait.deadline.moment ≡ now
-    → since ≡ Some (start_of wait) → WaitsSince now wait.since since
-noted_waits now wait since moment is = by (start_since now wait moment) where
-  by : (wait.since ≡ Some (start_of wait)) ⊎ (start_of wait ≡ now) → WaitsSince now wait.since since
-  by (inl same) = inl (is ∙ sym same)
-  by (inr here) = inr (inr (is ∙ ap Some here))
+-- an error of another kind tells of no time, and what holds anyhow is told by each
+pub never_timed : (late : Type 0) (k : ErrorType) → is_timeout k ≡ false → FailsInTime late k
+never_timed late kind.ReadTimedout is = absurd (false≢true (sym is))
+never_timed late kind.WriteTimedout is = absurd (false≢true (sym is))
+never_timed late _ is = tt
 
--- a wait whose limit of a minute is reached
-late_head : (now : ℕ) (wait : Wait) → wait.deadline ≡ record { moment = now; limit = Some 60000 }
-    → is_over wait ≡ true → IsLateHead now wait.since
-late_head now wait deadline over =
-    let late : is_late (record { moment = now; limit = Some 60000 }) (start_of wait) ≡ true =
-    ap (λ d. is_late d (start_of wait)) (sym deadline) ∙ over in
-    let reached : start_of wait + 60000 ≤ now = grind (arith, nat_tests, late) in
-    by reached (start_since now wait (ap (λ d. d.moment) deadline))
-  where
-    by : start_of wait + 60000 ≤ now → (wait.since ≡ Some (start_of wait)) ⊎ (start_of wait ≡ now)
-        → IsLateHead now wait.since
-    by reached (inl since) = record { start = start_of wait; from = since; reached = reached }
-    by reached (inr here) = absurd (omega (arith, reached, here))
+pub where_late : (late : Type 0) (k : ErrorType) → late → FailsInTime late k
+where_late late kind.ReadTimedout h = h
+where_late late kind.WriteTimedout h = h
+where_late late _ h = tt
+
+-- what a call noted that failed, and one that is pending
+pub told_late : (noted : Noted) (late : Type 0) → (noted.waited true → late) → (k : ErrorType)
+    → deadlines.FailsInTime noted (is_timeout k) → FailsInTime late k
+told_late noted late judged kind.ReadTimedout h = judged h
+told_late noted late judged kind.WriteTimedout h = judged h
+told_late noted late judged _ h = tt
+
+pub told_waits : (noted : Noted) (left : ℕ) (spent : Type 0) → (left ≡ 0 → spent)
+    → noted.waited false ⊎ ((left ≡ 0) × noted.stopped)
+    → noted.waited false ⊎ (spent × noted.stopped)
+told_waits noted left spent none (inl waited) = inl waited
+told_waits noted left spent none (inr stopped) = inr (none stopped.0, stopped.1)
+
+module _ {L C J : Type 0} (state : L → LinkState) (now : ℕ) (from to : Stage J)
+    (old new : SessionView L C) (last : Option Entry) (m : MovesWithin state old new)
+    (on : rank to ≤ rank from) where
+  -- a step that waits with work that has no limit
+  pub untimed_waits : (what : Waiting) → work_at to new ≡ untimed
+      → StepsInTime state now from to old new last (outcome.Waits what)
+  untimed_waits what is = (
+    on,
+    record {
+      moved = nat_lt 0 m.spent;
+      counted = step_moved state old new m;
+      waits = subst (λ (w : Work). (noted_of now (nat_lt 0 m.spent) (state old.link) (state new.link)
+          (work_at from old) w).waited false
+          ⊎ ((new.budget ≡ Some 0) × (noted_of now (nat_lt 0 m.spent) (state old.link) (state new.link)
+          (work_at from old) w).stopped)) (sym is) (inl tt);
+    },
+  )
+
+  -- a step that ends the connection for what is no time
+  pub ends_anyhow : (reason : End) → ((moved : Bool) → EndsAsTimed now moved (work_at from old) (work_at to new)
+      (state new.link) last reason)
+      → StepsInTime state now from to old new last (outcome.Ends reason)
+  ends_anyhow reason ends = (
+    on,
+    record {
+      moved = nat_lt 0 m.spent;
+      counted = step_moved state old new m;
+      ends = ends (nat_lt 0 m.spent);
+    },
+  )
+
+  pub fails_anyhow : (error : Error) → is_timeout error.kind ≡ false
+      → StepsInTime state now from to old new last (outcome.Ends (end.Failed error))
+  fails_anyhow error is = ends_anyhow (end.Failed error) (λ moved. never_timed _ error.kind is)
 
 -- with keep-alive set for a minute, or off with the read timeout of a minute, a head has a minute
 pub minute : (now : ℕ) (settings : Settings) (shutdown : Bool)
@@ -67,30 +116,6 @@ pub minute : (now : ℕ) (settings : Settings) (shutdown : Bool)
 minute now settings true times = rw times refl
 minute now settings false times = refl
 
-module _ (link_waited : Type 0) (wait : Wait) (since : Option ℕ) (left now : ℕ)
-    (deadline : wait.deadline ≡ record { moment = now; limit = Some 60000 }) where
-  -- what a read of a head that is pending notes
-  pending_timely : HeadTimed (noted_since link_waited wait since) left Pending → WaitsSince now wait.since since
-  pending_timely (inl waited) = noted_waits now wait since (ap (λ d. d.moment) deadline) waited.noted
-  pending_timely (inr spent) = left_since now wait since spent.1
-
-  -- no head comes where its link ended, or its time is over
-  none_timely : (link : LinkState) (why : NoRequest)
-      → HeadTimed (noted_since link_waited wait since) left (Ready (Ok (read.None why)))
-      → (why ≡ Closed → link.ended ≡ true) → EndsInTime now wait.since link None end.Finished
-  none_timely link Closed timed closed = inl (closed refl)
-  none_timely link IdleTimeout timed closed = inr (late_head now wait deadline timed.judged)
-
-  -- a read of a head fails for its time only where that is over
-  failed_timely : (link : LinkState) (error : Error)
-      → HeadTimed (noted_since link_waited wait since) left (Ready (Err error))
-      → EndsInTime now wait.since link None (end.Failed error)
-  failed_timely link error timed = by error.kind timed where
-    by : (k : ErrorType) → FailsInTime (noted_since link_waited wait since) (is_timeout k)
-        → timely.FailsInTime now wait.since k
-    by kind.ReadTimedout timed = late_head now wait deadline timed.judged
-    by _ timed = tt
-
 -- no head is read since the link ended
 closed_ended : {L C : Type 0} (state : L → LinkState) (old new : SessionView L C) (bytes : List ℕ)
     (left : ℕ) (why : NoRequest) → HeadAnswer state old new bytes left (Ready (Ok (read.None why)))
@@ -98,75 +123,71 @@ closed_ended : {L C : Type 0} (state : L → LinkState) (old new : SessionView L
 closed_ended state old new bytes left Closed a is = a.2
 closed_ended state old new bytes left IdleTimeout a is = absurd cc
 
--- what the wait of a call that reads a head is
-abbrev waits_of : {L C : Type 0} → SessionView L C → ℕ → ℕ → Wait
-waits_of old now left = record {
-  deadline = head_deadline old.settings now;
-  moved = nat_lt left (allowance old.budget);
-  since = old.body.since.read;
-}
-
 -- what a step that reads a head leaves of its wait
 module _ {L C J : Type 0} (state : L → LinkState) (now : ℕ) (old new : SessionView L C) (last : Option Entry)
     (from to : Stage J) (deadline : head_deadline old.settings now ≡ record { moment = now; limit = Some 60000 })
-    (at : from ≡ stage.Head) where
-  abbrev waited : Type 0
-  waited = Rose (state old.link).read_waits (state new.link).read_waits
+    (some : IsSome old.budget) (at : from ≡ stage.Head) (still : to ≡ stage.Head) where
+  abbrev minute_wait : ℕ → Wait
+  minute_wait left = wait_at now (Some 60000) (nat_lt left (allowance old.budget)) old.body.since.read
 
-  pub waits_in_time : (what : Waiting) → to ≡ stage.Head → AtHead state now old new last Pending
-      → StepsInTime state now from old to new None (outcome.Waits what)
-  waits_in_time what still h = rw (at, still) (pending_timely waited (waits_of old now h.reads.left)
-      new.body.since.read h.reads.left now deadline h.reads.timed)
+  abbrev noted : ℕ → Noted
+  noted left = noted_since (Rose (state old.link).read_waits (state new.link).read_waits) (minute_wait left)
+      new.body.since.read
+
+  abbrev Told : ℕ → Poll (Result ReadRequest Error) → Type 0
+  Told left answer = HeadTimed (noted left) left answer
+
+  told : (answer : Poll (Result ReadRequest Error)) (h : AtHead state now old new last answer)
+      → Told h.reads.left answer
+  told answer h = subst (λ (d : Deadline). HeadTimed
+      (noted_since (Rose (state old.link).read_waits (state new.link).read_waits) (record {
+        deadline = d;
+        moved = nat_lt h.reads.left (allowance old.budget);
+        since = old.body.since.read;
+      }) new.body.since.read) h.reads.left answer) deadline h.reads.timed
+
+  counted : (answer : Poll (Result ReadRequest Error)) (h : AtHead state now old new last answer)
+      → HasMoved (nat_lt h.reads.left (allowance old.budget)) (state old.link) (state new.link)
+  counted answer h = call_moved (state old.link) (state new.link) h.reads.received.piece _ (allowance old.budget)
+      h.reads.left h.reads.received.moved
+
+  pub waits_in_time : (what : Waiting) → AtHead state now old new last Pending
+      → StepsInTime state now from to old new None (outcome.Waits what)
+  waits_in_time what h = rw (at, still) (
+    omega arith,
+    record {
+      moved = nat_lt h.reads.left (allowance old.budget);
+      counted = counted Pending h;
+      waits = told_waits (noted h.reads.left) h.reads.left (new.budget ≡ Some 0)
+          (budget_none old.budget new.budget h.reads.left some h.reads.budget) (told Pending h);
+    },
+  )
 
   pub none_in_time : (why : NoRequest) → AtHead state now old new last (Ready (Ok (read.None why)))
-      → StepsInTime state now from old to new None (outcome.Ends end.Finished)
-  none_in_time why h = rw at (none_timely waited (waits_of old now h.reads.left) new.body.since.read h.reads.left now
-      deadline (state new.link) why h.reads.timed
-      (closed_ended state old new h.reads.bytes h.reads.left why h.reads.answer))
+      → StepsInTime state now from to old new None (outcome.Ends end.Finished)
+  none_in_time why h = rw (at, still) (
+    omega arith,
+    record {
+      moved = nat_lt h.reads.left (allowance old.budget);
+      counted = counted (Ready (Ok (read.None why))) h;
+      ends = by why (told (Ready (Ok (read.None why))) h)
+          (closed_ended state old new h.reads.bytes h.reads.left why h.reads.answer);
+    },
+  ) where
+    by : (why : NoRequest) → Told h.reads.left (Ready (Ok (read.None why)))
+        → (why ≡ Closed → (state new.link).ended ≡ true)
+        → ((state new.link).ended ≡ true) ⊎ (deadlines.is_over (minute_wait h.reads.left) ≡ true)
+    by Closed timed closed = inl (closed refl)
+    by IdleTimeout timed closed = inr timed.judged
 
   pub fails_in_time : (error : Error) → AtHead state now old new last (Ready (Err error))
-      → StepsInTime state now from old to new None (outcome.Ends (end.Failed error))
-  fails_in_time error h = rw at (failed_timely waited (waits_of old now h.reads.left) new.body.since.read h.reads.left
-      now deadline (state new.link) error h.reads.timed)
-
--- where an exchange goes on, no head is awaited
-pub head_none : {L C J : Type 0} (runs : J → RequestView → Settings → Settings → List ℕ → Type 0)
-    (session : SessionView L C) (e : Entry) (to : Stage J) → SoundStage runs session (Some e) to
-    → head_since to session.body.since.read ≡ None
-head_none runs session e stage.Head sound = let never : Some e ≡ None = sound.0 in absurd cc
-head_none runs session e _ sound = refl
-
--- one wait after another
-pub since_on : (now : ℕ) (a b c : Option ℕ) → WaitsSince now a b → WaitsSince now b c → WaitsSince now a c
-since_on now a b c (inl same) (inl kept) = inl (kept ∙ same)
-since_on now a b c (inr (inl none)) (inl kept) = inr (inl (kept ∙ none))
-since_on now a b c (inr (inr here)) (inl kept) = inr (inr (kept ∙ here))
-since_on now a b c before (inr after) = inr after
-
-late_on : (now : ℕ) (a b : Option ℕ) → WaitsSince now a b → IsLateHead now b → IsLateHead now a
-late_on now a b (inl same) late = record { start = late.start; from = sym same ∙ late.from; reached = late.reached }
-late_on now a b (inr (inl none)) late =
-    let never : None ≡ Some late.start = sym none ∙ late.from in absurd cc
-late_on now a b (inr (inr here)) late =
-    let same : Some now ≡ Some late.start = sym here ∙ late.from in
-    let at : now ≡ late.start = cc in
-    let reached = late.reached in absurd (omega (arith, reached, at))
-
--- an end behind a wait
-pub ends_on : (now : ℕ) (a b : Option ℕ) (link : LinkState) (last : Option Entry) (reason : End) → WaitsSince now a b
-    → EndsInTime now b link last reason → EndsInTime now a link last reason
-ends_on now a b link (Some e) reason before h = tt
-ends_on now a b link None end.Finished before (inl ended) = inl ended
-ends_on now a b link None end.Finished before (inr late) = inr (late_on now a b before late)
-ends_on now a b link None (end.Failed error) before h = by error.kind h where
-  by : (k : ErrorType) → timely.FailsInTime now b k → timely.FailsInTime now a k
-  by kind.ReadTimedout late = late_on now a b before late
-  by _ h = tt
-ends_on now a b link None _ before h = tt
-
--- a poll's budget is no part of it
-pub timely_same : {L C A J : Type 0} (state : L → LinkState) (now : ℕ) (from to : View L C A J) (budget : Option ℕ)
-    (result : Progress) → IsTimely state now (record from { session = record from.session { budget = budget } }) to result
-    → IsTimely state now from to result
-timely_same state now from to budget (progress.Pending what) h = h
-timely_same state now from to budget (progress.Ready reason) h = h
+      → StepsInTime state now from to old new None (outcome.Ends (end.Failed error))
+  fails_in_time error h = rw (at, still) (
+    omega arith,
+    record {
+      moved = nat_lt h.reads.left (allowance old.budget);
+      counted = counted (Ready (Err error)) h;
+      ends = told_late (noted h.reads.left) (deadlines.is_over (minute_wait h.reads.left) ≡ true)
+          (λ waited. waited.judged) error.kind (told (Ready (Err error)) h);
+    },
+  )

@@ -200,4 +200,4 @@ caused_stepped state begins pends runs same_plan app limit x y first second outc
 caused_stepped state begins pends runs same_plan app limit x y first second (outcome.Waits what) c
     h = (c.done, h.1)
 caused_stepped state begins pends runs same_plan app limit x y first second (outcome.Ends reason) c
-    h = λ since s. h since y.transcript.done s
+    h = (c.done, λ since s. h since y.transcript.done s)

@@ -35,6 +35,7 @@ pub record IsUnwritten (reply : Outgoing) : Type 0 where
   pub headed : reply.headed ≡ false
   pub refused : reply.refused ≡ None
   pub sent : reply.sent ≡ 0
+  pub write_since : reply.write_since ≡ None
 
 -- a head is awaited, and nothing was read or taken up
 pub record IsAwaitingIn (session : Bare) : Type 0 where
@@ -44,6 +45,7 @@ pub record IsAwaitingIn (session : Bare) : Type 0 where
   pub kept : session.body.kept ≡ None
   pub body_refused : session.body.refused ≡ None
   pub waits : session.body.waits ≡ false
+  pub undrained : session.body.since.drain ≡ None
   pub times : session.settings.times ≡ new_times
 
 abbrev pub IsAwaiting : {L C : Type 0} → SessionView L C → Type 0
@@ -61,6 +63,7 @@ pub record IsAskedIn (e : Entry) (session : Bare) (request : Request) : Type 0 w
   pub filtered : e.filtered ≡ Some e.head
   pub kept : session.body.kept ≡ None
   pub waits : session.body.waits ≡ false
+  pub undrained : session.body.since.drain ≡ None
   pub written : e.written ≡ session.reply.sent
   pub limit : e.written < 2 ^ 64
 

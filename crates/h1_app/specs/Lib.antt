@@ -14,6 +14,7 @@ pub mod Joins
 pub mod Leaves
 pub mod Persistent
 pub mod Draining
+pub mod Work
 pub mod Timely
 pub mod Step
 pub mod Replying

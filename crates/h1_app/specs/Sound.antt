@@ -21,12 +21,13 @@ SoundStage runs session last stage.Header =
     (e : Entry) × (last ≡ Some e) × (request : Request) × (reply : Reply)
     × IsReplied e session request reply
     × IsHeaded e session reply × (e.sent_body ≡ None) × (session.reply.writer ≡ fresh e reply)
-    × (session.reply.step ≡ step.Head)
+    × (session.reply.step ≡ step.Head) × (session.reply.write_since ≡ None)
 SoundStage runs session last stage.TakeBody =
     (e : Entry) × (last ≡ Some e) × (request : Request) × (reply : Reply)
     × IsReplied e session request reply
     × IsHeaded e session reply × (e.sent_body ≡ None) × (session.reply.writer ≡ fresh e reply)
     × (session.reply.step ≡ step.Free) × (session.reply.owed ≡ [])
+    × (session.reply.write_since ≡ None)
 SoundStage runs session last stage.Body =
     (e : Entry) × (last ≡ Some e) × (request : Request) × (reply : Reply)
     × IsReplied e session request reply

@@ -64,8 +64,8 @@ pub record Stepped {L C J : Type 0} (state : L → LinkState) (pends : J → ℕ
   -- reads that were not ready
   pub reads_not_ready : FewReadsNotReady (state old.session.link) (state new.session.link)
       (option_to_list old.transcript.last) (option_to_list new.transcript.last) result
-  -- what it leaves of the wait for a head
-  pub timely : StepsInTime state now old.stage old.session new.stage new.session
+  -- what it leaves of the waits for the link
+  pub timely : StepsInTime state now old.stage new.stage old.session new.session
       new.transcript.last result
   -- why it goes on, waits or ends
   pub outcome : OutcomeCause state pends runs old.session new.session new.transcript.last old.stage

@@ -1,46 +1,127 @@
--- How long a connection waits for a head. All times are milliseconds.
-use Rattle.std.specs.Prelude.{◌≡◌, ℕ, ◌+◌, ◌≤◌, ◌⊎◌, true, Option, Some, None}
-use Rattle.h1_app.specs.Words.{End, ErrorType, LinkState, Progress, SessionView, Entry, Stage, Outcome}
+-- How long a connection waits for its link. All times are milliseconds.
+use Rattle.std.specs.Prelude.{◌≡◌, ℕ, ◌≤◌, length, ◌⊎◌, Bool, true, false, Option, Some, None}
+use Rattle.h1_app.specs.Words.{End, Error, ErrorType, LinkState, Progress, Rose, SessionView, Entry, Stage, Outcome}
 use Rattle.h1_error.specs.declared.error.ErrorType.TheVariants as kind
 use Rattle.h1_error.specs.declared.progress.End.TheVariants as end
 use Rattle.h1_error.specs.declared.progress.Progress.TheVariants as progress
+use Rattle.h1_error.specs.declared.progress.Waiting.TheVariants as waiting
+use Rattle.h1_server.specs.Times.{drain_limits}
+use Rattle.h1_transfer.specs.Deadline.{Noted, Wait, is_over, noted_since}
+use Rattle.h1_transfer.specs.ReadWaits.{is_drain_over, noted_rest}
 use Rattle.h1_app.specs.declared.exchange.Outcome.TheVariants as outcome
-use Rattle.h1_app.specs.View.{View, head_since, since_of}
+use Rattle.h1_app.specs.Pace.{rank}
+use Rattle.h1_app.specs.View.{View, work_of}
+use Rattle.h1_app.specs.Work.{Work, reads_head, drains, writes_piece, untimed, work_at, work_on, head_since, drain_since, piece_since, IsUnwaited}
 
--- a wait goes on as it was, is over, or began at this moment
-abbrev pub WaitsSince : ℕ → Option ℕ → Option ℕ → Type 0
-WaitsSince now old new = (new ≡ old) ⊎ ((new ≡ None) ⊎ (new ≡ Some now))
+-- Bytes moved over the link, or none did. Its count tells, which stands still at 2^64 - 1.
+abbrev pub HasMoved : Bool → LinkState → LinkState → Type 0
+HasMoved true old new = Rose old.moves new.moves
+HasMoved false old new = new.moves ≡ old.moves
 
--- a head was waited for a minute since this moment
-pub record IsLateHead (now : ℕ) (since : Option ℕ) : Type 0 where
-  pub start : ℕ
-  pub from : since ≡ Some start
-  pub reached : start + 60000 ≤ now
+-- a wait at this moment, of work that may wait so long
+abbrev pub wait_at : ℕ → Option ℕ → Bool → Option ℕ → Wait
+wait_at now limit moved since =
+    record { deadline = record { moment = now; limit = limit }; moved = moved; since = since }
 
--- an error that tells that a head was waited for too long comes only where that is so
-abbrev pub FailsInTime : ℕ → Option ℕ → ErrorType → Type 0
-FailsInTime now since kind.ReadTimedout = IsLateHead now since
-FailsInTime now since _ = Unit {0}
+-- a head has a minute
+abbrev pub head_wait : ℕ → Bool → Work → Wait
+head_wait now moved before = wait_at now (Some 60000) moved (head_since before)
 
--- An end where a head is awaited, whose reading waited since this moment before: a connection is
--- finished where its link ended, or where a head was waited for too long.
-abbrev pub EndsInTime : ℕ → Option ℕ → LinkState → Option Entry → End → Type 0
-EndsInTime now since link (Some e) reason = Unit {0}
-EndsInTime now since link None end.Finished = (link.ended ≡ true) ⊎ IsLateHead now since
-EndsInTime now since link None (end.Failed error) = FailsInTime now since error.kind
-EndsInTime now since link None _ = Unit {0}
+-- What is noted at a moment of a work that goes on from `before`, which it is itself or which isn't
+-- of its kind: that its link was not ready, since when it waits, and whether that is too long; or
+-- what is left of a wait before it.
+abbrev pub noted_of : ℕ → Bool → LinkState → LinkState → Work → Work → Noted
+noted_of now moved old new before (reads_head since) =
+    noted_since (Rose old.read_waits new.read_waits) (head_wait now moved before) since
+noted_of now moved old new before (drains times since) =
+    noted_rest (Rose old.read_waits new.read_waits) (drain_limits times now) moved
+    (drain_since before) since
+noted_of now moved old new before (writes_piece limit since) =
+    noted_since (Rose old.write_waits new.write_waits)
+    (wait_at now limit moved (piece_since before)) since
+noted_of now moved old new before untimed =
+    record { ended = Unit {0}; waited = λ late. Unit {0}; stopped = Unit {0} }
 
--- what a step at this moment leaves of the wait for a head
-abbrev pub StepsInTime : {L C J : Type 0} → (L → LinkState) → ℕ → Stage J → SessionView L C → Stage J
-    → SessionView L C → Option Entry → Outcome → Type 0
-StepsInTime state now from old to new last (outcome.Ends reason) =
-    EndsInTime now (head_since from old.body.since.read) (state new.link) last reason
-StepsInTime state now from old to new last _ =
-    WaitsSince now (head_since from old.body.since.read) (head_since to new.body.since.read)
+-- Work that waits: its link was not ready and it isn't late, or no more link calls may move bytes
+-- and a wait before it is left.
+pub record WaitsInTime (now : ℕ) (old new : LinkState) (before work : Work) (spent : Type 0)
+    : Type 0 where
+  pub moved : Bool
+  pub counted : HasMoved moved old new
+  pub waits : (noted_of now moved old new before work).waited false
+      ⊎ (spent × (noted_of now moved old new before work).stopped)
 
--- what a poll at this moment leaves of the wait for a head, by its answer
+-- a head was awaited for its minute
+abbrev pub IsLateHead : ℕ → Bool → Work → Work → Type 0
+IsLateHead now moved before (reads_head since) = is_over (head_wait now moved before) ≡ true
+IsLateHead now moved before _ = ⊥
+
+-- Work that fails with this error waited as long as it may, a head where no exchange is begun. An
+-- error of work without a limit is that of the request's body, which the application read.
+abbrev pub IsLate : ℕ → Bool → Work → Work → Option Entry → Error → Type 0
+IsLate now moved before (reads_head since) None error =
+    is_over (head_wait now moved before) ≡ true
+IsLate now moved before (drains times since) (Some e) error =
+    is_drain_over (drain_limits times now) moved (drain_since before) ≡ true
+IsLate now moved before (writes_piece limit since) (Some e) error =
+    is_over (wait_at now limit moved (piece_since before)) ≡ true
+IsLate now moved before untimed (Some e) error = e.body_error ≡ Some error
+IsLate now moved before _ _ error = ⊥
+
+-- an error tells that a limit was reached only where that is so
+abbrev pub FailsInTime : Type 0 → ErrorType → Type 0
+FailsInTime late kind.ReadTimedout = late
+FailsInTime late kind.WriteTimedout = late
+FailsInTime late _ = Unit {0}
+
+-- A connection finishes where its link ended, or where a head was awaited for its minute, and fails
+-- for a time only where that is over.
+abbrev pub EndsAsTimed : ℕ → Bool → Work → Work → LinkState → Option Entry → End → Type 0
+EndsAsTimed now moved before work link last end.Finished =
+    (link.ended ≡ true) ⊎ IsLateHead now moved before work
+EndsAsTimed now moved before work link last (end.Failed error) =
+    FailsInTime (IsLate now moved before work last error) error.kind
+EndsAsTimed now moved before work link last _ = Unit {0}
+
+-- work that ends, with the connection
+pub record EndsInTime (now : ℕ) (old new : LinkState) (before work : Work) (last : Option Entry)
+    (reason : End) : Type 0 where
+  pub moved : Bool
+  pub counted : HasMoved moved old new
+  pub ends : EndsAsTimed now moved before work new last reason
+
+-- What a step at a moment leaves of the waits: work that begins hasn't waited. A step that stops
+-- doesn't go back in its exchange.
+abbrev pub StepsInTime : {L C J : Type 0} → (L → LinkState) → ℕ → Stage J → Stage J
+    → SessionView L C → SessionView L C → Option Entry → Outcome → Type 0
+StepsInTime state now from to old new last outcome.Done = IsUnwaited (work_at to new)
+StepsInTime state now from to old new last (outcome.Waits what) =
+    (rank to ≤ rank from)
+    × WaitsInTime now (state old.link) (state new.link) (work_at from old) (work_at to new)
+    (new.budget ≡ Some 0)
+StepsInTime state now from to old new last (outcome.Ends reason) =
+    (rank to ≤ rank from)
+    × EndsInTime now (state old.link) (state new.link) (work_at from old) (work_at to new) last
+    reason
+
+-- the same of a step of a connection
+abbrev pub TurnsInTime : {L C A J : Type 0} → (L → LinkState) → ℕ → View L C A J → View L C A J
+    → Outcome → Type 0
+TurnsInTime state now from to result =
+    StepsInTime state now from.stage to.stage from.session to.session to.last result
+
+-- what the connection did before a poll, where it still does it
+abbrev pub work_before : {L C A J : Type 0} → View L C A J → View L C A J → Work
+work_before from to = work_on (length from.done) (length to.done) (work_of from)
+
+-- How long a poll at a moment waits, or has waited where it ends the connection. Work that the
+-- connection did before the poll, and does after it, is all that the poll did, so bytes that moved
+-- are those of this work.
 abbrev pub IsTimely : {L C A J : Type 0} → (L → LinkState) → ℕ → View L C A J → View L C A J
     → Progress → Type 0
-IsTimely state now from to (progress.Pending what) = WaitsSince now (since_of from) (since_of to)
+IsTimely state now from to (progress.Pending what) =
+    WaitsInTime now (state from.session.link) (state to.session.link) (work_before from to)
+    (work_of to) (what ≡ waiting.Budget)
 IsTimely state now from to (progress.Ready reason) =
-    EndsInTime now (since_of from) (state to.session.link) to.last reason
+    EndsInTime now (state from.session.link) (state to.session.link) (work_before from to)
+    (work_of to) to.last reason

@@ -93,5 +93,5 @@ TurnCause state begins pends from to (outcome.Waits what) =
     (to.done ≡ from.done)
     × WaitsOn state pends from.session to.session to.last from.stage to.stage what
 TurnCause state begins pends from to (outcome.Ends reason) =
-    AccountedFrom state to (λ before.
+    (to.done ≡ from.done) × AccountedFrom state to (λ before.
     EndCause before (state from.session.link) (state to.session.link) to.done to.last reason)

@@ -1,7 +1,7 @@
 -- What contracts see of a connection.
 use Rattle.std.specs.Prelude.{◌≡◌, ℕ, List, [], ◌++◌, option_to_list, Option, Some, None}
 use Rattle.h1_app.specs.Words.{End, SessionView, Entry, Exchange, Stage}
-use Rattle.h1_app.specs.declared.exchange.Stage.TheVariants as stage
+use Rattle.h1_app.specs.Work.{Work, reads_head, work_at}
 use Rattle.h1_app.specs.declared.options.HttpServerOptions.{HttpServerOptions}
 
 pub record View (L C A J : Type 0) : Type 0 where
@@ -37,14 +37,9 @@ abbrev pub limit_of : Option HttpServerOptions → Option ℕ
 limit_of None = None
 limit_of (Some options) = options.keepalive_request_limit
 
--- since when the reading of a head waits, in milliseconds, where one is awaited; `read` is since when
--- the session's read does
-abbrev pub head_since : {J : Type 0} → Stage J → Option ℕ → Option ℕ
-head_since stage.Head read = read
-head_since _ read = None
-
-abbrev pub since_of : {L C A J : Type 0} → View L C A J → Option ℕ
-since_of view = head_since view.stage view.session.body.since.read
+-- what the connection does that may wait only so long, and since when it waits
+abbrev pub work_of : {L C A J : Type 0} → View L C A J → Work
+work_of view = work_at view.stage view.session
 
 -- a connection that read and wrote nothing yet
 pub record IsNewConnection {L C A J : Type 0} (application : A) (options : Option HttpServerOptions)
@@ -54,5 +49,5 @@ pub record IsNewConnection {L C A J : Type 0} (application : A) (options : Optio
   pub limit : made.limit ≡ limit_of options
   pub done : made.done ≡ []
   pub last : made.last ≡ None
-  pub since : since_of made ≡ None
+  pub work : work_of made ≡ reads_head None
   pub end : made.end ≡ None

@@ -62,7 +62,7 @@ impl<L: Link + Drop, SV: ServeHttp<L, C> + Drop, B: Drop, C: Drop> Connection<L,
     ghost use Rattle.h1_app.specs.Causes.{Cause};
     ghost use Rattle.h1_app.specs.Leaves.{Leaves};
     ghost use Rattle.h1_app.specs.Sound.{Sound};
-    ghost use Rattle.h1_app.specs.Timely.{IsTimely, StepsInTime};
+    ghost use Rattle.h1_app.specs.Timely.{IsTimely, TurnsInTime};
     ghost use Rattle.h1_app.specs.Turn.{AccountedFrom, Turned, TurnCause, outcome_end, stops, waiting_for};
 
     /// A connection of this server over a link.
@@ -164,8 +164,7 @@ impl<L: Link + Drop, SV: ServeHttp<L, C> + Drop, B: Drop, C: Drop> Connection<L,
             (SV.runs self.new.app) self.new.limit self.new.session self.new.done self.new.last
             self.new.stage self.new.end }
         ensures end { self.new.end ≡ outcome_end result }
-        ensures timely { StepsInTime L.state now self.old.stage self.old.session self.new.stage
-            self.new.session self.new.last result }
+        ensures timely { TurnsInTime L.state now self.old self.new result }
         ensures outcome { TurnCause L.state SV.begins SV.pends self.old self.new result }
     {
         let outcome = match self.exchange.stage {

@@ -158,6 +158,7 @@ reads_itself state s = record {
   reusable = refl;
   context = refl;
   refused = refused_itself state s s.body.refused refl;
+  undrained = λ none. none;
   waits = λ free. rw free refl;
 }
 
@@ -193,6 +194,7 @@ reads_on state a b c first free second = record {
   context = second.context ∙ first.context;
   refused = refused_on state a b c a.body.refused first.moved.later free.refused first.refused
       (subst (RefusedBy state b c) free.refused second.refused);
+  undrained = λ none. second.undrained (first.undrained none);
   waits = λ none. waits_on state a b c c.body.waits free.link_waits (second.waits (free.waits ∙ none));
 }
 
@@ -283,6 +285,7 @@ reads_payload state now old new outcome there none call calls = record {
   reusable = ap (λ s. s.reusable) call.rest;
   context = ap (λ s. s.context) call.rest;
   refused = rw none (payload_refused state old new call.payload call.left outcome call.answer);
+  undrained = λ _. call.undrained;
   waits = payload_waits state old new call.payload call.left outcome there call.budget call.answer;
 }
 

@@ -30,6 +30,7 @@ only_settings state old new settings same r = record {
   reusable = r.reusable;
   context = r.context;
   refused = r.refused;
+  undrained = r.undrained;
   waits = r.waits;
 }
 

@@ -95,6 +95,8 @@ pub record ReadsOnly {L C : Type 0} (state : L → LinkState)
   -- what the caller keeps with the connection stays
   pub context : new.context ≡ old.context
   pub refused : RefusedBy state old new old.body.refused
+  -- the time for all of what is left of a body doesn't begin
+  pub undrained : old.body.since.drain ≡ None → new.body.since.drain ≡ None
   -- told by the session's note of a pending read, where it was cleared before
   pub waits : old.body.waits ≡ false → WaitsBy state old new new.body.waits
 

@@ -1,11 +1,12 @@
 -- Lemmas on scripts whose polls are all at one moment, and whose connection finished.
-use Rattle.std.proofs.Common.{◌≡◌, ◌⊎◌, inl, inr, arith, ℕ, ◌+◌, ◌≤◌, ◌/◌, List, [], ◌∷◌, ◌++◌, Bool, true, option_to_list, Option, Some, None, IfSome, IfNone, refl, sym, ap, subst, ◌∙◌, append-nil, append_assoc}
+use Rattle.std.proofs.Common.{◌≡◌, ◌⊎◌, inl, inr, ℕ, ◌+◌, ◌/◌, List, [], ◌∷◌, ◌++◌, Bool, true, option_to_list, Option, Some, None, IfSome, IfNone, refl, sym, ap, subst, ◌∙◌, append-nil, append_assoc}
 use Rattle.std.specs.List.{AllByRecursion, flat_map}
 use Rattle.std.proofs.lemmas.List.Concat.{flat_map-cons}
 use Rattle.h1_error.specs.declared.progress.End.{End}
 use Rattle.h1_error.specs.declared.progress.End.TheVariants as end
 use Rattle.h1_error.specs.declared.progress.Progress.{Progress}
 use Rattle.h1_error.specs.declared.progress.Progress.TheVariants as progress
+use Rattle.h1_error.specs.declared.progress.Waiting.TheVariants as waiting
 use Rattle.h1_link.specs.Counts.{raised}
 use Rattle.h1_link.specs.LinkState.{LinkState}
 use Rattle.h1_link.specs.declared.memory.gate.Gate.TheVariants.{Room, Blocked}
@@ -22,11 +23,13 @@ use Rattle.h1_transcript.specs.Growth.{DatedAt, IsBegun, Extends}
 use Rattle.h1_transcript.specs.Stream.{empty}
 use Rattle.h1_transcript.proofs.CompleteLemmas.{told_of}
 use Rattle.h1_serve.specs.State.{State, new_link, start_with, transcript}
-use Rattle.h1_app.specs.Timely.{EndsInTime, IsLateHead, WaitsSince}
-use Rattle.h1_serve.specs.PollLine.{AnswerCause, AnswersInTime, Polls, poll_line}
+use Rattle.h1_app.specs.Timely.{EndsInTime, IsLateHead}
+use Rattle.h1_app.specs.Work.{head_since}
+use Rattle.h1_serve.specs.PollLine.{AnswerCause, AnswersInTime, Polls, poll_line, work_before}
 use Rattle.h1_serve.specs.ExchangeText.{exchanges_lines, wrote_line}
 use Rattle.h1_serve.specs.Report.{Lines, IsTextOf, limit_in}
 use Rattle.h1_serve.specs.Finished.{ArePolledAt, IsFinished, IsBehindPolls}
+use Rattle.h1_serve.proofs.SinceLemmas.{IsSinceHere, never_late, since_before, since_behind}
 use Rattle.h1_serve.proofs.AlikeLemmas.{IsDatedBy, AreEnded, alike, alike_lines, alike_written}
 
 -- an exchange goes on or begins with the date of its moment
@@ -67,36 +70,15 @@ record StandsFinished (polled : List ℕ) (s : State) : Type 0 where
   cause : EndCause new_link s.link s.link s.done s.last end.Finished
   allowed : AllByRecursion (IsAllowed EchoGives) (transcript s)
 
--- nothing waits, or since this moment
-abbrev IsSinceHere : ℕ → Option ℕ → Type 0
-IsSinceHere moment since = (since ≡ None) ⊎ (since ≡ Some moment)
-
-since_here : (moment : ℕ) (old new : Option ℕ) → IsSinceHere moment old → WaitsSince moment old new
-    → IsSinceHere moment new
-since_here moment old new (inl none) (inl same) = inl (same ∙ none)
-since_here moment old new (inr here) (inl same) = inr (same ∙ here)
-since_here moment old new before (inr (inl none)) = inl none
-since_here moment old new before (inr (inr here)) = inr here
-
--- so no head is late at it
-never_late : (moment : ℕ) (since : Option ℕ) → IsSinceHere moment since → IsLateHead moment since → ⊥
-never_late moment since here late = by here where
-  by : IsSinceHere moment since → ⊥
-  by (inl none) = let never : None ≡ Some late.start = sym none ∙ late.from in cc
-  by (inr here) =
-      let same : Some moment ≡ Some late.start = sym here ∙ late.from in
-      let at : moment ≡ late.start = cc in
-      let reached = late.reached in omega (arith, reached, at)
-
 -- what holds between two commands
 record Holds (moment : ℕ) (polled : List ℕ) (s : State) : Type 0 where
   dated : AllByRecursion (IsDatedBy (moment / 1000)) (transcript s)
   -- a head is waited for since no other moment
-  since : s.end ≡ None → IsSinceHere moment s.since
+  since : s.end ≡ None → IsSinceHere moment (head_since s.work)
   finished : s.end ≡ Some end.Finished → StandsFinished polled s
 
 -- a poll that answered that the connection finished has its cause: the link ended
-finished_by : (moment : ℕ) (s t : State) (answer : Progress) → IsSinceHere moment s.since
+finished_by : (moment : ℕ) (s t : State) (answer : Progress) → IsSinceHere moment (head_since s.work)
     → AnswersInTime moment s t answer → AnswerCause s t answer → t.end ≡ Some end.Finished
     → (t.link.ended ≡ true) × EndCause new_link t.link t.link t.done t.last end.Finished
 finished_by moment s t (progress.Pending what) here timely cause is = absurd (never cause.0 is) where
@@ -106,19 +88,19 @@ finished_by moment s t (progress.Ready reason) here timely cause is =
     let same : reason ≡ end.Finished = one cause.0 is in
     let ends : EndCause new_link s.link t.link t.done t.last end.Finished =
     subst (EndCause new_link s.link t.link t.done t.last) same cause.2 in
-    let in_time : EndsInTime moment s.since t.link t.last end.Finished =
-    subst (EndsInTime moment s.since t.link t.last) same timely in
-    let ended = by t.last ends.0.none in_time in
+    let in_time : EndsInTime moment s.link t.link (work_before s t) t.work t.last end.Finished =
+    subst (EndsInTime moment s.link t.link (work_before s t) t.work t.last) same timely in
+    let ended = by in_time.moved in_time.ends in
     (ended, (ends.0, inl ended, ends.2))
   where
     one : t.end ≡ Some reason → t.end ≡ Some end.Finished → reason ≡ end.Finished
     one e f = cc
 
-    by : (last : Option Entry) → last ≡ None → EndsInTime moment s.since t.link last end.Finished
+    by : (moved : Bool) → (t.link.ended ≡ true) ⊎ IsLateHead moment moved (work_before s t) t.work
         → t.link.ended ≡ true
-    by None none (inl ended) = ended
-    by None none (inr late) = absurd (never_late moment s.since here late)
-    by (Some e) none timely = absurd cc
+    by moved (inl ended) = ended
+    by moved (inr late) =
+        absurd (never_late moment moved (work_before s t) t.work (since_before moment s t here) late)
 
 -- by this poll, or by one before it
 finished_so : (moment : ℕ) (polled : List ℕ) (s t : State) (answer : Progress) (before : Option End)
@@ -141,11 +123,12 @@ since_so : (moment : ℕ) (polled : List ℕ) (s t : State) (answer : Progress) 
     → s.end ≡ before → Holds moment polled s → IfNone before (AnswersInTime moment s t answer)
     → IfNone before (AnswerCause s t answer)
     → IfSome before (λ reason. (answer ≡ progress.Ready reason) × (t ≡ s)) → t.end ≡ None
-    → IsSinceHere moment t.since
+    → IsSinceHere moment (head_since t.work)
 since_so moment polled s t answer (Some reason) at holds timely cause again alive =
     let never : Some reason ≡ None = sym at ∙ ap (λ (s : State). s.end) (sym again.1) ∙ alive in absurd cc
 since_so moment polled s t (progress.Pending what) None at holds timely cause again alive =
-    since_here moment s.since t.since (holds.since at) timely
+    since_behind moment s.link t.link (work_before s t) t.work (what ≡ waiting.Budget)
+    (since_before moment s t (holds.since at)) timely
 since_so moment polled s t (progress.Ready reason) None at holds timely cause again alive =
     let never : Some reason ≡ None = sym cause.0 ∙ alive in absurd cc
 
@@ -181,14 +164,14 @@ polled_in put polled (command.Limit count ∷ more) = polled_in put polled more
 
 -- and where the exchanges, the link and the end stay
 same_holds : (moment : ℕ) (polled : List ℕ) (s t : State) → t.done ≡ s.done → t.last ≡ s.last
-    → t.link ≡ s.link → t.end ≡ s.end → t.since ≡ s.since
+    → t.link ≡ s.link → t.end ≡ s.end → t.work ≡ s.work
     → Holds moment polled s → Holds moment polled t
-same_holds moment polled s t done last link ends since h =
+same_holds moment polled s t done last link ends work h =
     let entries : transcript t ≡ transcript s =
     ap (λ es. es ++ option_to_list t.last) done ∙ ap (λ e. s.done ++ option_to_list e) last in
     record {
       dated = subst (AllByRecursion (IsDatedBy (moment / 1000))) (sym entries) h.dated;
-      since = λ alive. rw since (h.since (sym ends ∙ alive));
+      since = λ alive. rw work (h.since (sym ends ∙ alive));
       finished = λ is.
           let was = h.finished (sym ends ∙ is) in
           record {

@@ -11,4 +11,5 @@ pub mod CauseLemmas
 pub mod PolledLemmas
 pub mod AlikeLemmas
 pub mod FinishedLemmas
+pub mod SinceLemmas
 pub mod PlannedLemmas

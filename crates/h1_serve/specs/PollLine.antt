@@ -1,5 +1,5 @@
 -- One poll of a script's connection: the states before and after it, and its answer.
-use Rattle.std.specs.Prelude.{◌≡◌, ◌≢◌, ℕ, ◌+◌, ◌≤◌, List, [], ◌∷◌, ◌++◌, true, Some, None, IfSome, IfNone, codes}
+use Rattle.std.specs.Prelude.{◌≡◌, ◌≢◌, ℕ, ◌+◌, ◌≤◌, List, [], ◌∷◌, ◌++◌, length, true, Some, None, IfSome, IfNone, codes}
 use Rattle.std.specs.Fmt.{decimal}
 use Rattle.h1_error.specs.declared.error.ErrorType.TheVariants.{NoMemory}
 use Rattle.h1_error.specs.declared.progress.End.{End}
@@ -18,7 +18,8 @@ use Rattle.h1_transcript.specs.Told.{ToldGrowth}
 use Rattle.h1_echo.specs.Echo.{EchoGives}
 use Rattle.h1_transcript.specs.Entries.{replies}
 use Rattle.h1_app.specs.Leaves.{Leaves}
-use Rattle.h1_app.specs.Timely.{EndsInTime, WaitsSince}
+use Rattle.h1_app.specs.Timely.{EndsInTime, WaitsInTime}
+use Rattle.h1_app.specs.Work.{Work, work_on}
 use Rattle.h1_serve.specs.State.{State, new_link, transcript}
 use Rattle.h1_serve.specs.LinkDoes.{GivesAhead, TakesWithin, FailsAsPlanned}
 use Rattle.h1_transfer.specs.declared.budget.TheConstants.{CALL_BUDGET}
@@ -51,10 +52,16 @@ AnswerCause s t (progress.Pending what) = (t.end ≡ None) × PendsFor s t what
 AnswerCause s t (progress.Ready reason) = (t.end ≡ Some reason) × HasMemory reason
     × EndCause new_link s.link t.link t.done t.last reason
 
--- how long a head was waited for, by the answer of a poll of a connection that had not ended
+-- what the connection did before a poll, where it still does it
+abbrev pub work_before : State → State → Work
+work_before s t = work_on (length s.done) (length t.done) s.work
+
+-- how long the connection waits, by the answer of a poll of one that had not ended
 abbrev pub AnswersInTime : ℕ → State → State → Progress → Type 0
-AnswersInTime moment s t (progress.Pending what) = WaitsSince moment s.since t.since
-AnswersInTime moment s t (progress.Ready reason) = EndsInTime moment s.since t.link t.last reason
+AnswersInTime moment s t (progress.Pending what) =
+    WaitsInTime moment s.link t.link (work_before s t) t.work (what ≡ waiting.Budget)
+AnswersInTime moment s t (progress.Ready reason) =
+    EndsInTime moment s.link t.link (work_before s t) t.work t.last reason
 
 -- One poll at a moment, between two states: what was read and written agrees with the transcript
 -- and the limit, and goes on from the state before; the link did what the lines before set, and the

@@ -10,7 +10,8 @@ use Rattle.h1_link.specs.declared.memory.gate.Gate.TheVariants.{Open}
 use Rattle.h1_transcript.specs.declared.transcript.Entry.{Entry}
 use Rattle.h1_echo.specs.declared.echo.EchoApp.{EchoApp}
 use Rattle.h1_echo.specs.declared.echo.EchoJob.{EchoJob}
-use Rattle.h1_app.specs.View.{View, since_of}
+use Rattle.h1_app.specs.View.{View, work_of}
+use Rattle.h1_app.specs.Work.{Work, reads_head}
 use Rattle.h1_serve.specs.declared.scripted.Scripted.{Scripted}
 
 pub record State : Type 0 where
@@ -30,8 +31,9 @@ pub record State : Type 0 where
   pub writes_due : ℕ
   -- the flushes that weren't ready, which the link counts among the writes as well
   pub flush_waits : ℕ
-  -- since when the reading of a head waits, where one is awaited, in milliseconds
-  pub since : Option ℕ
+  -- what the connection does for which its link may keep it waiting only so long, and since when it
+  -- waits
+  pub work : Work
   -- how many requests more than the first may be served, and whether the server shuts down
   pub limit : Option ℕ
   pub shut : Bool
@@ -54,7 +56,7 @@ start_with limit = record {
   reads_due = 0;
   writes_due = 0;
   flush_waits = 0;
-  since = None;
+  work = reads_head None;
   limit = limit;
   shut = false;
   end = None;
@@ -94,7 +96,7 @@ state_of scripted = record {
   reads_due = reads_due_of scripted.connection.session.link;
   writes_due = writes_due_of scripted.connection.session.link;
   flush_waits = scripted.connection.session.link.flush_waits;
-  since = since_of scripted.connection;
+  work = work_of scripted.connection;
   limit = scripted.connection.limit;
   shut = scripted.shutdown;
   end = scripted.connection.end;

@@ -1,7 +1,7 @@
 -- The way goes on with each step that is done, and ends where one waits or ends the connection.
 use Rattle.std.proofs.Common.{refl}
 use Rattle.h1_app.proofs.GoneLemmas.{end_back, poll_waits, turned_on, way_itself, way_on}
-use Rattle.h1_app.proofs.TimelyLemmas.{ends_on, since_on}
+use Rattle.h1_app.proofs.WorkLemmas.{poll_ends_in_time, poll_waits_in_time}
 use Rattle.h1_app.proofs.connection.Connection.go_on.Goals as goal
 
 pub loop-what-init : goal.loop-what-init
@@ -39,14 +39,17 @@ returns-in-Ends-clause-cause g c = λ before s.
     (c.loop-what.invariant.turned.gone.accounted before s) in (
       c.in-Ends.ensures.end,
       end_back before _ _ _ c.loop-what.invariant.turned.gone.moves.moved.later _ _ c.in-Ends.end
-          (c.in-Ends.ensures.outcome before since),
+          (c.in-Ends.ensures.outcome.1 before since),
     )
 
 pub returns-in-Waits-clause-timely : goal.returns-in-Waits-clause-timely
 returns-in-Waits-clause-timely g c =
-    since_on c.args.now _ _ _ c.loop-what.invariant.since c.in-Waits.ensures.timely
+    rw c.waits_for.ensures (poll_waits_in_time g.L.Link.state c.args.now c.args.self.now c.loop-what.self
+    c.turn.new.self c.loop-what.invariant.begun c.loop-what.invariant.turned.gone.moves
+    c.turn.ensures.turned.gone.moves c.in-Waits.ensures.outcome.0 c.in-Waits.what c.in-Waits.ensures.timely)
 
 pub returns-in-Ends-clause-timely : goal.returns-in-Ends-clause-timely
 returns-in-Ends-clause-timely g c =
-    ends_on c.args.now _ _ (g.L.Link.state c.turn.new.self.session.link) c.turn.new.self.last c.in-Ends.end
-    c.loop-what.invariant.since c.in-Ends.ensures.timely
+    poll_ends_in_time g.L.Link.state c.args.now c.args.self.now c.loop-what.self c.turn.new.self
+    c.loop-what.invariant.begun c.loop-what.invariant.turned.gone.moves c.turn.ensures.turned.gone.moves
+    c.in-Ends.ensures.outcome.0 c.in-Ends.end c.in-Ends.ensures.timely

@@ -4,7 +4,7 @@ use Rattle.h1_app.proofs.Words.{view_of, limit_of}
 use Rattle.h1_app.specs.Words.{arc_value}
 use Rattle.h1_app.proofs.AgreesLemmas.{agrees_sound}
 use Rattle.h1_app.proofs.GoneLemmas.{cause_same}
-use Rattle.h1_app.proofs.TimelyLemmas.{timely_same}
+use Rattle.h1_app.proofs.WorkLemmas.{timely_same}
 use Rattle.h1_app.proofs.LeavesLemmas.{given_none}
 use Rattle.h1_app.proofs.LinkedLemmas.{accounted_budget}
 use Rattle.h1_app.proofs.SoundLemmas.{sound_linked}

@@ -80,8 +80,7 @@ returns-clause-timely g c =
     let old = c.self.inside.exchange in
     elim c.match-self.branch [
       | in-Next w ↦ rw (← c.self.view_is, w.outcome-is, w.self-inside-is)
-          (timely_next g.L.Link.state c.args.now old w.next_exchange.new.exchange w.in-Next.is
-          w.next_exchange.ensures)
+          (timely_next g.L.Link.state c.args.now old w.next_exchange.new.exchange w.next_exchange.ensures)
       | in_default w ↦ rw (← c.self.view_is, w.outcome-is, w.self-inside-is)
           (w.step-outcome.ensures.stepped.timely)
     ]

@@ -20,11 +20,12 @@ returns-in-Pending-clause-stepped g c =
     let set = keepalive_set session.settings time in
     let h = at_head state runs c.args.now session _ set _ _ _ (set_alike session.settings time) c.requires.ready.sound
     c.requires.at reads in
-    set_stepped state g.SV.ServeHttp.pends _ runs c.args.now c.args.shutdown _ _ set _ (set_alike session.settings time)
+    set_stepped state g.SV.ServeHttp.pends _ runs c.args.now c.args.shutdown _ _ set _ c.requires.at (set_alike session.settings time)
     (none_stepped state g.SV.ServeHttp.pends _ runs c.args.now c.args.shutdown _ _ _ _ h
     h.reads.answer.0 refl (none_few state _ _ _ _ h)
     (waits_in_time state c.args.now _ _ _ stage stage
-    (minute c.args.now session.settings c.args.shutdown h.awaiting.times) c.requires.at waiting.Read c.requires.at h)
+    (minute c.args.now session.settings c.args.shutdown h.awaiting.times) c.requires.ready.budget c.requires.at
+    c.requires.at waiting.Read h)
     (head_waits state g.SV.ServeHttp.pends runs _ _ _ _ c.requires.ready.budget c.requires.at h))
 
 pub returns-in-Ready-Ok-None-clause-stepped : goal.returns-in-Ready-Ok-None-clause-stepped
@@ -44,12 +45,13 @@ returns-in-Ready-Ok-None-clause-stepped g c =
     let set = keepalive_set session.settings time in
     let h = at_head state runs c.args.now session _ set _ _ _ (set_alike session.settings time) c.requires.ready.sound
     c.requires.at reads in
-    set_stepped state g.SV.ServeHttp.pends _ runs c.args.now c.args.shutdown _ _ set _ (set_alike session.settings time)
+    set_stepped state g.SV.ServeHttp.pends _ runs c.args.now c.args.shutdown _ _ set _ c.requires.at (set_alike session.settings time)
     (none_stepped state g.SV.ServeHttp.pends _ runs c.args.now c.args.shutdown _ _ _ _ h
     (closed_none state _ _ _ _ h) refl
     (none_few state _ _ _ _ h)
     (none_in_time state c.args.now _ _ _ stage stage
-    (minute c.args.now session.settings c.args.shutdown h.awaiting.times) c.requires.at _ h)
+    (minute c.args.now session.settings c.args.shutdown h.awaiting.times) c.requires.ready.budget c.requires.at
+    c.requires.at _ h)
     (closed_ends state _ _ _ _ h))
 
 pub returns-in-Ready-Err-clause-stepped : goal.returns-in-Ready-Err-clause-stepped
@@ -68,11 +70,12 @@ returns-in-Ready-Err-clause-stepped g c =
     let set = keepalive_set session.settings time in
     let h = at_head state runs c.args.now session _ set _ _ _ (set_alike session.settings time) c.requires.ready.sound
     c.requires.at reads in
-    set_stepped state g.SV.ServeHttp.pends _ runs c.args.now c.args.shutdown _ _ set _ (set_alike session.settings time)
+    set_stepped state g.SV.ServeHttp.pends _ runs c.args.now c.args.shutdown _ _ set _ c.requires.at (set_alike session.settings time)
     (none_stepped state g.SV.ServeHttp.pends _ runs c.args.now c.args.shutdown _ _ _ _ h
     h.reads.answer.0 refl (none_few state _ _ _ _ h)
     (fails_in_time state c.args.now _ _ _ stage stage
-    (minute c.args.now session.settings c.args.shutdown h.awaiting.times) c.requires.at _ h)
+    (minute c.args.now session.settings c.args.shutdown h.awaiting.times) c.requires.ready.budget c.requires.at
+    c.requires.at _ h)
     (failed_ends state _ _ _ _ h))
 
 pub returns-in-Ready-Ok-Head-clause-stepped : goal.returns-in-Ready-Ok-Head-clause-stepped
@@ -92,7 +95,7 @@ returns-in-Ready-Ok-Head-clause-stepped g c =
     let set = keepalive_set session.settings time in
     let h = at_head state runs c.args.now session _ set _ _ _ (set_alike session.settings time) c.requires.ready.sound
     c.requires.at reads in
-    set_stepped state g.SV.ServeHttp.pends _ runs c.args.now c.args.shutdown _ _ set _ (set_alike session.settings time)
+    set_stepped state g.SV.ServeHttp.pends _ runs c.args.now c.args.shutdown _ _ set _ c.requires.at (set_alike session.settings time)
     (rw c.begin.ensures.session (begun_stepped state g.SV.ServeHttp.begins g.SV.ServeHttp.pends _
     runs c.args.now c.args.shutdown _ _ _ _ _ _ c.requires.at h
     (rw c.begin.ensures.session at c.begin.ensures.begun)))

@@ -17,7 +17,7 @@ returns-in-Some-clause-stepped g c = λ shutdown.
     finish_stepped g.L.Link.state _ _ _ c.args.now shutdown _ _ _ _ _ c.requires.ready
     (rw c.requires.at at c.requires.ready.sound) c.requires.at
     c.poll_finish_body-answer.ensures.writes c.written_bytes-entry.ensures
-    (rw (c.last_entry-entry.ensures.value, c.in-Ready-Ok.is, told) (refl, rw c.in-Some.is refl))
+    (rw (c.last_entry-entry.ensures.value, c.in-Ready-Ok.is, told) (refl, rw c.in-Some.is (refl, refl)))
 
 pub returns-in-None-clause-stepped : goal.returns-in-None-clause-stepped
 returns-in-None-clause-stepped g c = λ shutdown.
@@ -33,7 +33,7 @@ returns-in-Ready-Err-clause-stepped g c = λ shutdown.
     finish_stepped g.L.Link.state _ _ _ c.args.now shutdown _ _ _ _ _ c.requires.ready
     (rw c.requires.at at c.requires.ready.sound) c.requires.at
     c.poll_finish_body-answer.ensures.writes c.written_bytes-entry.ensures
-    (rw (c.last_entry-entry.ensures.value, c.in-Ready-Err.is, told) (refl, rw c.failure.ensures refl))
+    (rw (c.last_entry-entry.ensures.value, c.in-Ready-Err.is, told) (refl, refl, rw c.failure.ensures refl))
 
 pub returns-in-Ready-Err-clause-leaves : goal.returns-in-Ready-Err-clause-leaves
 returns-in-Ready-Err-clause-leaves g c =

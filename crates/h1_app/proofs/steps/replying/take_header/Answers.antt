@@ -4,12 +4,17 @@ use Rattle.h1_app.specs.declared.exchange.Stage.TheVariants as at
 use Rattle.h1_app.proofs.CallSteps.{call_continues, call_leaves}
 use Rattle.h1_app.proofs.ReplySteps.{taken_header_stepped}
 use Rattle.h1_app.proofs.StepLemmas.{unchanged_stepped}
+use Rattle.h1_app.proofs.TimelyLemmas.{fails_anyhow}
 use Rattle.h1_app.proofs.steps.replying.take_header.Goals as goal
 
 pub returns-in-Err-clause-stepped : goal.returns-in-Err-clause-stepped
 returns-in-Err-clause-stepped g c = λ shutdown.
     unchanged_stepped g.L.Link.state _ _ _ c.args.now shutdown _ _ c.last_entry-entry.result.now _
-    c.requires.ready c.last_entry-entry.ensures.value refl refl (search rules)
+    c.requires.ready c.last_entry-entry.ensures.value refl refl
+    (λ moves. fails_anyhow g.L.Link.state c.args.now c.args.exchange.now.stage c.args.exchange.now.stage
+    c.args.exchange.now.session c.args.exchange.now.session _ moves (omega arith) c.in-Err.error
+    (rw c.in-Err.ensures.err refl))
+    (search rules)
 
 pub returns-clause-stepped : goal.returns-clause-stepped
 returns-clause-stepped g c = λ shutdown.
