@@ -1,4 +1,5 @@
-//! Sessions over a link in memory, call by call. All moments are milliseconds.
+//! Sessions over a link in memory, call by call. All moments are milliseconds. None of the functions
+//! here promises anything: an expectation that isn't met ends the test.
 mod bodies;
 mod calls;
 mod heads;

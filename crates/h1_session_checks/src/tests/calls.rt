@@ -10,47 +10,47 @@ use std::alloc::Global;
 use std::process::Abort;
 
 /// Reads the head of a request.
-pub fn read_head(rt: &impl Abort, timed: &mut Timed, now: u64) -> Told {
+pub(crate) fn read_head(rt: &impl Abort, timed: &mut Timed, now: u64) -> Told {
     assert!(rt; !timed.session.has_request());
     head_answer(timed.session.poll_read_request(now))
 }
 
 /// Reads payload of the request's body.
-pub fn read_body(rt: &impl Abort, timed: &mut Timed, now: u64) -> Told {
+pub(crate) fn read_body(rt: &impl Abort, timed: &mut Timed, now: u64) -> Told {
     assert!(rt; timed.session.has_request());
     answer(timed.session.poll_read_body_bytes(now))
 }
 
 /// Reads the rest of the request's body.
-pub fn drain(rt: &impl Abort, timed: &mut Timed, now: u64) -> Told {
+pub(crate) fn drain(rt: &impl Abort, timed: &mut Timed, now: u64) -> Told {
     assert!(rt; timed.session.has_request());
     answer(timed.session.poll_drain_request_body(now))
 }
 
 /// Asks whether the link may serve the next request.
-pub fn reuse(rt: &impl Abort, timed: &mut Timed, now: u64) -> Told {
+pub(crate) fn reuse(rt: &impl Abort, timed: &mut Timed, now: u64) -> Told {
     assert!(rt; timed.session.has_request() && timed.session.is_free());
     answer(timed.session.poll_reuse(now))
 }
 
 /// Whether the link may serve the next request.
-pub fn is_reusable(timed: &Timed) -> bool {
+pub(crate) fn is_reusable(timed: &Timed) -> bool {
     timed.session.is_reusable()
 }
 
 /// Begins the next request.
-pub fn go_on(rt: &impl Abort, timed: &mut Timed) {
+pub(crate) fn go_on(rt: &impl Abort, timed: &mut Timed) {
     assert!(rt; timed.session.is_reusable());
     timed.session.next_request();
 }
 
 /// Whether nothing was read of a request and no header was taken up.
-pub fn is_new(timed: &Timed) -> bool {
+pub(crate) fn is_new(timed: &Timed) -> bool {
     !timed.session.has_request() && !timed.session.is_headed()
 }
 
 /// Hands in the final header of a reply of this length.
-pub fn hand_in_header(
+pub(crate) fn hand_in_header(
     rt: &(impl Abort + AllocGlobal),
     timed: &mut Timed,
     len: u64,
@@ -70,7 +70,7 @@ fn header_of(alloc: Global, len: u64) -> Result<ResponseHeader, Error> {
 }
 
 /// Goes on with the header before.
-pub fn go_on_with_header(rt: &impl Abort, timed: &mut Timed, now: u64) -> Told {
+pub(crate) fn go_on_with_header(rt: &impl Abort, timed: &mut Timed, now: u64) -> Told {
     assert!(rt; timed.session.has_request() && now < YEAR_10000);
     assert!(rt; timed.session.step() == Step::Head);
     let mut none = None;
@@ -78,12 +78,12 @@ pub fn go_on_with_header(rt: &impl Abort, timed: &mut Timed, now: u64) -> Told {
 }
 
 /// Whether the header says that the connection is kept.
-pub fn is_kept(timed: &Timed) -> bool {
+pub(crate) fn is_kept(timed: &Timed) -> bool {
     timed.session.reply_keeps()
 }
 
 /// Hands in a piece of this length.
-pub fn hand_in_piece(
+pub(crate) fn hand_in_piece(
     rt: &(impl Abort + AllocGlobal),
     timed: &mut Timed,
     len: usize,
@@ -100,7 +100,7 @@ fn piece_of(alloc: Global, len: usize) -> Result<Bytes, Error> {
 }
 
 /// Goes on with the piece before.
-pub fn go_on_with_piece(rt: &impl Abort, timed: &mut Timed, now: u64) -> Told {
+pub(crate) fn go_on_with_piece(rt: &impl Abort, timed: &mut Timed, now: u64) -> Told {
     assert!(rt; timed.session.is_headed());
     let Step::Piece(_) = timed.session.step() else {
         return Nothing;
@@ -110,14 +110,14 @@ pub fn go_on_with_piece(rt: &impl Abort, timed: &mut Timed, now: u64) -> Told {
 }
 
 /// Ends the body of the reply, or goes on with its end.
-pub fn end(rt: &impl Abort, timed: &mut Timed, now: u64) -> Told {
+pub(crate) fn end(rt: &impl Abort, timed: &mut Timed, now: u64) -> Told {
     let step = timed.session.step();
     assert!(rt; step == Step::Free || step == Step::Finish);
     answer(timed.session.poll_finish_body(now))
 }
 
 /// How many bytes of the reply were written.
-pub fn written(timed: &Timed) -> u64 {
+pub(crate) fn written(timed: &Timed) -> u64 {
     timed.session.written_bytes()
 }
 

@@ -3,7 +3,7 @@ use super::Timed;
 use h1_error::Error;
 
 /// The peer sends so many bytes more.
-pub fn send(timed: &mut Timed, count: usize) -> Result<(), Error> {
+pub(crate) fn send(timed: &mut Timed, count: usize) -> Result<(), Error> {
     let Some((piece, rest)) = timed.rest.split_at_checked(count) else {
         return Ok(());
     };
@@ -12,21 +12,21 @@ pub fn send(timed: &mut Timed, count: usize) -> Result<(), Error> {
 }
 
 /// The peer takes so many bytes more.
-pub fn make_room(timed: &mut Timed, count: u64) {
+pub(crate) fn make_room(timed: &mut Timed, count: u64) {
     timed.session.with_link(|link| link.room(count));
 }
 
 /// The peer takes nothing more, and no flush.
-pub fn block(timed: &mut Timed) {
+pub(crate) fn block(timed: &mut Timed) {
     timed.session.with_link(|link| link.block());
 }
 
 /// How many bytes the link gave.
-pub fn given(timed: &Timed) -> usize {
+pub(crate) fn given(timed: &Timed) -> usize {
     timed.session.link().given().len()
 }
 
 /// Whether the link was shut.
-pub fn is_shut(timed: &Timed) -> bool {
+pub(crate) fn is_shut(timed: &Timed) -> bool {
     timed.session.link().is_shut()
 }

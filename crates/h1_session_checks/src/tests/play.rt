@@ -66,7 +66,7 @@ pub enum Step {
 
 /// Plays the steps with a session whose peer is to send these bytes. It promises nothing: an
 /// expectation that isn't met ends the test.
-pub fn play(
+pub(crate) fn play(
     rt: &(impl Abort + AllocGlobal),
     bytes: &'static [u8],
     steps: &[Step],
@@ -76,7 +76,7 @@ pub fn play(
 }
 
 /// Plays the steps with a session that read a head of this length at moment 0.
-pub fn play_asked(
+pub(crate) fn play_asked(
     rt: &(impl Abort + AllocGlobal),
     bytes: &'static [u8],
     len: usize,
@@ -87,13 +87,17 @@ pub fn play_asked(
 }
 
 /// Plays the steps with a session that wrote the head of a reply of this length at moment 0.
-pub fn play_headed(rt: &(impl Abort + AllocGlobal), len: u64, steps: &[Step]) -> Result<(), Error> {
+pub(crate) fn play_headed(
+    rt: &(impl Abort + AllocGlobal),
+    len: u64,
+    steps: &[Step],
+) -> Result<(), Error> {
     let mut timed = headed(rt, len)?;
     play_on(rt, &mut timed, steps)
 }
 
 /// A session that read a head of this length at moment 0.
-pub fn asked(
+pub(crate) fn asked(
     rt: &(impl Abort + AllocGlobal),
     bytes: &'static [u8],
     len: usize,
@@ -111,7 +115,7 @@ fn headed(rt: &(impl Abort + AllocGlobal), len: u64) -> Result<Timed, Error> {
 }
 
 /// Plays the steps, one after the other.
-pub fn play_on(
+pub(crate) fn play_on(
     rt: &(impl Abort + AllocGlobal),
     timed: &mut Timed,
     steps: &[Step],

@@ -21,7 +21,7 @@ pub enum Setting {
 }
 
 /// Sets this.
-pub fn set(timed: &mut Timed, setting: Setting) {
+pub(crate) fn set(timed: &mut Timed, setting: Setting) {
     match setting {
         Setting::Keepalive(seconds) => set_keepalive(timed, seconds),
         Setting::ReadTimeout(timeout) => set_read_timeout(timed, timeout),
@@ -68,19 +68,19 @@ fn set_pipelining(timed: &mut Timed, pipelining: bool) {
     timed.session.set_pipelining_enabled(pipelining);
 }
 
-pub fn read_timeout(timed: &Timed) -> Option<u64> {
+pub(crate) fn read_timeout(timed: &Timed) -> Option<u64> {
     timed.session.get_read_timeout()
 }
 
-pub fn drain_timeout(timed: &Timed) -> Option<u64> {
+pub(crate) fn drain_timeout(timed: &Timed) -> Option<u64> {
     timed.session.get_total_drain_timeout()
 }
 
-pub fn write_timeout(timed: &Timed) -> Option<u64> {
+pub(crate) fn write_timeout(timed: &Timed) -> Option<u64> {
     timed.session.get_write_timeout()
 }
 
 /// All that is set.
-pub fn settings(timed: &Timed) -> Settings {
+pub(crate) fn settings(timed: &Timed) -> Settings {
     timed.session.settings()
 }
