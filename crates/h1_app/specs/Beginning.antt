@@ -1,5 +1,5 @@
 -- What an exchange begins with.
-use Rattle.std.specs.Prelude.{◌≡◌, ℕ, ◌<◌, List, [], length, Bool, true, false, Option, Some, None}
+use Rattle.std.specs.Prelude.{replicate, ◌≡◌, ℕ, ◌<◌, List, [], length, Bool, true, false, Option, Some, None}
 use Rattle.h1_app.specs.Words.{RequestView, SessionView, Settings, Request, Entry, Open, Stage, Outcome, Error, ErrorType, no_memory}
 use Rattle.h1_app.specs.declared.exchange.Stage.TheVariants as stage
 use Rattle.h1_app.specs.declared.exchange.Outcome.TheVariants as outcome
@@ -18,6 +18,7 @@ pub record IsNewEntry (request : Request) (settings : Settings) (e : Entry) : Ty
   pub sent_head : e.sent_head ≡ None
   pub sent_body : e.sent_body ≡ None
   pub date : e.date ≡ 0
+  pub date_text : e.date_text ≡ replicate 29 0
   pub keep : e.keep ≡ false
   pub written : e.written ≡ 0
   pub how : e.how ≡ Open

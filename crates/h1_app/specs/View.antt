@@ -1,5 +1,6 @@
 -- What contracts see of a connection.
 use Rattle.std.specs.Prelude.{◌≡◌, ℕ, List, [], ◌++◌, option_to_list, Option, Some, None}
+use Rattle.h1_server.specs.Keepalive.{new_settings}
 use Rattle.h1_app.specs.Words.{End, SessionView, Entry, Exchange, Stage}
 use Rattle.h1_app.specs.Work.{Work, reads_head, work_at}
 use Rattle.h1_app.specs.declared.options.HttpServerOptions.{HttpServerOptions}
@@ -45,6 +46,7 @@ work_of view = work_at view.stage view.session
 pub record IsNewConnection {L C A J : Type 0} (application : A) (options : Option HttpServerOptions)
     (start : L) (made : View L C A J) : Type 0 where
   pub link : made.session.link ≡ start
+  pub settings : made.session.settings ≡ record new_settings { reuses = limit_of options }
   pub app : made.app ≡ application
   pub limit : made.limit ≡ limit_of options
   pub done : made.done ≡ []

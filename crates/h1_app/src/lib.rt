@@ -29,6 +29,3 @@ pub use laws::{
 pub use options::HttpServerOptions;
 pub use reused::{HttpPersistentSettings, ReusedHttpStream};
 pub use server::{HttpServer, HttpServerApp, NoModules, Plain};
-
-#[cfg(test)]
-mod tests;

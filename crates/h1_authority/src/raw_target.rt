@@ -24,7 +24,20 @@ pub enum RawTargetAuthority<'a> {
 }
 
 /// The authority that a request target names by its bytes.
+#[inline(always)]
 pub fn raw_target_authority(target: &[u8]) -> RawTargetAuthority<'_>
+    ensures { seen_as result ≡ class_of target.now }
+{
+    // Most targets begin with a path.
+    match target.first() {
+        Some(b'/') => RawTargetAuthority::None,
+        _ => authority_behind_scheme(target),
+    }
+}
+
+/// The same by a search for the end of a scheme.
+#[inline(never)]
+fn authority_behind_scheme(target: &[u8]) -> RawTargetAuthority<'_>
     ensures { seen_as result ≡ class_of target.now }
 {
     let Some(end) = scheme_end(target) else {

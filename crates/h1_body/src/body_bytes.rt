@@ -6,6 +6,7 @@ ghost use Rattle.std.specs.Cmp.{partial_equiv_from_equiv};
 
 use bytes::Bytes;
 use h1_error::{Error, ErrorType};
+use h1_head::Room;
 use std::alloc::Global;
 use std::marker::Model;
 use std::mem;
@@ -129,6 +130,18 @@ impl BodyBytes {
             return Ok(());
         }
         self.append(piece.as_slice())
+    }
+
+    /// Puts a copy of these bytes in the room's memory, in place of what is held, and hands it out too.
+    #[inline(always)]
+    pub(crate) fn hold_copy(&mut self, bytes: &[u8], room: &mut Room) -> Result<Bytes, Error>
+        ensures ok { IfOk result (λ piece. (piece ≡ bytes.now) × (self.new ≡ bytes.now)) }
+        ensures err { IfErr result (λ error. (error ≡ no_memory) × (self.new ≡ self.old)) }
+    {
+        let copy = room.copy(bytes)?;
+        let piece = copy.clone()?;
+        *self = BodyBytes::from_shared(self.allocator(), copy);
+        Ok(piece)
     }
 
     fn allocator(&self) -> Global {

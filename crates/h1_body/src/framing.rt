@@ -18,6 +18,7 @@ pub enum Framing {
 }
 
 /// How the body of a request ends: by chunks, by its length, or at once.
+#[inline(always)]
 pub fn framing_of(head: &RequestHeader) -> Framing
     ensures { result ≡ framing head.now }
 {

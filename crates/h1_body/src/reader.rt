@@ -12,6 +12,10 @@ use crate::chunking::{Chunking, state_of, step};
 use crate::{BodyBytes, Fed, FeedState, Framing, Taken};
 use bytes::{Bytes, BytesMut};
 use h1_error::Error;
+use h1_head::Room;
+
+/// A first run of payload that has at most so many bytes is kept in memory that small pieces share.
+const SHORT: usize = 512;
 
 /// Reads the payload out of the bytes of one body.
 #[derive(Clone, Copy, Debug, PartialEq, Eq)]
@@ -116,9 +120,15 @@ impl BodyReader {
         })
     }
 
-    /// Takes as `take` does, and adds a copy of the payload to what is kept.
+    /// Takes as `take` does, and adds a copy of the payload to what is kept. A short run before which
+    /// nothing is kept is copied into the room's memory, and the copy itself is handed out.
     #[inline(always)]
-    pub fn take_into(&mut self, buf: &mut BytesMut, kept: &mut BodyBytes) -> Result<Taken, Error>
+    pub fn take_into(
+        &mut self,
+        buf: &mut BytesMut,
+        kept: &mut BodyBytes,
+        room: &mut Room,
+    ) -> Result<Taken, Error>
         ensures ok { IfOk result
             (λ taken. Takes self.old self.new buf.old.items buf.new.items taken
             × (kept.new ≡ kept.old ++ payload_bytes taken.payload)) }
@@ -128,7 +138,7 @@ impl BodyReader {
     {
         let mut after = *self;
         let fed = after.feed(buf.as_slice());
-        let payload = keep(buf, fed.payload.start, fed.payload.end, kept)?;
+        let payload = keep(buf, fed.payload.start, fed.payload.end, kept, room)?;
         *self = after;
         Ok(Taken {
             payload,
@@ -172,6 +182,33 @@ fn cut(buf: &mut BytesMut, start: usize, end: usize) -> Result<Option<Bytes>, Er
 /// Cuts, and adds a copy of what is handed out to what is kept.
 #[inline(always)]
 fn keep(
+    buf: &mut BytesMut,
+    start: usize,
+    end: usize,
+    kept: &mut BodyBytes,
+    room: &mut Room,
+) -> Result<Option<Bytes>, Error>
+    requires ordered { start ≤ end }
+    requires within { end ≤ length buf.old.items }
+    ensures ok { IfOk result (λ piece. (piece ≡ some_bytes (slice_range buf.old.items start end))
+        × (buf.new.items ≡ drop end buf.old.items)
+        × (kept.new ≡ kept.old ++ slice_range buf.old.items start end)) }
+    ensures err { IfErr result (λ error. (error ≡ no_memory) × (buf.new ≡ buf.old)
+        × (kept.new ≡ kept.old)) }
+{
+    if start == end {
+        return cut(buf, start, end);
+    }
+    if end - start <= SHORT && kept.is_empty() {
+        let piece = kept.hold_copy(&buf.as_slice()[start..end], room)?;
+        buf.advance(end);
+        return Ok(Some(piece));
+    }
+    keep_behind(buf, start, end, kept)
+}
+
+/// The same of a piece that is long or has others before it.
+fn keep_behind(
     buf: &mut BytesMut,
     start: usize,
     end: usize,

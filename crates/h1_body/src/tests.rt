@@ -2,6 +2,7 @@
 use crate::{BodyBytes, BodyReader, BodyWriter, FeedState, FixedBuffer, Framing, Wire};
 use bytes::{Bytes, BytesMut};
 use h1_error::{Error, ErrorType};
+use h1_head::Room;
 use std::alloc::Global;
 use std::test::Fail;
 
@@ -192,13 +193,14 @@ fn all_payload_that_is_taken_is_kept(rt: HostRuntime) -> Result<(), Fail> {
     let mut buf = BytesMut::copy_from_slice(rt.alloc(), chunks)?;
     let mut reader = BodyReader::new(CHUNKED);
     let mut kept = BodyBytes::new(rt.alloc());
+    let mut room = Room::new(rt.alloc());
     let expected: [(Option<&[u8]>, &[u8], FeedState); 3] = [
         (Some(b"abc"), b"abc", FeedState::More),
         (Some(b"de"), b"abcde", FeedState::More),
         (None, b"abcde", FeedState::Done),
     ];
     for (piece, all, state) in expected {
-        let taken = reader.take_into(&mut buf, &mut kept)?;
+        let taken = reader.take_into(&mut buf, &mut kept, &mut room)?;
         assert_eq!(rt; bytes_of(&taken.payload), piece);
         assert_eq!(rt; kept.as_slice(), all);
         assert_eq!(rt; taken.state, state);

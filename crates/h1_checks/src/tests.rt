@@ -4,8 +4,10 @@ ghost use Rattle.h1_error.specs.declared.moment.TheConstants.{YEAR_10000};
 
 mod applications;
 mod failing;
+mod generated;
 mod play;
 mod reuse;
+mod servers;
 mod serving;
 mod waiting;
 

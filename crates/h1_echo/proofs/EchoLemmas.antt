@@ -1,7 +1,7 @@
 -- Steps of the echo application.
 use Rattle.std.proofs.Common.{◌≡◌, ◌≢◌, ◌⊎◌, inl, inr, ℕ, ◌^◌, ◌<◌, ◌==◌, true, false, List, [], ◌∷◌, ◌++◌, length, Option, Some, None, IfSome, IfNone, IsSome, refl, sym, ap, ◌∙◌, subst, arith}
 use Rattle.h1_transfer.proofs.CalledLemmas.{called_itself, called_on}
-use Rattle.std.specs.Prelude.{Bool, cond, not, bytes_eq, codes, option_map, Result, Ok, Err, IfOk, IfErr, OnOk, decimal}
+use Rattle.std.specs.Prelude.{Bool, cond, not, bytes_eq, codes, option_map, Result, Ok, Err, IfOk, IfErr, decimal}
 use Rattle.std.specs.Char.{digit_value}
 use Rattle.std.specs.Str.Parse.{AllDigits}
 use Rattle.std.proofs.lemmas.Fmt.{decimal_is_IsNumeral, decimal_digit}
@@ -16,7 +16,7 @@ use Rattle.h1_server.specs.Payload.{ReadsPayload}
 use Rattle.h1_server.specs.declared.limit.Limit.{Limit}
 use Rattle.h1_transfer.specs.Payload.{refused_behind}
 use Rattle.h1_echo.proofs.Words.{Reading, refused_reply, echo_settings}
-use Rattle.h1_echo.specs.EchoRun.{EchoRuns, StopCause, IsStopOf, Gathers}
+use Rattle.h1_echo.specs.EchoRun.{EchoRuns, StopCause, IsStopOf}
 use Rattle.h1_application.specs.Application.{given_by, IsAskedFor}
 use Rattle.h1_echo.specs.declared.echo.Stopped.TheVariants as stopped
 use Rattle.h1_echo.specs.Echo.{EchoGives, echo_reply}
@@ -96,14 +96,12 @@ stop_cause P {L} {C} state now old new error stop again reads is =
         (error, refused (λ never. let clash = sym is ∙ never in cc))
 
 -- nothing is read yet
-pub reading_itself : {L C : Type 0} (state : L → LinkState) (body : List ℕ) (s : SessionView L C)
-    → IsSome s.request → IsSome s.body.kept → IsSome s.budget
-    → Reading state body body s s
-reading_itself state body s request kept budget = record {
+pub reading_itself : {L C : Type 0} (state : L → LinkState) (s : SessionView L C)
+    → IsSome s.request → IsSome s.body.kept → IsSome s.budget → Reading state s s
+reading_itself state s request kept budget = record {
   only = reads_itself state s;
   free = record { refused = refl; waits = refl; link_waits = refl; calls = called_itself (state s.link) };
   settings = refl;
-  body = λ h. h;
   request = request;
   kept = kept;
   budget = budget;
@@ -114,12 +112,10 @@ is_some_mapped f None h = absurd (false≢true h)
 is_some_mapped f (Some x) h = refl
 
 -- one read more
-pub reading_on : {L C : Type 0} (state : L → LinkState) (before now then : List ℕ)
-    (old new next : SessionView L C) → Reading state before now old new
-    → ReadsOnly state new next → ReadsAtOnce state new next → next.settings ≡ new.settings
-    → (now ≡ payload_of new → then ≡ payload_of next)
-    → Reading state before then old next
-reading_on state before now then old new next reading reads free settings body = record {
+pub reading_on : {L C : Type 0} (state : L → LinkState) (old new next : SessionView L C)
+    → Reading state old new → ReadsOnly state new next → ReadsAtOnce state new next
+    → next.settings ≡ new.settings → Reading state old next
+reading_on state old new next reading reads free settings = record {
   only = reads_on state old new next reading.only reading.free reads;
   free = record {
     refused = free.refused ∙ reading.free.refused;
@@ -128,20 +124,10 @@ reading_on state before now then old new next reading reads free settings body =
     calls = called_on _ _ _ _ _ reading.free.calls free.calls;
   };
   settings = settings ∙ reading.settings;
-  body = λ h. body (reading.body h);
   request = subst IsSome (sym reads.request) reading.request;
   kept = subst IsSome (sym reads.kept) (is_some_mapped _ new.body.kept reading.kept);
   budget = subst IsSome (sym reads.budget) (is_some_mapped _ new.budget reading.budget);
 }
-
--- what was gathered goes on with the last read
-pub reading_gathers : {L C : Type 0} (before now then : List ℕ) (old new next : SessionView L C)
-    (stop : Stopped) → (before ≡ payload_of old → now ≡ payload_of new)
-    → Gathers now then new next (Some stop) → Gathers before then old next (Some stop)
-reading_gathers before now then old new next stopped.Whole first second = λ h. second (first h)
-reading_gathers before now then old new next stopped.Refused first second = λ h. second (first h)
-reading_gathers before now then old new next stopped.Waits first second = λ h. second (first h)
-reading_gathers before now then old new next (stopped.Failed error) first second = tt
 
 coding_name_is : is_token (codes "transfer-encoding") ≡ true
 unfolding is_token_byte
@@ -155,15 +141,6 @@ coding_is_a_line = rw coding_name_is refl
 pub length_value : (value : List ℕ) (n : ℕ) → value ≡ decimal n → n < 2 ^ 64
     → line_fault (codes "content-length") value ≡ None
 length_value value n is small = rw is (length_is_a_line n small)
-
--- a line that was appended
-pub appended : (result : Result (Unit {0}) Error) (old now : ResponseView)
-    (name value wanted : List ℕ) → value ≡ wanted
-    → OnOk result (now ≡ record old { fields = old.fields ++ (name, value) ∷ [] })
-    → IfOk result (λ _. now ≡ record old { fields = old.fields ++ (name, wanted) ∷ [] })
-appended (Ok done) old now name value wanted is h =
-    subst (λ v. now ≡ record old { fields = old.fields ++ (name, v) ∷ [] }) is h
-appended (Err error) old now name value wanted is h = tt
 
 -- what the echo application sets leaves it alone how many requests may follow
 set_reuses : (request : Option Request) (old begun : Settings) → IsSome request
@@ -224,39 +201,35 @@ answers given reply (Ok r) gives is small err =
 answers given reply (Err error) gives is small err = err
 
 -- the reading of one call, and what the reply to it depends on
-module _ {L C : Type 0} (state : L → LinkState) (before now : List ℕ)
-    (old begun new : SessionView L C) (request : IsSome old.request)
-    (set : begun ≡ record old { settings = begun.settings })
+module _ {L C : Type 0} (state : L → LinkState) (old begun new : SessionView L C)
+    (request : IsSome old.request) (set : begun ≡ record old { settings = begun.settings })
     (settings : IfSome old.request (λ r. begun.settings ≡ echo_settings r.header old.settings))
     (reads : ReadsOnly state begun new) (kept : new.settings ≡ begun.settings)
-    (body : before ≡ payload_of begun → now ≡ payload_of new) (head : RequestView)
-    (began : Settings) (asked : IsAskedFor head old)
-    (runs : EchoRuns before head began old.settings (payload_of old)) where
+    (head : RequestView) (began : Settings) (asked : IsAskedFor head old)
+    (runs : EchoRuns head began old.settings) where
   left_so : new.settings ≡ echo_settings head began
   left_so = kept
       ∙ settings_are old.request head began old.settings begun.settings request asked settings runs.settings
-
-  body_is : now ≡ payload_of new
-  body_is = body (runs.body ∙ ap (λ (s : SessionView L C). payload_of s) (sym set))
 
   request_is : new.request ≡ old.request
   request_is = reads.request ∙ ap (λ (s : SessionView L C). s.request) set
 
   pub gives_whole : (left : SessionView L C) (result : Result Reply Error) → left ≡ new
       → (how_of new.body ≡ Whole) × (new.body.refused ≡ None)
-      → IfOk result (λ reply. IfSome new.request (λ r. reply ≡ echo_reply r.header now None))
+      → IfOk result
+      (λ reply. IfSome new.request (λ r. reply ≡ echo_reply r.header (payload_of new) None))
       → IfOk result (λ reply. length reply.body < 2 ^ 63)
       → IfErr result (λ error. error ≡ no_memory)
       → GivesReply EchoGives (given_by head began left) (λ error. error ≡ no_memory) (Ready result)
-  gives_whole left result same whole ok fits err =
+  gives_whole left result same ended ok fits err =
       subst (λ s. GivesReply EchoGives (given_by head began s) (λ error. error ≡ no_memory) (Ready result))
       (sym same)
-      (answers (given_by head began new) (echo_reply head now None) result (λ small. record {
+      (answers (given_by head began new) (echo_reply head (payload_of new) None) result (λ small. record {
         small = small;
-        read = λ stands. let never : Whole ≡ Open = sym whole.0 ∙ stands in cc;
+        read = λ stands. let never : Whole ≡ Open = sym ended.0 ∙ stands in cc;
         left = left_so;
-        is = rw (body_is, whole.1) refl;
-      }) (reply_to_head old.request head now result request asked (rw request_is at ok)) fits err)
+        is = rw ended.1 refl;
+      }) (reply_to_head old.request head (payload_of new) result request asked (rw request_is at ok)) fits err)
 
   pub gives_refused : (result : Result Reply Error)
       → (error : Error) × (new.body.refused ≡ Some error)

@@ -1,14 +1,11 @@
 -- How the echo application reads a body.
 use Rattle.std.specs.Prelude.{◌≡◌, ◌<◌, ◌^◌, ◌⊎◌, ℕ, List, length, true, Option, Some, None, IsSome}
-use Rattle.h1_echo.specs.Words.{Error, ErrorType, NoMemory, no_memory, LinkState, RequestView, SessionView, Settings, Stopped, Whole, ReadsOnly, how_of, payload_of, ReadsAtOnce}
+use Rattle.h1_echo.specs.Words.{Error, ErrorType, NoMemory, no_memory, LinkState, RequestView, SessionView, Settings, Stopped, Whole, ReadsOnly, how_of, ReadsAtOnce}
 use Rattle.h1_echo.specs.declared.echo.Stopped.TheVariants as stopped
 use Rattle.h1_echo.specs.Echo.{echo_settings}
 
--- What was gathered is the payload that was handed out, and the settings are those of the start, or
--- those that the target sets.
-pub record EchoRuns (gathered : List ℕ) (head : RequestView) (began now : Settings)
-    (payload : List ℕ) : Type 0 where
-  pub body : gathered ≡ payload
+-- the settings are those of the start, or those that the target sets
+pub record EchoRuns (head : RequestView) (began now : Settings) : Type 0 where
   pub settings : (now ≡ began) ⊎ (now ≡ echo_settings head began)
 
 -- why the reading stopped, or that it goes on
@@ -20,12 +17,6 @@ StopCause state old new (Some stopped.Refused) = (error : Error) × (new.body.re
 StopCause state old new (Some stopped.Waits) = new.body.waits ≡ true
 StopCause state old new (Some (stopped.Failed error)) = error ≡ no_memory
 
--- what was gathered stays all that was read, unless there was no memory for it
-abbrev pub Gathers : {L C : Type 0} → List ℕ → List ℕ → SessionView L C → SessionView L C
-    → Option Stopped → Type 0
-Gathers before now old new (Some (stopped.Failed error)) = Unit {0}
-Gathers before now old new _ = before ≡ payload_of old → now ≡ payload_of new
-
 -- a read that goes on gave something
 abbrev pub IsLonger : List ℕ → List ℕ → Option Stopped → Type 0
 IsLonger before now (Some stopped) = Unit {0}
@@ -36,13 +27,11 @@ abbrev pub IsStopOf : ErrorType → Stopped → Type 0
 IsStopOf NoMemory stop = stop ≡ stopped.Failed no_memory
 IsStopOf _ stop = stop ≡ stopped.Refused
 
--- the reading so far: no read was pending or refused, and what was read is gathered
-pub record Reading {L C : Type 0} (state : L → LinkState) (before now : List ℕ)
-    (old new : SessionView L C) : Type 0 where
+-- the reading so far: no read was pending or refused
+pub record Reading {L C : Type 0} (state : L → LinkState) (old new : SessionView L C) : Type 0 where
   pub only : ReadsOnly state old new
   pub free : ReadsAtOnce state old new
   pub settings : new.settings ≡ old.settings
-  pub body : before ≡ payload_of old → now ≡ payload_of new
   pub request : IsSome new.request
   pub kept : IsSome new.body.kept
   pub budget : IsSome new.budget

@@ -1,11 +1,10 @@
 //! An application that replies with what it was asked.
-ghost use Rattle.std.specs.Prelude.{◌≡◌, ◌<◌, ◌^◌, ◌++◌, ◌∷◌, [], length, codes, decimal, IsSome, IfSome, IfOk, IfErr, Some, None};
+ghost use Rattle.std.specs.Prelude.{◌≡◌, ◌<◌, ◌^◌, [], length, ⊤, IsSome, IfSome, IfOk, IfErr, Some, None};
 ghost use Rattle.h1_error.specs.Memory.{no_memory};
 ghost use Rattle.h1_application.specs.Application.{ReadsOnly, payload_of};
 ghost use Rattle.h1_echo.specs.Echo.{EchoGives, echo_body, echo_fields, echo_reply, refused_reply, echo_settings};
-ghost use Rattle.h1_echo.specs.EchoRun.{EchoRuns, StopCause, Gathers, IsLonger, IsStopOf};
+ghost use Rattle.h1_echo.specs.EchoRun.{EchoRuns, StopCause, IsLonger, IsStopOf};
 
-use bytes::Bytes;
 use futures::task::Poll;
 use h1_application::ServeHttp;
 use h1_body::BodyBytes;
@@ -14,7 +13,6 @@ use h1_head::{RequestHeader, ResponseHeader, Room};
 use h1_link::Link;
 use h1_server::HttpSession;
 use h1_transcript::Reply;
-use itoa::Buffer;
 use std::alloc::Global;
 
 /// How long the write of the body of a reply to `/slow` may wait, in milliseconds.
@@ -25,11 +23,11 @@ const SLOW_WRITE: u64 = 1_000;
 #[derive(Clone, Copy, Debug, PartialEq, Eq)]
 pub struct EchoApp;
 
-/// What was read of a request's body so far.
+/// The echo of one request. What is read of the request's body is kept with the session, and not
+/// here.
 #[derive(Debug, Drop)]
 pub struct EchoJob {
     alloc: Global,
-    body: BodyBytes,
 }
 
 impl<L: Link + Drop, C: Drop> ServeHttp<L, C> for EchoApp {
@@ -39,19 +37,16 @@ impl<L: Link + Drop, C: Drop> ServeHttp<L, C> for EchoApp {
 
     ghost gives = { λ _. EchoGives };
 
-    ghost begins = { λ job. job.body ≡ [] };
+    ghost begins = { λ job. ⊤ };
 
     ghost lawful = { λ _. echo_lawful };
 
     ghost pends = { λ _. 0 };
 
-    ghost runs = { λ _ job head began now payload. EchoRuns job.body head began now payload };
+    ghost runs = { λ _ job head began now payload. EchoRuns head began now };
 
     fn start(&self, alloc: Global) -> Result<EchoJob, Error> {
-        Ok(EchoJob {
-            alloc,
-            body: BodyBytes::new(alloc),
-        })
+        Ok(EchoJob { alloc })
     }
 
     #[tactic(auto, using(crate::proofs::EchoLemmas::reads_with_settings))]
@@ -62,11 +57,11 @@ impl<L: Link + Drop, C: Drop> ServeHttp<L, C> for EchoApp {
         now: u64,
     ) -> Poll<Result<Reply, Error>> {
         set_up(http);
-        match read_body(&mut job.body, http, now) {
+        match read_body(http, now) {
             Stopped::Waits => Poll::Pending,
             Stopped::Failed(error) => Poll::Ready(Err(error)),
             Stopped::Refused => Poll::Ready(refusal(job.alloc)),
-            Stopped::Whole => Poll::Ready(reply_in_room(job, http)),
+            Stopped::Whole => Poll::Ready(reply_in_room(job.alloc, http)),
         }
     }
 }
@@ -102,22 +97,17 @@ fn set_up<L: Link + Drop, C: Drop>(http: &mut HttpSession<L, C>)
 
 /// Reads on until the body ends or can't be read on.
 #[inline(always)]
-fn read_body<L: Link + Drop, C: Drop>(
-    body: &mut BodyBytes,
-    http: &mut HttpSession<L, C>,
-    now: u64,
-) -> Stopped
+fn read_body<L: Link + Drop, C: Drop>(http: &mut HttpSession<L, C>, now: u64) -> Stopped
     requires request { IsSome http.old.request }
     requires kept { IsSome http.old.body.kept }
     requires budget { IsSome http.old.budget }
     ensures reads { ReadsOnly L.state http.old http.new }
     ensures plan { L.same_plan http.old.link http.new.link }
     ensures settings { http.new.settings ≡ http.old.settings }
-    ensures body { Gathers body.old body.new http.old http.new (Some result) }
     ensures cause { StopCause L.state http.old http.new (Some result) }
 {
     'reads: loop {
-        match read_piece(body, http, now) {
+        match read_piece(http, now) {
             Some(stopped) => return stopped,
             None => {}
         }
@@ -126,29 +116,29 @@ fn read_body<L: Link + Drop, C: Drop>(
 
 /// Reads once. None says that there may be more.
 #[inline(always)]
-fn read_piece<L: Link + Drop, C: Drop>(
-    body: &mut BodyBytes,
-    http: &mut HttpSession<L, C>,
-    now: u64,
-) -> Option<Stopped>
+fn read_piece<L: Link + Drop, C: Drop>(http: &mut HttpSession<L, C>, now: u64) -> Option<Stopped>
     requires request { IsSome http.old.request }
     requires kept { IsSome http.old.body.kept }
     requires budget { IsSome http.old.budget }
     ensures reads { ReadsOnly L.state http.old http.new }
     ensures plan { L.same_plan http.old.link http.new.link }
     ensures settings { http.new.settings ≡ http.old.settings }
-    ensures body { Gathers body.old body.new http.old http.new result }
-    ensures longer { IsLonger body.old body.new result }
+    ensures longer { IsLonger (payload_of http.old) (payload_of http.new) result }
     ensures cause { StopCause L.state http.old http.new result }
 {
+    // A body at its end isn't asked for more.
+    if http.is_body_read() && http.body_error().is_none() {
+        return Some(Stopped::Whole);
+    }
     match http.poll_read_body_bytes(now) {
         Poll::Pending => Some(Stopped::Waits),
         Poll::Ready(Ok(None)) => Some(Stopped::Whole),
         Poll::Ready(Err(error)) => Some(stop_of(error)),
-        Poll::Ready(Ok(Some(piece))) => match gather(body, piece) {
-            Ok(_) => None,
-            Err(error) => Some(Stopped::Failed(error)),
-        },
+        Poll::Ready(Ok(Some(_))) => {
+            // What is kept is bounded by its block.
+            let _kept = http.kept_payload().len();
+            None
+        }
     }
 }
 
@@ -162,33 +152,21 @@ fn stop_of(error: Error) -> Stopped
     }
 }
 
-/// Adds a piece, and says how many bytes there are then. The first piece is held, and later ones
-/// are copied behind it.
-#[inline(always)]
-fn gather(body: &mut BodyBytes, piece: Bytes) -> Result<usize, Error>
-    ensures ok { IfOk result (λ count. (body.new ≡ body.old ++ piece)
-        × (count ≡ length body.new)) }
-    ensures err { IfErr result (λ error. error ≡ no_memory) }
-{
-    body.append_piece(piece)?;
-    Ok(body.len())
-}
-
 /// The reply to a request that was read to its end, with its body in the session's room.
 #[inline(always)]
 fn reply_in_room<L: Link + Drop, C: Drop>(
-    job: &EchoJob,
+    alloc: Global,
     http: &mut HttpSession<L, C>,
 ) -> Result<Reply, Error>
     requires { IsSome http.old.request }
     ensures ok { IfOk result (λ reply. IfSome http.old.request
-        (λ request. reply ≡ echo_reply request.header job.now.body None)) }
+        (λ request. reply ≡ echo_reply request.header (payload_of http.old) None)) }
     ensures small { IfOk result (λ reply. length reply.body < 2 ^ 63) }
     ensures err { IfErr result (λ error. error ≡ no_memory) }
     ensures same { http.new ≡ http.old }
 {
     let mut room = http.take_room();
-    let reply = reply_to(job.alloc, &mut room, http.req_header(), job.body.as_slice());
+    let reply = reply_to(alloc, &mut room, http.req_header(), http.kept_payload());
     http.put_room(room);
     reply
 }
@@ -228,7 +206,9 @@ fn body_of(
     room.push(b" ")?;
     room.push(header.raw_path())?;
     room.push(b"\n")?;
-    room.push(handed)?;
+    if !handed.is_empty() {
+        room.push(handed)?;
+    }
     Ok(BodyBytes::from_shared(alloc, room.finish()?))
 }
 
@@ -246,23 +226,10 @@ fn state_length(head: &mut ResponseHeader, target: &[u8], count: u64) -> Result<
     } else if target == b"/chunk".as_slice() {
         head.append_header(b"transfer-encoding", b"chunked")
     } else if target == b"/short".as_slice() {
-        add_length(head, count + 1)
+        head.append_content_length(count + 1)
     } else {
-        add_length(head, count)
+        head.append_content_length(count)
     }
-}
-
-/// Adds the field that states this length.
-#[inline(always)]
-fn add_length(head: &mut ResponseHeader, length: u64) -> Result<(), Error>
-    ensures ok { IfOk result
-        (λ _. head.new
-        ≡ record head.old
-        { fields = head.old.fields ++ (codes "content-length", decimal length) ∷ [] }) }
-    ensures err { IfErr result (λ error. error ≡ no_memory) }
-{
-    let mut digits = Buffer::new();
-    head.append_header(b"content-length", digits.format(length).as_bytes())
 }
 
 /// The reply to a request whose body can't be read on.
@@ -271,7 +238,7 @@ fn refusal(alloc: Global) -> Result<Reply, Error>
     ensures err { IfErr result (λ error. error ≡ no_memory) }
 {
     let mut header = ResponseHeader::build(alloc, 400, Some(1))?;
-    add_length(&mut header, 0)?;
+    header.append_content_length(0)?;
     Ok(Reply {
         header,
         body: BodyBytes::new(alloc),

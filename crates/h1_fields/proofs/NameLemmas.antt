@@ -16,6 +16,10 @@ pub same_name_equal : (a b : List ℕ) → bytes_eq a b ≡ true → same_name a
 same_name_equal a b equal =
     (same_name_decides a b).1 (ap (map to_ascii_lowercase) ((bytes_eq-Decides a b).0 equal))
 
+pub same_name_found : (a b : List ℕ) → bytes_eq b a ≡ true → same_name a b ≡ true
+same_name_found a b equal =
+    (same_name_decides a b).1 (sym (ap (map to_ascii_lowercase) ((bytes_eq-Decides b a).0 equal)))
+
 pub same_name_itself : (name : List ℕ) → same_name name name ≡ true
 same_name_itself name = (same_name_decides name name).1 refl
 

@@ -1,7 +1,7 @@
 -- Values that are one part.
 use Rattle.std.proofs.Common.{◌≡◌, ℕ, ◌<◌, ◌==◌, Bool, true, false, All, Some, List, [], ◌∷◌, ◌++◌, map, reverse, codes, refl, sym, ap, ◌∙◌, subst, arith}
 use Rattle.std.specs.Char.{digit_value}
-use Rattle.std.specs.List.{slice_split}
+use Rattle.std.specs.List.{list_any, slice_split}
 use Rattle.std.specs.Str.Parse.{AllDigits}
 use Rattle.std.proofs.lemmas.Bool.{ne_eqb}
 use Rattle.std.proofs.lemmas.List.{reverse-append, reverse-reverse}
@@ -73,3 +73,14 @@ pub chunked_alone : (value : List ℕ) → value ≡ codes "chunked"
     → ends_chunked false (without_empty (list_parts (value ∷ []))) ≡ true
 unfolding same_name trim_ows
 chunked_alone value is = rw is refl
+
+-- an option alone is the one that is looked for, or isn't
+pub keep_alive_alone : (value : List ℕ) → value ≡ codes "keep-alive"
+    → list_any (same_name (codes "close")) (list_parts (value ∷ [])) ≡ false
+unfolding same_name trim_ows
+keep_alive_alone value is = rw is refl
+
+pub close_alone : (value : List ℕ) → value ≡ codes "close"
+    → list_any (same_name (codes "close")) (list_parts (value ∷ [])) ≡ true
+unfolding same_name trim_ows
+close_alone value is = rw is refl

@@ -1,8 +1,10 @@
 -- The lines of a text that grows.
 use Rattle.std.proofs.Common.{◌≡◌, ℕ, ◌+◌, ◌<◌, ◌≤◌, ◌-◌, List, [], ◌∷◌, ◌++◌, length, map, get_or, take, drop, set, refl, sym, ap, ◌∙◌, arith}
-use Rattle.std.proofs.lemmas.List.{take_all, take_more, length-set, take-append-drop, take-append-le, drop-append-le, length-drop, length-append, map-append}
+use Rattle.std.proofs.lemmas.List.{take_all, take_at, drop_at, take_more, length-set, take-append-drop, take-append-le, drop-append-le, length-drop, length-append, map-append}
 use Rattle.std.proofs.lemmas.List.Elements.{All-head, All-tail, All-rest, All-push, All-weaker}
 use Rattle.std.specs.List.{slice_range, refill}
+use Rattle.std.proofs.lemmas.Slice.{take-put_mid}
+use borrow.Rule.Slice.PartMut.{put_mid}
 use Rattle.httparse.specs.declared.spans.HeaderSpan.{HeaderSpan}
 use Rattle.httparse.specs.Spans.{header_bytes}
 use Rattle.smallvec.specs.SmallVec.{SmallVec}
@@ -110,3 +112,25 @@ found_more head spans place span lines within are =
     ap (λ front. front ++ header_bytes head next ∷ []) are
     ∙ sym (map-append (header_bytes head) (take place spans) (next ∷ []))
     ∙ ap (map (header_bytes head)) (sym (take_more spans place span within))
+
+-- A name and a value that were copied to the front of a text, one behind the other, are the line
+-- that lies there.
+pub line_copied : (name value rest front back : List ℕ) (n v k : ℕ) (span : Span)
+    → front ≡ name → back ≡ value → n ≡ length name → v ≡ length value
+    → span ≡ record { name = 0; name_end = n; value = n; value_end = n + v }
+    → line_of (take (n + v) (put_mid n k (front ++ rest) back)) span ≡ (name, value)
+line_copied name value rest front back n v k span is_name is_value long wide is =
+    let filled : take (n + v) (put_mid n k (front ++ rest) back) ≡ name ++ value =
+    take-put_mid n k (front ++ rest) back (n + v) (omega (arith, ap length is_value, wide))
+    (omega (arith, length-append front rest, ap length is_name, long))
+    ∙ ap (λ text. text ++ back) (take_at front rest n (ap length is_name ∙ sym long))
+    ∙ ap (λ text. text ++ back) is_name ∙ ap (λ text. name ++ text) is_value in
+    let all : n - 0 ≡ n = omega arith in
+    let named : slice_range (name ++ value) 0 n ≡ name =
+    ap (λ m. take m (name ++ value)) all ∙ take_at name value n (sym long) in
+    let valued : slice_range (name ++ value) n (n + v) ≡ value =
+    ap (take (n + v - n)) (drop_at name value n (sym long))
+    ∙ take_all (n + v - n) value (omega (arith, wide)) in
+    ap (λ text. line_of text span) filled ∙ ap (line_of (name ++ value)) is
+    ∙ ap (λ front. (front, slice_range (name ++ value) n (n + v))) named
+    ∙ ap (λ back. (name, back)) valued

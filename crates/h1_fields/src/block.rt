@@ -2,7 +2,7 @@
 ghost use Rattle.std.specs.Prelude.{◌≡◌, ◌∷◌, ◌++◌, [], length, IfOk, OnOk, OnErr, IsOkUnless};
 ghost use Rattle.h1_error.specs.Memory.{no_memory};
 ghost use Rattle.h1_fields.specs.Lines.{without, with_line};
-ghost use Rattle.h1_fields.specs.Kinds.{ArePlaced};
+ghost use Rattle.h1_fields.specs.Kinds.{AreKnown};
 ghost use Rattle.h1_fields.specs.Spans.{AllFit, lines_of};
 
 use crate::iter::FieldsIter;
@@ -92,12 +92,13 @@ impl Block {
         (self.text.as_slice(), self.lines.as_slice())
     }
 
-    /// Where the lines of each kind stand.
+    /// The same, and where the lines of each kind stand.
     #[inline(always)]
-    pub(crate) fn kinds(&self) -> Kinds
-        ensures { ArePlaced self.now result }
+    pub(crate) fn known(&self) -> (&[u8], &[Span], Kinds)
+        ensures known { AreKnown result.0.now result.1.now result.2 }
+        ensures lines { lines_of result.0.now result.1.now ≡ self.now }
     {
-        self.kinds
+        (self.text.as_slice(), self.lines.as_slice(), self.kinds)
     }
 
     /// Adds a line at the end.

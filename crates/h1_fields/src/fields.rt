@@ -5,7 +5,7 @@ ghost use Rattle.httparse.specs.Spans.{IsHeaderWithin, header_bytes};
 ghost use Rattle.h1_error.specs.Memory.{no_memory};
 ghost use Rattle.h1_fields.specs.declared.held.TheConstants.{MAX_SHARED_LINES};
 ghost use Rattle.h1_fields.specs.Held.{lines_in};
-ghost use Rattle.h1_fields.specs.Kinds.{ArePlaced, name_of};
+ghost use Rattle.h1_fields.specs.Kinds.{AreKnown, name_of};
 ghost use Rattle.h1_fields.specs.Lone.{IsLone};
 ghost use Rattle.h1_fields.specs.Lines.{has_line, values_of, first_value, without, with_line};
 ghost use Rattle.h1_fields.specs.Living.{living};
@@ -17,6 +17,7 @@ use crate::held::{Held, MAX_SHARED_LINES};
 use crate::iter::{FieldsIter, ValuesIter};
 use crate::kinds::{Kind, Kinds};
 use crate::lone::{Lone, lone_in};
+use crate::short::ShortLine;
 use crate::span::{FEW_LINES, MAX_TEXT, Span};
 use bytes::Bytes;
 use h1_error::Error;
@@ -73,7 +74,8 @@ impl Fields {
         ensures ok { IfOk result (λ fields. fields ≡ []) }
         ensures err { IsOkUnless result no_memory }
     {
-        if lines == 0 {
+        // One line may be short enough to need no block.
+        if lines <= 1 {
             return Ok(Fields::new(alloc));
         }
         Ok(Fields {
@@ -83,16 +85,29 @@ impl Fields {
         })
     }
 
-    /// The lines at these places of a head. Its bytes are copied where there are few lines, or more
-    /// than 64, and else shared.
+    /// The lines at these places of a head. Its bytes are copied where there are more than 64 lines,
+    /// and else shared.
     #[inline(always)]
     pub fn of_head(alloc: Global, head: &Bytes, spans: &[HeaderSpan]) -> Result<Self, Error>
         requires { All (IsHeaderWithin (length head.now)) spans.now }
         ensures ok { IfOk result (λ fields. fields ≡ map (header_bytes head.now) spans.now) }
         ensures err { IsOkUnless result no_memory }
     {
-        let shares = FEW_LINES < spans.len() && spans.len() <= MAX_SHARED_LINES;
-        if shares && head.len() <= MAX_TEXT {
+        match spans {
+            [] => return Ok(Fields::new(alloc)),
+            [span] => {
+                let text = head.as_slice();
+                if let Some(line) = ShortLine::of(span.name.of(text), span.value.of(text)) {
+                    return Ok(Fields {
+                        alloc,
+                        held: Held::One(line),
+                        gone: 0,
+                    });
+                }
+            }
+            _ => {}
+        }
+        if spans.len() <= MAX_SHARED_LINES && head.len() <= MAX_TEXT {
             return Ok(Fields {
                 alloc,
                 held: Held::of_head(alloc, head, spans)?,
@@ -125,8 +140,28 @@ impl Fields {
     }
 
     /// Adds a line at the end. Lines that are shared are copied first.
+    #[inline(always)]
     #[tactic(auto, using(crate::proofs::LivingLemmas::living_all))]
     pub fn append(&mut self, name: &[u8], value: &[u8]) -> Result<(), Error>
+        ensures ok { OnOk result (self.new ≡ self.old ++ (name.now, value.now) ∷ []) }
+        ensures err { IsOkUnless result no_memory }
+        ensures same { OnErr result (self.new ≡ self.old) }
+    {
+        if let Held::Nothing = &self.held {
+            if let Some(line) = ShortLine::of(name, value) {
+                self.held = Held::One(line);
+                self.gone = 0;
+                return Ok(());
+            }
+        }
+        self.append_behind(name, value)
+    }
+
+    // The same behind other lines, or of a line that isn't short. Kept apart, so that a caller with
+    // one short line can have it inlined.
+    #[inline(never)]
+    #[tactic(auto, using(crate::proofs::LivingLemmas::living_all))]
+    fn append_behind(&mut self, name: &[u8], value: &[u8]) -> Result<(), Error>
         ensures ok { OnOk result (self.new ≡ self.old ++ (name.now, value.now) ∷ []) }
         ensures err { IsOkUnless result no_memory }
         ensures same { OnErr result (self.new ≡ self.old) }
@@ -212,8 +247,17 @@ impl Fields {
     {
         match &mut self.held {
             Held::Nothing => {}
+            Held::One(line) => {
+                if line.is_named(name) {
+                    self.held = Held::Nothing;
+                }
+            }
             Held::Own(block) => block.remove(name),
             Held::Shared(owner) => self.gone = remove_from(owner, self.gone, name),
+            Held::Few(owner) => {
+                let (head, few) = owner.parts();
+                self.gone = hide(head, few, self.gone, name);
+            }
             Held::Read(owner) => {
                 let (head, lines) = owner.parts();
                 self.gone = hide(head, lines, self.gone, name);
@@ -271,13 +315,21 @@ impl Fields {
         self.values(Kind::Host)
     }
 
+    /// The values of all Host lines, as far as they are known without a search.
+    #[inline(always)]
+    pub fn lone_host(&self) -> Lone<'_>
+        ensures { IsLone (values_of (codes "Host") self.now) result }
+    {
+        self.lone(Kind::Host)
+    }
+
     /// The values of all lines of that kind, in order.
     #[inline(always)]
     pub(crate) fn values(&self, kind: Kind) -> ValuesIter<'_>
         ensures { result ≡ values_of (name_of kind) self.now }
     {
-        let (text, spans) = parts_of(&self.held);
-        let lone = lone_in(text, spans, kinds_of(&self.held), self.gone, kind);
+        let (text, spans, kinds) = known_of(&self.held);
+        let lone = lone_in(text, spans, kinds, self.gone, kind);
         ValuesIter::known(lone, kind.name(), text, spans, self.gone)
     }
 
@@ -286,8 +338,30 @@ impl Fields {
     pub(crate) fn lone(&self, kind: Kind) -> Lone<'_>
         ensures { IsLone (values_of (name_of kind) self.now) result }
     {
-        let (text, spans) = parts_of(&self.held);
-        lone_in(text, spans, kinds_of(&self.held), self.gone, kind)
+        let (text, spans, kinds) = known_of(&self.held);
+        lone_in(text, spans, kinds, self.gone, kind)
+    }
+
+    /// Puts the same lines in this place, as `copy` gives them. With an error what stands there has no
+    /// meaning.
+    #[inline(always)]
+    pub fn copy_to(&self, place: &mut Fields) -> Result<(), Error>
+        ensures ok { OnOk result (place.new ≡ self.now) }
+        ensures err { IsOkUnless result no_memory }
+    {
+        place.held = match &self.held {
+            Held::Nothing => Held::Nothing,
+            Held::One(line) => Held::One(line.copy()),
+            Held::Shared(block) => Held::Shared(Arc::try_clone(block)?),
+            Held::Few(lines) => Held::Few(Arc::try_clone(lines)?),
+            Held::Read(lines) => Held::Read(Arc::try_clone(lines)?),
+            Held::Own(_) => {
+                *place = self.own_copy()?;
+                return Ok(());
+            }
+        };
+        place.gone = self.gone;
+        Ok(())
     }
 
     /// The same lines again. Takes memory only where there are or were more than 64, or room was
@@ -299,7 +373,9 @@ impl Fields {
     {
         let held = match &self.held {
             Held::Nothing => Held::Nothing,
+            Held::One(line) => Held::One(line.copy()),
             Held::Shared(owner) => Held::Shared(Arc::try_clone(owner)?),
+            Held::Few(owner) => Held::Few(Arc::try_clone(owner)?),
             Held::Read(owner) => Held::Read(Arc::try_clone(owner)?),
             Held::Own(_) => return self.own_copy(),
         };
@@ -332,7 +408,13 @@ impl Fields {
         ensures err { IsOkUnless result no_memory }
     {
         let lines = parts_of(&self.held).1.len();
-        Block::of_lines(self.alloc, self.iter(), lines.saturating_add(FEW_LINES))
+        // Few lines need no room of their own.
+        let room = if lines < FEW_LINES {
+            FEW_LINES
+        } else {
+            lines.saturating_add(FEW_LINES)
+        };
+        Block::of_lines(self.alloc, self.iter(), room)
     }
 }
 
@@ -369,22 +451,27 @@ fn parts_of(held: &Held) -> (&[u8], &[Span])
 {
     match held {
         Held::Nothing => (&[], &[]),
+        Held::One(line) => line.parts(),
         Held::Shared(owner) => owner.parts(),
+        Held::Few(owner) => owner.parts(),
         Held::Read(owner) => owner.parts(),
         Held::Own(block) => block.parts(),
     }
 }
 
-/// Where the lines of each kind stand.
+/// The text that lines lie in, their places in it, and where those of each kind stand.
 #[inline(always)]
-fn kinds_of(held: &Held) -> Kinds
-    ensures { ArePlaced (lines_in held.now) result }
+fn known_of(held: &Held) -> (&[u8], &[Span], Kinds)
+    ensures known { AreKnown result.0.now result.1.now result.2 }
+    ensures lines { lines_of result.0.now result.1.now ≡ lines_in held.now }
 {
     match held {
-        Held::Nothing => Kinds::none(),
-        Held::Shared(owner) => owner.kinds(),
-        Held::Read(owner) => owner.kinds(),
-        Held::Own(block) => block.kinds(),
+        Held::Nothing => (&[], &[], Kinds::none()),
+        Held::One(line) => line.known(),
+        Held::Shared(owner) => owner.known(),
+        Held::Few(owner) => owner.known(),
+        Held::Read(owner) => owner.known(),
+        Held::Own(block) => block.known(),
     }
 }
 

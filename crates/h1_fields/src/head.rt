@@ -3,7 +3,7 @@ ghost use Rattle.std.specs.Prelude.{◌≡◌, ◌≤◌, length, map, All, IfOk
 ghost use Rattle.httparse.specs.Spans.{IsHeaderWithin, header_bytes};
 ghost use Rattle.h1_error.specs.Memory.{no_memory};
 ghost use Rattle.h1_fields.specs.declared.span.TheConstants.{MAX_TEXT};
-ghost use Rattle.h1_fields.specs.Kinds.{ArePlaced};
+ghost use Rattle.h1_fields.specs.Kinds.{AreKnown};
 ghost use Rattle.h1_fields.specs.Spans.{AllFit, lines_of};
 
 use crate::kinds::Kinds;
@@ -15,19 +15,17 @@ use smallvec::SmallVec;
 use std::alloc::Global;
 use std::marker::Model;
 
-/// How many places need no block of memory of their own.
-const PLACES_INLINE: usize = 16;
-
-/// Field lines that lie in the bytes of a head, with one owner or several. They never change. A
-/// contract sees the list of pairs of name and value.
+/// Field lines that lie in the bytes of a head, with one owner or several. `N` places need no block
+/// of memory of their own. The lines never change. A contract sees the list of pairs of name and
+/// value.
 #[derive(Drop)]
-pub(crate) struct HeadLines {
+pub(crate) struct HeadLines<const N: usize> {
     head: Bytes,
-    lines: SmallVec<Span, PLACES_INLINE>,
+    lines: SmallVec<Span, N>,
     kinds: Kinds,
 }
 
-impl Model for HeadLines {
+impl<const N: usize> Model for HeadLines<N> {
     ghost use Rattle.std.specs.Prelude.{ℕ, List};
     ghost use Rattle.h1_fields.specs.Spans.{lines_of};
     ghost use Rattle.h1_fields.specs.Kinds.{AreKnown};
@@ -39,7 +37,7 @@ impl Model for HeadLines {
     ghost invariant = { λ h. AreKnown h.head h.lines.items h.kinds };
 }
 
-impl HeadLines {
+impl<const N: usize> HeadLines<N> {
     /// The lines at these places, which the parser found. The head isn't copied.
     #[inline(always)]
     pub(crate) fn new(alloc: Global, head: &Bytes, spans: &[HeaderSpan]) -> Result<Self, Error>
@@ -70,11 +68,12 @@ impl HeadLines {
         (self.head.as_slice(), self.lines.as_slice())
     }
 
-    /// Where the lines of each kind stand.
+    /// The same, and where the lines of each kind stand.
     #[inline(always)]
-    pub(crate) fn kinds(&self) -> Kinds
-        ensures { ArePlaced self.now result }
+    pub(crate) fn known(&self) -> (&[u8], &[Span], Kinds)
+        ensures known { AreKnown result.0.now result.1.now result.2 }
+        ensures lines { lines_of result.0.now result.1.now ≡ self.now }
     {
-        self.kinds
+        (self.head.as_slice(), self.lines.as_slice(), self.kinds)
     }
 }

@@ -8,6 +8,7 @@ ghost use Rattle.h1_fields.specs.Held.{lines_in, AreFlags};
 
 use crate::block::Block;
 use crate::head::HeadLines;
+use crate::short::ShortLine;
 use crate::span::{FEW_LINES, MAX_TEXT};
 use bytes::Bytes;
 use h1_error::Error;
@@ -18,15 +19,22 @@ use std::sync::Arc;
 /// How many lines a block has at most that may have several owners.
 pub(crate) const MAX_SHARED_LINES: usize = 64;
 
+/// How many places the lines of a head have with them, where there are more than a few.
+const MANY_LINES: usize = 16;
+
 /// Field lines, as one of their owners holds them.
 #[derive(Drop)]
 pub(crate) enum Held {
     /// No line, and no block.
     Nothing,
+    /// One short line, with no block.
+    One(ShortLine),
     /// At most 64 lines, which may have other owners.
     Shared(Arc<Block>),
+    /// At most 4 lines of a head, which may have other owners.
+    Few(Arc<HeadLines<FEW_LINES>>),
     /// More than 4 and at most 64 lines of a head, which may have other owners.
-    Read(Arc<HeadLines>),
+    Read(Arc<HeadLines<MANY_LINES>>),
     /// Any lines, with no other owner.
     Own(Box<Block>),
 }
@@ -57,9 +65,25 @@ impl Held {
     }
 
     /// The owner of the lines at these places of a head.
+    #[inline(always)]
+    pub(crate) fn of_head(alloc: Global, head: &Bytes, spans: &[HeaderSpan]) -> Result<Self, Error>
+        requires within { All (IsHeaderWithin (length head.now)) spans.now }
+        requires short { length head.now ≤ MAX_TEXT }
+        requires few { length spans.now ≤ MAX_SHARED_LINES }
+        ensures ok { IfOk result (λ held. lines_in held ≡ map (header_bytes head.now) spans.now) }
+        ensures flags { IfOk result (AreFlags 0) }
+        ensures err { IsOkUnless result no_memory }
+    {
+        if spans.len() > FEW_LINES {
+            return Held::of_long_head(alloc, head, spans);
+        }
+        let lines = HeadLines::new(alloc, head, spans)?;
+        Ok(Held::Few(Arc::new(alloc, lines)?))
+    }
+
     // Kept apart, so that a caller with few lines doesn't clear room for many.
     #[inline(never)]
-    pub(crate) fn of_head(alloc: Global, head: &Bytes, spans: &[HeaderSpan]) -> Result<Self, Error>
+    fn of_long_head(alloc: Global, head: &Bytes, spans: &[HeaderSpan]) -> Result<Self, Error>
         requires within { All (IsHeaderWithin (length head.now)) spans.now }
         requires short { length head.now ≤ MAX_TEXT }
         requires few { length spans.now ≤ MAX_SHARED_LINES }

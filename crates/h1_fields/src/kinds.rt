@@ -1,5 +1,5 @@
 //! Where the lines of four names stand, which each message is asked for.
-ghost use Rattle.std.specs.Prelude.{◌≡◌};
+ghost use Rattle.std.specs.Prelude.{◌≡◌, codes};
 ghost use Rattle.h1_fields.specs.Names.{same_name};
 ghost use Rattle.h1_fields.specs.Kinds.{name_of, place_of, place_with};
 ghost use Rattle.h1_fields.specs.declared.kinds.Kind.{Kind};
@@ -110,8 +110,7 @@ impl Kinds {
         } else if len == 10 {
             self.connection = self.connection.with(is_same_name(b"Connection", name), at);
         } else if len == 14 {
-            // In the case in which most replies have it.
-            let named = is_same_name(b"content-length", name);
+            let named = is_content_length(name);
             self.content_length = self.content_length.with(named, at);
         } else if len == 17 {
             let named = is_same_name(b"Transfer-Encoding", name);
@@ -130,4 +129,12 @@ impl Kinds {
             Kind::TransferEncoding => self.transfer_encoding,
         }
     }
+}
+
+/// Whether this is the name Content-Length, first in the cases in which most messages have it.
+#[inline(always)]
+fn is_content_length(name: &[u8]) -> bool
+    ensures { result ≡ same_name (codes "Content-Length") name.now }
+{
+    name == b"Content-Length".as_slice() || is_same_name(b"content-length", name)
 }

@@ -18,6 +18,7 @@ mod lists;
 mod lone;
 mod meaning;
 mod name;
+mod short;
 mod span;
 #[cfg(test)]
 mod tests;
@@ -27,4 +28,5 @@ pub use content_length::ContentLength;
 pub use fields::Fields;
 pub use iter::{FieldsIter, ValuesIter};
 pub use laws::{chunked_last_is, content_length_is, insertion_and_removal, names_ignore_case};
+pub use lone::Lone;
 pub use name::is_same_name;

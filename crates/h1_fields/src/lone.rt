@@ -8,9 +8,9 @@ ghost use Rattle.h1_fields.specs.Spans.{lines_of};
 use crate::kinds::{Kind, Kinds, Place};
 use crate::span::Span;
 
-/// The values of a kind.
+/// The values of a name, as far as they are known without a search.
 #[derive(Clone, Copy, Debug)]
-pub(crate) enum Lone<'a> {
+pub enum Lone<'a> {
     Nothing,
     One(&'a [u8]),
     /// A search tells.

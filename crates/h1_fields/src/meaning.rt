@@ -85,7 +85,17 @@ impl Fields {
     pub fn lists_close(&self) -> bool
         ensures { result ≡ lists_close self.now }
     {
-        self.lists(Kind::Connection, b"close")
+        match self.lone(Kind::Connection) {
+            Lone::Nothing => false,
+            // Most messages that have the line say one of these.
+            Lone::One(value) => {
+                if value == b"keep-alive".as_slice() {
+                    return false;
+                }
+                value == b"close".as_slice() || self.lists_among(Kind::Connection, b"close")
+            }
+            Lone::Unknown => self.lists_among(Kind::Connection, b"close"),
+        }
     }
 
     /// Whether Connection lists `keep-alive`.

@@ -50,6 +50,21 @@ impl Span {
         }
     }
 
+    /// The place of a line whose name is the front of the text, and whose value stands behind it.
+    #[inline(always)]
+    pub(crate) fn from_start(middle: usize, end: usize) -> Span
+        requires ordered { middle ≤ end }
+        requires short { end ≤ MAX_TEXT }
+        ensures { result ≡ record { name = 0; name_end = middle; value = middle; value_end = end } }
+    {
+        Span {
+            name: 0,
+            name_end: middle as u32,
+            value: middle as u32,
+            value_end: end as u32,
+        }
+    }
+
     /// Copies the line to the end of the text. With an error a part of it may be there.
     #[inline(always)]
     pub(crate) fn write(text: &mut Text, name: &[u8], value: &[u8]) -> Result<Span, Error>

@@ -35,12 +35,13 @@ chunk_run n some few =
 -- a request with a length, piece by piece
 regroup : (m p a h e n c s r : List ℕ)
     → m ++ (p ++ a) ++ h ++ e ++ (n ++ c ++ s ++ e ++ []) ++ e ++ r
-    ≡ (m ++ p ++ a ++ h ++ e) ++ (n ++ c) ++ s ++ (e ++ e) ++ r
+    ≡ ((m ++ p) ++ a ++ (h ++ e ++ n ++ c)) ++ s ++ (e ++ e) ++ r
 regroup m p a h e n c s r = simp (append_assoc, append-nil)
 
 pub counted_text : (number size : ℕ) → print_asked (asked_as Counted number size)
-    ≡ (codes "POST" ++ 32 ∷ 47 ∷ [] ++ decimal number ++ codes " HTTP/1.1" ++ (13 ∷ 10 ∷ []))
-    ++ codes "Content-Length: " ++ decimal size ++ (13 ∷ 10 ∷ 13 ∷ 10 ∷ []) ++ replicate size 97
+    ≡ (codes "POST /" ++ decimal number
+    ++ (codes " HTTP/1.1" ++ 13 ∷ 10 ∷ [] ++ codes "Content-Length: "))
+    ++ decimal size ++ (13 ∷ 10 ∷ 13 ∷ 10 ∷ []) ++ replicate size 97
 counted_text number size =
     rw (take_run size 97)
     (regroup (codes "POST") (32 ∷ 47 ∷ []) (decimal number) (codes " HTTP/1.1") (13 ∷ 10 ∷ [])

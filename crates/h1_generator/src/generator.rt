@@ -68,21 +68,19 @@ fn push_plain(bytes: &mut Vec<u8>, number: u32) -> Result<(), Error>
         ≡ bytes.old.items ++ print_asked (asked_as Form.Plain number (number % SIZES))) }
     ensures err { IfErr result (λ error. error ≡ no_memory) }
 {
-    push_line(bytes, b"GET", number)?;
-    push(bytes, b"\r\n")
+    push_line(bytes, b"GET /", number, b" HTTP/1.1\r\n\r\n")
 }
 
-/// Adds the request line with this number.
-fn push_line(bytes: &mut Vec<u8>, method: &[u8], number: u32) -> Result<(), Error>
+/// Adds the front of a head: what stands before this number, the number, and what stands behind it.
+#[inline(always)]
+fn push_line(bytes: &mut Vec<u8>, front: &[u8], number: u32, behind: &[u8]) -> Result<(), Error>
     ensures ok { OnOk result (bytes.new.items
-        ≡ bytes.old.items ++ (method.now ++ 32 ∷ 47 ∷ [] ++ decimal number ++ codes " HTTP/1.1"
-        ++ (13 ∷ 10 ∷ []))) }
+        ≡ bytes.old.items ++ front.now ++ decimal number ++ behind.now) }
     ensures err { IfErr result (λ error. error ≡ no_memory) }
 {
-    push(bytes, method)?;
-    push(bytes, b" /")?;
+    push(bytes, front)?;
     push_decimal(bytes, number)?;
-    push(bytes, b" HTTP/1.1\r\n")
+    push(bytes, behind)
 }
 
 fn push_counted(bytes: &mut Vec<u8>, number: u32, size: u32) -> Result<(), Error>
@@ -91,9 +89,8 @@ fn push_counted(bytes: &mut Vec<u8>, number: u32, size: u32) -> Result<(), Error
         ≡ bytes.old.items ++ print_asked (asked_as Form.Counted number size)) }
     ensures err { IfErr result (λ error. error ≡ no_memory) }
 {
-    push_line(bytes, b"POST", number)?;
-    push(bytes, b"Content-Length: ")?;
-    push_decimal(bytes, size)?;
+    push_line(bytes, b"POST /", number, b" HTTP/1.1\r\nContent-Length: ")?;
+    push_digit(bytes, size)?;
     push(bytes, b"\r\n\r\n")?;
     push_run(bytes, b'a', size)
 }
@@ -104,8 +101,8 @@ fn push_chunked(bytes: &mut Vec<u8>, number: u32, size: u32) -> Result<(), Error
         ≡ bytes.old.items ++ print_asked (asked_as Form.Chunked number size)) }
     ensures err { IfErr result (λ error. error ≡ no_memory) }
 {
-    push_line(bytes, b"POST", number)?;
-    push(bytes, b"Transfer-Encoding: chunked\r\n\r\n")?;
+    let behind = b" HTTP/1.1\r\nTransfer-Encoding: chunked\r\n\r\n";
+    push_line(bytes, b"POST /", number, behind)?;
     push_chunk(bytes, size)?;
     push(bytes, b"0\r\n\r\n")
 }
@@ -120,7 +117,7 @@ fn push_chunk(bytes: &mut Vec<u8>, size: u32) -> Result<(), Error>
     if size == 0 {
         return Ok(());
     }
-    push_decimal(bytes, size)?;
+    push_digit(bytes, size)?;
     push(bytes, b"\r\n")?;
     push_run(bytes, b'b', size)?;
     push(bytes, b"\r\n")
@@ -137,7 +134,18 @@ fn push_run(bytes: &mut Vec<u8>, byte: u8, count: u32) -> Result<(), Error>
     Ok(())
 }
 
+/// Adds a number of one digit in decimal.
+fn push_digit(bytes: &mut Vec<u8>, number: u32) -> Result<(), Error>
+    requires { number < SIZES }
+    ensures ok { OnOk result (bytes.new.items ≡ bytes.old.items ++ decimal number) }
+    ensures err { IfErr result (λ error. error ≡ no_memory) }
+{
+    bytes.push(b'0' + number as u8)?;
+    Ok(())
+}
+
 /// Adds a number in decimal.
+#[inline(always)]
 fn push_decimal(bytes: &mut Vec<u8>, number: u32) -> Result<(), Error>
     ensures ok { OnOk result (bytes.new.items ≡ bytes.old.items ++ decimal number) }
     ensures err { IfErr result (λ error. error ≡ no_memory) }

@@ -6,6 +6,3 @@ mod laws;
 
 pub use generator::generate;
 pub use laws::generated_input_is_valid;
-
-#[cfg(test)]
-mod tests;

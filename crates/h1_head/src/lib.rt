@@ -2,7 +2,9 @@
 //! of a request's head.
 #![tactic(auto)]
 
+mod boxed;
 mod date;
+mod head_buffer;
 mod laws;
 mod limits;
 mod parts;
@@ -27,6 +29,7 @@ pub use h1_authority::{
 };
 pub use h1_cut::{HeadSearch, LookedAt, Steps};
 pub use h1_fields::{ContentLength, Fields, FieldsIter, ValuesIter};
+pub use head_buffer::HeadBuffer;
 pub use laws::{dates_are_unique, replies_keep_their_framing};
 pub use limits::{MAX_HEADER_SIZE, MAX_HEADERS};
 pub use reading_laws::{
@@ -35,6 +38,7 @@ pub use reading_laws::{
 };
 pub use request::RequestHeader;
 pub use request_checks::validate_request_authority;
+pub use request_grammar::FEW_HEADERS;
 pub use request_head::{
     HeadEnd, HeadStep, RequestHead, Verdict, find_head_end, judge_front, judge_head,
     read_request_head, search_request_head,

@@ -4,6 +4,7 @@ ghost use Rattle.http_uri.specs.Uri.{uri_authority};
 ghost use Rattle.h1_error.specs.Memory.{no_memory};
 ghost use Rattle.h1_head.specs.Parts.{lines_of, target_of};
 
+use crate::boxed::box_bytes;
 use h1_error::Error;
 use h1_fields::Fields;
 use http::{HeaderMap, HeaderValue, Uri};
@@ -41,13 +42,13 @@ fn authority_or_nothing(uri: &Uri) -> &[u8]
 }
 
 /// A copy of the authority, where there is one.
-pub(crate) fn authority_of(alloc: Global, uri: &Uri) -> Result<Option<Vec<u8>>, Error>
-    ensures ok { IfOk result (λ copy. option_map (λ bytes. bytes.items) copy
+pub(crate) fn authority_of(alloc: Global, uri: &Uri) -> Result<Option<Box<Vec<u8>>>, Error>
+    ensures ok { IfOk result (λ copy. option_map (λ bytes. bytes.value.items) copy
         ≡ uri_authority uri.now) }
     ensures err { IsOkUnless result no_memory }
 {
     match uri.authority() {
-        Some(authority) => Ok(Some(Vec::from_slice(alloc, authority.as_str().as_bytes())?)),
+        Some(authority) => box_bytes(alloc, Some(authority.as_str().as_bytes())),
         None => Ok(None),
     }
 }

@@ -39,6 +39,17 @@ fn content_length_beside_transfer_encoding_goes(rt: HostRuntime) -> Result<(), F
     Ok(())
 }
 
+// Each table is handed out by a function that promises nothing, so that the proof of a test carries
+// none of its rows.
+
+fn accepted_heads<'a>() -> &'a [(&'a [u8], &'a [u8], usize, bool)] {
+    &ACCEPTED
+}
+
+fn refused_heads<'a>() -> &'a [(&'a [u8], HeadFault)] {
+    &REFUSED
+}
+
 /// Heads that are accepted: their target as it is read, the number of their fields, and whether
 /// Content-Length lines went.
 const ACCEPTED: [(&[u8], &[u8], usize, bool); 21] = [
@@ -269,7 +280,7 @@ fn fault_of(alloc: Global, bytes: &[u8]) -> Result<Option<HeadFault>, Error> {
 #[test]
 fn an_accepted_head_is_read_once_it_is_there(rt: HostRuntime) -> Result<(), Fail> {
     let alloc = rt.alloc();
-    for (head, target, fields, both) in ACCEPTED {
+    for &(head, target, fields, both) in accepted_heads() {
         assert!(rt; is_unread_in_front(alloc, head)?, "{head:?}");
         let mut path = Vec::new(alloc);
         path.extend_from_slice(target)?;
@@ -284,7 +295,7 @@ fn an_accepted_head_is_read_once_it_is_there(rt: HostRuntime) -> Result<(), Fail
 #[test]
 fn a_head_is_refused_with_its_first_fault(rt: HostRuntime) -> Result<(), Fail> {
     let alloc = rt.alloc();
-    for (head, fault) in REFUSED {
+    for &(head, fault) in refused_heads() {
         assert!(rt; is_unread_in_front(alloc, head)?, "{head:?}");
         assert_eq!(rt; fault_of(alloc, head)?, Some(fault), "{head:?}");
         let all = followed(alloc, head)?;

@@ -7,6 +7,7 @@ ghost use Rattle.h1_head.specs.Faults.{RefusedFor, method_fault, line_fault};
 ghost use Rattle.h1_head.specs.Request.{new_request, request_read, end_stream_of};
 ghost use Rattle.h1_head.specs.Parts.{request_of_parts};
 
+use crate::boxed::copy_boxed;
 use crate::parts::{authority_of, lines_of, target_of};
 use crate::syntax::{check_line, refuse};
 use crate::version::{is_http_2, with_minor};
@@ -27,7 +28,8 @@ pub struct RequestHeader {
     method: Method,
     target: Bytes,
     version: Version,
-    authority: Option<Vec<u8>>,
+    /// Most heads have none, so it stands in a block of its own.
+    authority: Option<Box<Vec<u8>>>,
     fields: Fields,
     send_end_stream: bool,
 }
@@ -42,7 +44,7 @@ impl Model for RequestHeader {
       method = r.method;
       target = r.target;
       version = r.version;
-      authority = option_map (λ bytes. bytes.items) r.authority;
+      authority = option_map (λ bytes. bytes.value.items) r.authority;
       fields = r.fields;
       send_end_stream = r.send_end_stream;
     } };
@@ -249,6 +251,21 @@ impl RequestHeader {
         self.fields.get_all(name)
     }
 
+    /// Puts the same head in this place. With an error what stands there has no meaning.
+    #[inline(always)]
+    pub fn copy_to(&self, place: &mut RequestHeader) -> Result<(), Error>
+        ensures ok { OnOk result (place.new ≡ self.now) }
+        ensures err { IsOkUnless result no_memory }
+    {
+        place.method = self.method.clone()?;
+        place.target = self.target.clone()?;
+        place.version = self.version;
+        place.authority = copy_boxed(self.alloc, &self.authority)?;
+        self.fields.copy_to(&mut place.fields)?;
+        place.send_end_stream = self.send_end_stream;
+        Ok(())
+    }
+
     /// The same head again.
     #[inline(always)]
     pub fn copy(&self) -> Result<Self, Error>
@@ -261,7 +278,7 @@ impl RequestHeader {
             method: self.method.clone()?,
             target: self.target.clone()?,
             version: self.version,
-            authority: copy_bytes(alloc, &self.authority)?,
+            authority: copy_boxed(alloc, &self.authority)?,
             fields: self.fields.copy()?,
             send_end_stream: self.send_end_stream,
         })
@@ -290,17 +307,5 @@ fn method_named(alloc: Global, token: &[u8]) -> Result<Method, Error>
     match Method::from_bytes(alloc, token) {
         Ok(made) => Ok(made),
         Err(_) => Err(Error::from(ErrorType::NoMemory)),
-    }
-}
-
-/// The same bytes again, where there are some.
-pub(crate) fn copy_bytes(alloc: Global, bytes: &Option<Vec<u8>>) -> Result<Option<Vec<u8>>, Error>
-    ensures ok { IfOk result (λ copy. option_map (λ bytes. bytes.items) copy
-        ≡ option_map (λ bytes. bytes.items) bytes.now) }
-    ensures err { IsOkUnless result no_memory }
-{
-    match bytes {
-        Some(bytes) => Ok(Some(Vec::from_slice(alloc, bytes.as_slice())?)),
-        None => Ok(None),
     }
 }

@@ -13,7 +13,7 @@ use crate::syntax::refuse;
 use crate::version::{is_http_10, is_http_11};
 use h1_authority::{Hosts, check_authority};
 use h1_error::{Error, HeadFault};
-use h1_fields::{ContentLength, Fields};
+use h1_fields::{ContentLength, Fields, Lone};
 
 /// Whether the target, the Host lines and the URI's authority name one authority (RFC 9112, section
 /// 3.2). The error says the first fault.
@@ -30,6 +30,7 @@ pub fn validate_request_authority(req: &RequestHeader) -> Result<(), Error>
 impl RequestHeader {
     /// Whether the request wishes the connection kept. `both` says whether its head had both
     /// Transfer-Encoding and Content-Length.
+    #[inline(always)]
     pub fn wishes_keep_alive(&self, both: bool) -> bool
         ensures { result ≡ wish self.now both }
     {
@@ -103,7 +104,20 @@ impl RequestHeader {
 }
 
 /// The Host lines.
+#[inline(always)]
 fn hosts_of(fields: &Fields) -> Hosts<'_>
+    ensures { hosts_seen result ≡ hosts_behind no_host (values_of (codes "Host") fields.now) }
+{
+    match fields.lone_host() {
+        Lone::Nothing => Hosts::Absent,
+        Lone::One(value) => Hosts::Absent.and(value),
+        Lone::Unknown => hosts_among(fields),
+    }
+}
+
+/// The same by a search.
+#[inline(never)]
+fn hosts_among(fields: &Fields) -> Hosts<'_>
     ensures { hosts_seen result ≡ hosts_behind no_host (values_of (codes "Host") fields.now) }
 {
     let mut hosts = Hosts::Absent;

@@ -15,7 +15,7 @@ use httparse::spans::{EMPTY_HEADER_SPAN, HeaderSpan, RequestSpans, parse_request
 use std::alloc::Global;
 
 /// So many field lines most heads have at most.
-pub(crate) const FEW_HEADERS: usize = 16;
+pub const FEW_HEADERS: usize = 16;
 
 /// Where the parts of a head lie, or why they are not found.
 enum Found {

@@ -17,7 +17,7 @@ use bytes::Bytes;
 use h1_cut::HeadSearch;
 use h1_error::{Error, HeadFault};
 use h1_escape::escape_head;
-use httparse::spans::EMPTY_HEADER_SPAN;
+use httparse::spans::HeaderSpan;
 use std::alloc::Global;
 
 /// An accepted head.
@@ -125,24 +125,25 @@ pub fn find_head_end(search: &mut HeadSearch, bytes: &[u8]) -> HeadEnd
 
 /// Accepts or refuses the head at the front of the bytes, without a search for its end, where its
 /// grammar is complete in them (RFC 9112, section 3), and says how many of the bytes it takes. Where
-/// the answer is none, a search tells more. What is put in both places is as in `judge_head`.
+/// the answer is none, a search tells more. What is put in both places is as in `judge_head`. What
+/// the spans hold has no meaning before and after.
 #[inline(always)]
 pub fn judge_front(
     alloc: Global,
     bytes: &[u8],
     room: &mut Room,
+    spans: &mut [HeaderSpan; FEW_HEADERS],
     header: &mut RequestHeader,
     raw: &mut Bytes,
 ) -> Result<Option<(Verdict, usize)>, Error>
     ensures ok { IfOk result (λ found. IfSome found (IsVerdictAt bytes.now header.new raw.new)) }
     ensures err { IsOkUnless result no_memory }
 {
-    let mut spans = [EMPTY_HEADER_SPAN; FEW_HEADERS];
-    let Some(front) = find_front(bytes, &mut spans) else {
+    let Some(front) = find_front(bytes, spans) else {
         return Ok(None);
     };
     *raw = room.copy(&bytes[..front.len])?;
-    put_request(alloc, raw, &spans, front, header)?;
+    put_request(alloc, raw, spans, front, header)?;
     Ok(Some((settle(header), front.len)))
 }
 

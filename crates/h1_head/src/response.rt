@@ -7,6 +7,8 @@ ghost use Rattle.h1_head.specs.Faults.{RefusedFor, refusal, status_fault, line_f
 ghost use Rattle.h1_head.specs.Response.{new_response, reason_of};
 ghost use Rattle.h1_head.specs.Parts.{response_of_parts};
 
+use crate::HeadBuffer;
+use crate::boxed::{box_bytes, copy_boxed};
 use crate::parts::lines_of;
 use crate::syntax::{check_line, check_phrase, refuse};
 use crate::wire::push_lines;
@@ -15,6 +17,7 @@ use h1_error::{Error, HeadFault};
 use h1_fields::{Fields, ValuesIter};
 use http::response::Parts;
 use http::{StatusCode, Version};
+use itoa::Buffer;
 use std::alloc::Global;
 use std::marker::Model;
 
@@ -137,7 +140,7 @@ impl ResponseHeader {
         ensures same { OnErr result (self.new ≡ self.old) }
     {
         check_phrase(phrase)?;
-        self.reason = own_bytes(self.alloc, phrase)?;
+        self.reason = box_bytes(self.alloc, phrase)?;
         Ok(())
     }
 
@@ -183,6 +186,17 @@ impl ResponseHeader {
         self.fields.insert(name, value)
     }
 
+    /// Adds Content-Length with this number at the end, with its name in lower case.
+    #[inline(always)]
+    pub fn append_content_length(&mut self, n: u64) -> Result<(), Error>
+        ensures ok { let lines = self.old.fields ++ (codes "content-length", decimal n) ∷ [] in
+            OnOk result (self.new ≡ record self.old { fields = lines }) }
+        ensures err { IsOkUnless result no_memory }
+        ensures same { OnErr result (self.new ≡ self.old) }
+    {
+        append_length(&mut self.fields, n)
+    }
+
     /// Inserts Content-Length with this number.
     pub fn set_content_length(&mut self, n: u64) -> Result<(), Error>
         ensures ok { let lines = with_line (codes "Content-Length") (decimal n) self.old.fields in
@@ -225,9 +239,9 @@ impl ResponseHeader {
         ensures err { IsOkUnless result no_memory }
         ensures same { OnErr result (out.new.items ≡ out.old.items) }
     {
-        let mut lines = Vec::new(self.alloc);
+        let mut lines = HeadBuffer::new(self.alloc);
         push_lines(&mut lines, &self.fields)?;
-        out.extend_from_slice(&lines)?;
+        out.extend_from_slice(lines.as_slice())?;
         Ok(())
     }
 
@@ -242,7 +256,7 @@ impl ResponseHeader {
             alloc,
             status: self.status,
             version: self.version,
-            reason: copy_phrase(alloc, &self.reason)?,
+            reason: copy_boxed(alloc, &self.reason)?,
             fields: self.fields.copy()?,
         })
     }
@@ -271,30 +285,14 @@ fn canonical_phrase(status: StatusCode) -> Option<&'static [u8]>
     }
 }
 
-/// A copy of the bytes, where there are some.
-fn own_bytes(alloc: Global, bytes: Option<&[u8]>) -> Result<Option<Box<Vec<u8>>>, Error>
-    ensures ok { IfOk result (λ copy. option_map (λ bytes. bytes.value.items) copy
-        ≡ option_map (λ bytes. bytes.now) bytes.entry) }
-    ensures err { IsOkUnless result no_memory }
-{
-    match bytes {
-        Some(bytes) => {
-            let own = Vec::from_slice(alloc, bytes)?;
-            Ok(Some(Box::new(alloc, own)?))
-        }
-        None => Ok(None),
-    }
-}
-
-/// The same phrase again, where there is one.
+/// Adds Content-Length with this number at the end, with its name in lower case.
 #[inline(always)]
-fn copy_phrase(alloc: Global, phrase: &Option<Box<Vec<u8>>>) -> Result<Option<Box<Vec<u8>>>, Error>
-    ensures ok { IfOk result (λ copy. option_map (λ bytes. bytes.value.items) copy
-        ≡ option_map (λ bytes. bytes.value.items) phrase.now) }
+fn append_length(fields: &mut Fields, n: u64) -> Result<(), Error>
+    ensures ok { OnOk result (fields.new
+        ≡ fields.old ++ (codes "content-length", decimal n) ∷ []) }
     ensures err { IsOkUnless result no_memory }
+    ensures same { OnErr result (fields.new ≡ fields.old) }
 {
-    match phrase {
-        Some(phrase) => own_bytes(alloc, Some(phrase.as_slice())),
-        None => Ok(None),
-    }
+    let mut digits = Buffer::new();
+    fields.append(b"content-length", digits.format(n).as_bytes())
 }

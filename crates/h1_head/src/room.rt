@@ -1,5 +1,5 @@
 //! Memory that small pieces of bytes share.
-ghost use Rattle.std.specs.Prelude.{◌≡◌, ◌++◌, [], IfOk, OnOk, OnErr, IsOkUnless};
+ghost use Rattle.std.specs.Prelude.{◌≡◌, ◌≤◌, ◌++◌, [], IfOk, OnOk, OnErr, IsOkUnless};
 ghost use Rattle.h1_error.specs.Memory.{no_memory};
 
 use bytes::{Bytes, BytesMut};
@@ -15,28 +15,35 @@ const MOST_BLOCK: usize = 4096;
 /// one of its pieces. A contract sees the bytes that are put together and not handed out.
 #[derive(Debug, Drop)]
 pub struct Room {
+    alloc: Global,
+    /// It is there once bytes were put together, in a block of its own, so that a room is moved as
+    /// one pointer.
+    store: Option<Box<Store>>,
+}
+
+/// Where the bytes are put together.
+#[derive(Debug, Drop)]
+struct Store {
     bytes: BytesMut,
     /// How many bytes were asked for as the last block was made.
     block: usize,
 }
 
 impl Model for Room {
-    ghost use Rattle.std.specs.Prelude.{ℕ, List};
+    ghost use Rattle.std.specs.Prelude.{ℕ, List, [], option_map, unwrap_or};
 
     ghost Value = { List ℕ };
 
-    ghost view = { λ room. room.bytes.items };
+    ghost view = { λ room. unwrap_or (option_map (λ store. store.value.bytes.items) room.store) [] };
 }
 
 impl Room {
     /// A room with nothing in it, for which no memory is taken.
+    #[inline(always)]
     pub fn new(alloc: Global) -> Self
         ensures { result ≡ [] }
     {
-        Room {
-            bytes: BytesMut::new(alloc),
-            block: 0,
-        }
+        Room { alloc, store: None }
     }
 
     /// Adds these bytes at the end.
@@ -46,23 +53,27 @@ impl Room {
         ensures err { IsOkUnless result no_memory }
         ensures same { OnErr result (self.new ≡ self.old) }
     {
-        if self.bytes.capacity() - self.bytes.len() < bytes.len() {
-            self.widen(bytes.len())?;
+        match &mut self.store {
+            Some(store) => store.push(bytes),
+            None => self.open(bytes),
         }
-        self.bytes.extend_from_slice(bytes)?;
-        Ok(())
     }
 
-    /// Takes a block for so many bytes more, or for twice as many as the last.
+    // The same with the first bytes that a room is handed.
+    #[cold]
     #[inline(never)]
-    fn widen(&mut self, more: usize) -> Result<(), Error>
-        ensures same { self.new ≡ self.old }
+    fn open(&mut self, bytes: &[u8]) -> Result<(), Error>
+        requires { self.old ≡ [] }
+        ensures ok { OnOk result (self.new ≡ bytes.now) }
         ensures err { IsOkUnless result no_memory }
+        ensures same { OnErr result (self.new ≡ self.old) }
     {
-        let twice = self.block.saturating_mul(2).min(MOST_BLOCK);
-        let wanted = more.max(twice);
-        self.bytes.reserve(wanted)?;
-        self.block = wanted;
+        let mut store = Store {
+            bytes: BytesMut::new(self.alloc),
+            block: 0,
+        };
+        store.push(bytes)?;
+        self.store = Some(Box::new(self.alloc, store)?);
         Ok(())
     }
 
@@ -74,8 +85,13 @@ impl Room {
         ensures none { OnOk result (self.new ≡ []) }
         ensures same { OnErr result (self.new ≡ self.old) }
     {
-        let len = self.bytes.len();
-        Ok(self.bytes.freeze_to(len)?)
+        match &mut self.store {
+            Some(store) => {
+                let len = store.bytes.len();
+                Ok(store.bytes.freeze_to(len)?)
+            }
+            None => Ok(Bytes::new()),
+        }
     }
 
     /// Drops the bytes. Their memory stays with the room.
@@ -83,7 +99,9 @@ impl Room {
     pub fn clear(&mut self)
         ensures { self.new ≡ [] }
     {
-        self.bytes.clear();
+        if let Some(store) = &mut self.store {
+            store.bytes.clear();
+        }
     }
 
     /// Hands out a copy of these bytes. Those that were put together are dropped.
@@ -96,5 +114,34 @@ impl Room {
         self.clear();
         self.push(bytes)?;
         self.finish()
+    }
+}
+
+impl Store {
+    #[inline(always)]
+    fn push(&mut self, bytes: &[u8]) -> Result<(), Error>
+        ensures ok { OnOk result (self.new.bytes.items ≡ self.old.bytes.items ++ bytes.now) }
+        ensures err { IsOkUnless result no_memory }
+        ensures same { OnErr result (self.new.bytes.items ≡ self.old.bytes.items) }
+    {
+        if self.bytes.capacity() - self.bytes.len() < bytes.len() {
+            self.widen(bytes.len())?;
+        }
+        self.bytes.extend_reserved(bytes);
+        Ok(())
+    }
+
+    /// Takes a block for so many bytes more, or for twice as many as the last.
+    #[inline(never)]
+    fn widen(&mut self, more: usize) -> Result<(), Error>
+        ensures room { OnOk result (more ≤ self.new.bytes.spare) }
+        ensures same { self.new.bytes.items ≡ self.old.bytes.items }
+        ensures err { IsOkUnless result no_memory }
+    {
+        let twice = self.block.saturating_mul(2).min(MOST_BLOCK);
+        let wanted = more.max(twice);
+        self.bytes.reserve(wanted)?;
+        self.block = wanted;
+        Ok(())
     }
 }

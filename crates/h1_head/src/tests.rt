@@ -1,21 +1,45 @@
 //! Heads by example.
 use crate::{
-    CacheableDate, RequestHeader, ResponseHeader, get_cached_date, http_req_header_to_wire,
-    print_reply_head, push_response_head,
+    CacheableDate, HeadBuffer, RequestHeader, ResponseHeader, get_cached_date,
+    http_req_header_to_wire, print_reply_head, push_response_head,
 };
 use bytes::BytesMut;
 use h1_error::{Error, ErrorType, HeadFault};
 use http::{Request, Version};
+use std::alloc::Global;
 use std::test::Fail;
 
 fn refused(fault: HeadFault) -> Error {
     Error::from(ErrorType::InvalidHTTPHeader(fault))
 }
 
+// Heads, lines and dates are made in functions that promise nothing, so that the proof of a test
+// carries none of their bytes.
+
+/// A request with one line.
+fn request(alloc: Global) -> Result<RequestHeader, Error> {
+    let mut req = RequestHeader::build(alloc, b"GET", b"/x", None)?;
+    req.append_header(b"Host", b"a")?;
+    Ok(req)
+}
+
+/// A response with these lines.
+fn response(alloc: Global, status: u16, lines: &[(&[u8], &[u8])]) -> Result<ResponseHeader, Error> {
+    let mut head = ResponseHeader::build(alloc, status, None)?;
+    for (name, value) in lines {
+        head.append_header(name, value)?;
+    }
+    Ok(head)
+}
+
+/// The date of the moment of RFC 9110, section 5.6.7, in milliseconds.
+fn example_date() -> [u8; 29] {
+    get_cached_date(784_111_777_999)
+}
+
 #[test]
 fn a_request_is_written_with_its_line_and_fields(rt: HostRuntime) -> Result<(), Error> {
-    let mut req = RequestHeader::build(rt.alloc(), b"GET", b"/x", None)?;
-    req.append_header(b"Host", b"a")?;
+    let mut req = request(rt.alloc())?;
     let wire = http_req_header_to_wire(&req)?.expect(&rt, "a request line");
     assert_eq!(rt;
         wire.as_slice(),
@@ -70,12 +94,12 @@ fn parts_that_are_none_are_refused(rt: HostRuntime) -> Result<(), Error> {
 
 #[test]
 fn a_reply_gets_date_and_connection(rt: HostRuntime) -> Result<(), Error> {
-    // The moment of RFC 9110, section 5.6.7, in milliseconds.
-    let date = get_cached_date(784_111_777_999);
-    let mut head = ResponseHeader::build(rt.alloc(), 200, None)?;
-    head.append_header(b"date", b"never")?;
+    let date = example_date();
+    let mut head = response(rt.alloc(), 200, &[(b"date", b"never")])?;
     head.set_content_length(5)?;
-    let mut bytes = vec![in rt.alloc(); b'!']?;
+    assert!(rt; head.version() == Version::HTTP_11);
+    let mut bytes = HeadBuffer::new(rt.alloc());
+    bytes.push(b"!")?;
     print_reply_head(&head, &date, true, &mut bytes)?;
     assert_eq!(rt;
         bytes.as_slice(),
@@ -84,8 +108,8 @@ fn a_reply_gets_date_and_connection(rt: HostRuntime) -> Result<(), Error> {
             .as_slice()
     );
     head.remove_header(b"Date");
-    head.set_version(Version::HTTP_10);
     head.set_status(299)?;
+    head.set_version(Version::HTTP_10);
     let mut out = vec![in rt.alloc(); b'!']?;
     push_response_head(&head, &mut out)?;
     assert_eq!(rt;
@@ -110,17 +134,26 @@ fn a_date_is_kept_for_its_second_alone(rt: HostRuntime) -> Result<(), Error> {
     Ok(())
 }
 
+/// Lines of the names that a reply gets, and one whose name only begins as one of these.
+const OWN_LINES: [(&[u8], &[u8]); 6] = [
+    (b"connection", b"upgrade"),
+    (b"A", b"1"),
+    (b"CONNECTION", b"keep-alive"),
+    (b"date", b"never"),
+    (b"Dates", b"2"),
+    (b"Date", b"ever"),
+];
+
+fn own_lines<'a>() -> &'a [(&'a [u8], &'a [u8])] {
+    &OWN_LINES
+}
+
 #[test]
 fn date_and_connection_stand_once_in_the_first_places(rt: HostRuntime) -> Result<(), Error> {
-    let date = get_cached_date(784_111_777_999);
-    let mut head = ResponseHeader::build(rt.alloc(), 404, None)?;
-    head.append_header(b"connection", b"upgrade")?;
-    head.append_header(b"A", b"1")?;
-    head.append_header(b"CONNECTION", b"keep-alive")?;
-    head.append_header(b"date", b"never")?;
-    head.append_header(b"Dates", b"2")?;
-    head.append_header(b"Date", b"ever")?;
-    let mut bytes = Vec::new(rt.alloc());
+    let date = example_date();
+    let head = response(rt.alloc(), 404, own_lines())?;
+    assert!(rt; head.version() == Version::HTTP_11);
+    let mut bytes = HeadBuffer::new(rt.alloc());
     print_reply_head(&head, &date, false, &mut bytes)?;
     assert_eq!(rt;
         bytes.as_slice(),
@@ -148,6 +181,56 @@ fn a_phrase_that_is_set_is_written(rt: HostRuntime) -> Result<(), Error> {
 }
 
 #[test]
+fn a_head_is_put_in_the_place_of_another(rt: HostRuntime) -> Result<(), Error> {
+    let mut place = RequestHeader::build(rt.alloc(), b"POST", b"/old", None)?;
+    request(rt.alloc())?.copy_to(&mut place)?;
+    assert_eq!(rt; place.method().as_str(), "GET");
+    assert_eq!(rt; place.raw_path(), b"/x".as_slice());
+    assert_eq!(rt; place.get(b"host"), Some(b"a".as_slice()));
+    Ok(())
+}
+
+#[test]
+fn a_length_is_added_at_the_end(rt: HostRuntime) -> Result<(), Error> {
+    let mut head = response(rt.alloc(), 200, &[(b"A", b"1")])?;
+    head.append_content_length(u64::MAX)?;
+    let mut out = BytesMut::new(rt.alloc());
+    head.header_to_h1_wire(&mut out)?;
+    assert_eq!(rt;
+        out.as_slice(),
+        b"A: 1\r\ncontent-length: 18446744073709551615\r\n".as_slice()
+    );
+    Ok(())
+}
+
+/// A buffer with 1,000 bytes.
+fn long_buffer(alloc: Global) -> Result<HeadBuffer, Error> {
+    let mut buffer = HeadBuffer::new(alloc);
+    for _ in 0..100 {
+        buffer.push(b"0123456789")?;
+    }
+    Ok(buffer)
+}
+
+#[test]
+fn a_buffer_grows_and_is_used_again(rt: HostRuntime) -> Result<(), Error> {
+    let mut buffer = long_buffer(rt.alloc())?;
+    assert_eq!(rt; buffer.len(), 1_000);
+    assert_eq!(rt; buffer.as_slice().last(), Some(&b'9'));
+    buffer.clear();
+    buffer.push_line(b"A", b"1")?;
+    let bytes = buffer.into_bytes();
+    assert_eq!(rt; bytes.as_slice(), b"A: 1\r\n".as_slice());
+    Ok(())
+}
+
+/// A request of other types, with one line.
+fn of_other_types(alloc: Global, uri: &str) -> Result<RequestHeader, Fail> {
+    let request = Request::get(alloc, uri).header("X-Id", "1").body(())?;
+    Ok(RequestHeader::from_parts(alloc, request.into_parts().0)?)
+}
+
+#[test]
 fn a_head_of_other_types_keeps_its_target_and_authority(rt: HostRuntime) -> Result<(), Fail> {
     let cases = [
         ("/x?y", "/x?y", None),
@@ -156,8 +239,7 @@ fn a_head_of_other_types_keeps_its_target_and_authority(rt: HostRuntime) -> Resu
         ("a:443", "a:443", Some("a:443")),
     ];
     for (uri, target, authority) in cases {
-        let request = Request::get(rt.alloc(), uri).header("X-Id", "1").body(())?;
-        let req = RequestHeader::from_parts(rt.alloc(), request.into_parts().0)?;
+        let req = of_other_types(rt.alloc(), uri)?;
         assert_eq!(rt; req.raw_path(), target.as_bytes(), "{uri}");
         assert_eq!(rt;
             req.authority(),

@@ -1,20 +1,17 @@
 //! The bytes of heads (RFC 9112, sections 2.1, 3 and 4).
 ghost use Rattle.std.specs.Prelude.{◌≡◌, ◌∷◌, ◌++◌, [], codes, true, if◌then◌else◌, unwrap_or, IsTrue, IsSomeAnd, IfOk, OnOk, OnErr, IsOkUnless, MatchOption};
 ghost use Rattle.h1_error.specs.Memory.{no_memory};
-ghost use Rattle.h1_fields.specs.Lines.{with_line, print_line, print_lines};
+ghost use Rattle.h1_fields.specs.Lines.{with_line, print_lines};
 ghost use Rattle.h1_head.specs.Versions.{is_http_1, version_name};
 ghost use Rattle.h1_head.specs.Response.{reason_of};
 ghost use Rattle.h1_head.specs.Wire.{print_status_line, head_bytes, reply_head, keep_option, is_forbidden_byte, has_forbidden_byte, print_request_line, print_request, request_bytes};
 
 use crate::version::name_of;
-use crate::{Fields, RequestHeader, ResponseHeader};
+use crate::{Fields, HeadBuffer, RequestHeader, ResponseHeader};
 use bytes::BytesMut;
 use h1_error::Error;
 use h1_fields::is_same_name;
 use http::Version;
-
-/// The bytes that most heads of replies have at most.
-const REPLY_ROOM: usize = 256;
 
 /// Appends the status line, the field lines and the empty line after them.
 pub fn push_response_head(header: &ResponseHeader, out: &mut Vec<u8>) -> Result<(), Error>
@@ -24,7 +21,7 @@ pub fn push_response_head(header: &ResponseHeader, out: &mut Vec<u8>) -> Result<
     ensures same { OnErr result (out.new.items ≡ out.old.items) }
 {
     let head = response_bytes(header)?;
-    out.extend_from_slice(&head)?;
+    out.extend_from_slice(head.as_slice())?;
     Ok(())
 }
 
@@ -35,13 +32,13 @@ pub fn print_reply_head(
     header: &ResponseHeader,
     date: &[u8; 29],
     keep: bool,
-    out: &mut Vec<u8>,
+    out: &mut HeadBuffer,
 ) -> Result<(), Error>
     requires { IsTrue (is_http_1 header.now.version) }
     ensures ok { OnOk result
-        (out.new.items ≡ head_bytes (reply_head header.now date.now keep)) }
+        (out.new ≡ head_bytes (reply_head header.now date.now keep)) }
     ensures err { IsOkUnless result no_memory }
-    ensures none { OnErr result (out.new.items ≡ []) }
+    ensures none { OnErr result (out.new ≡ []) }
 {
     out.clear();
     let printed = push_final_head(out, header, date, keep);
@@ -54,17 +51,16 @@ pub fn print_reply_head(
 /// Appends the head of a final reply, with Date and Connection.
 #[inline(always)]
 fn push_final_head(
-    out: &mut Vec<u8>,
+    out: &mut HeadBuffer,
     header: &ResponseHeader,
     date: &[u8; 29],
     keep: bool,
 ) -> Result<(), Error>
     requires { IsTrue (is_http_1 header.now.version) }
-    ensures ok { OnOk result (out.new.items
-        ≡ out.old.items ++ head_bytes (reply_head header.now date.now keep)) }
+    ensures ok { OnOk result (out.new
+        ≡ out.old ++ head_bytes (reply_head header.now date.now keep)) }
     ensures err { IsOkUnless result no_memory }
 {
-    out.reserve(REPLY_ROOM)?;
     push_status_line(out, header)?;
     push_reply_lines(out, header.fields(), date, keep)?;
     Ok(())
@@ -78,35 +74,35 @@ fn option_of(keep: bool) -> &'static [u8]
 }
 
 /// The bytes of a response head.
-fn response_bytes(header: &ResponseHeader) -> Result<Vec<u8>, Error>
+fn response_bytes(header: &ResponseHeader) -> Result<HeadBuffer, Error>
     requires { IsTrue (is_http_1 header.now.version) }
-    ensures ok { IfOk result (λ bytes. bytes.items ≡ head_bytes header.now) }
+    ensures ok { IfOk result (λ bytes. bytes ≡ head_bytes header.now) }
     ensures err { IsOkUnless result no_memory }
 {
-    let mut out = Vec::new(header.allocator());
+    let mut out = HeadBuffer::new(header.allocator());
     push_status_line(&mut out, header)?;
     push_lines(&mut out, header.fields())?;
-    out.extend_from_slice(b"\r\n")?;
+    out.push(b"\r\n")?;
     Ok(out)
 }
 
 /// Appends version, status code and phrase.
 #[inline(always)]
-fn push_status_line(out: &mut Vec<u8>, header: &ResponseHeader) -> Result<(), Error>
+fn push_status_line(out: &mut HeadBuffer, header: &ResponseHeader) -> Result<(), Error>
     requires { IsTrue (is_http_1 header.now.version) }
-    ensures ok { OnOk result (out.new.items ≡ out.old.items ++ print_status_line header.now) }
+    ensures ok { OnOk result (out.new ≡ out.old ++ print_status_line header.now) }
     ensures err { IsOkUnless result no_memory }
 {
     if is_plain_ok(header) {
-        out.extend_from_slice(b"HTTP/1.1 200 OK\r\n")?;
+        out.push(b"HTTP/1.1 200 OK\r\n")?;
         return Ok(());
     }
-    out.extend_from_slice(reply_version(header.version()).as_bytes())?;
-    out.extend_from_slice(b" ")?;
-    out.extend_from_slice(header.status_digits().as_bytes())?;
-    out.extend_from_slice(b" ")?;
-    out.extend_from_slice(phrase_or_nothing(header))?;
-    out.extend_from_slice(b"\r\n")?;
+    out.push(reply_version(header.version()).as_bytes())?;
+    out.push(b" ")?;
+    out.push(header.status_digits().as_bytes())?;
+    out.push(b" ")?;
+    out.push(phrase_or_nothing(header))?;
+    out.push(b"\r\n")?;
     Ok(())
 }
 
@@ -139,12 +135,12 @@ fn phrase_or_nothing(header: &ResponseHeader) -> &[u8]
 }
 
 /// Appends each line.
-pub(crate) fn push_lines(out: &mut Vec<u8>, fields: &Fields) -> Result<(), Error>
-    ensures ok { OnOk result (out.new.items ≡ out.old.items ++ print_lines fields.now) }
+pub(crate) fn push_lines(out: &mut HeadBuffer, fields: &Fields) -> Result<(), Error>
+    ensures ok { OnOk result (out.new ≡ out.old ++ print_lines fields.now) }
     ensures err { IsOkUnless result no_memory }
 {
     for (name, value) in fields.iter() {
-        push_line(out, name, value)?;
+        out.push_line(name, value)?;
     }
     Ok(())
 }
@@ -153,14 +149,14 @@ pub(crate) fn push_lines(out: &mut Vec<u8>, fields: &Fields) -> Result<(), Error
 /// names and without later ones, or at the end, and an empty line.
 #[inline(always)]
 fn push_reply_lines(
-    out: &mut Vec<u8>,
+    out: &mut HeadBuffer,
     fields: &Fields,
     date: &[u8; 29],
     keep: bool,
 ) -> Result<(), Error>
     ensures ok { let dated = with_line (codes "Date") date.now fields.now in
         let lines = with_line (codes "Connection") (keep_option keep) dated in
-        OnOk result (out.new.items ≡ out.old.items ++ print_lines lines ++ (13 ∷ 10 ∷ [])) }
+        OnOk result (out.new ≡ out.old ++ print_lines lines ++ (13 ∷ 10 ∷ [])) }
     ensures err { IsOkUnless result no_memory }
 {
     let mut dated = false;
@@ -173,7 +169,7 @@ fn push_reply_lines(
             push_once(out, connected, b"Connection", option_of(keep))?;
             connected = true;
         } else {
-            push_line(out, name, value)?;
+            out.push_line(name, value)?;
         }
     }
     push_end(out, dated, date, connected, keep)?;
@@ -183,7 +179,7 @@ fn push_reply_lines(
 /// Appends Date and Connection, as far as they aren't written yet, and an empty line.
 #[inline(always)]
 fn push_end(
-    out: &mut Vec<u8>,
+    out: &mut HeadBuffer,
     dated: bool,
     date: &[u8; 29],
     connected: bool,
@@ -192,17 +188,17 @@ fn push_end(
     ensures ok { let first = if dated then [] else (codes "Date", date.now) ∷ [] in
         let second = if connected then [] else (codes "Connection", keep_option keep) ∷ [] in
         let lines = print_lines (first ++ second) in
-        OnOk result (out.new.items ≡ out.old.items ++ lines ++ (13 ∷ 10 ∷ [])) }
+        OnOk result (out.new ≡ out.old ++ lines ++ (13 ∷ 10 ∷ [])) }
     ensures err { IsOkUnless result no_memory }
 {
     // Of most replies neither is written yet, and the connection is kept.
     if let (false, false, true) = (dated, connected, keep) {
-        out.extend_from_slice(&kept_end(date))?;
+        out.push(&kept_end(date))?;
         return Ok(());
     }
     push_once(out, dated, b"Date", date)?;
     push_once(out, connected, b"Connection", option_of(keep))?;
-    out.extend_from_slice(b"\r\n")?;
+    out.push(b"\r\n")?;
     Ok(())
 }
 
@@ -218,39 +214,15 @@ fn kept_end(date: &[u8; 29]) -> [u8; 63]
 }
 
 /// Appends one line, if it isn't written yet.
-fn push_once(out: &mut Vec<u8>, written: bool, name: &[u8], value: &[u8]) -> Result<(), Error>
+fn push_once(out: &mut HeadBuffer, written: bool, name: &[u8], value: &[u8]) -> Result<(), Error>
     ensures ok { let lines = if written then [] else (name.now, value.now) ∷ [] in
-        OnOk result (out.new.items ≡ out.old.items ++ print_lines lines) }
+        OnOk result (out.new ≡ out.old ++ print_lines lines) }
     ensures err { IsOkUnless result no_memory }
 {
     if written {
         return Ok(());
     }
-    push_line(out, name, value)
-}
-
-/// Appends one line.
-#[inline(always)]
-fn push_line(out: &mut Vec<u8>, name: &[u8], value: &[u8]) -> Result<(), Error>
-    ensures ok { OnOk result (out.new.items ≡ out.old.items ++ print_line (name.now, value.now)) }
-    ensures err { IsOkUnless result no_memory }
-{
-    out.extend_from_slice(name)?;
-    push_two(out, b':', b' ')?;
-    out.extend_from_slice(value)?;
-    push_two(out, b'\r', b'\n')
-}
-
-/// Appends two bytes.
-#[inline(always)]
-fn push_two(out: &mut Vec<u8>, first: u8, second: u8) -> Result<(), Error>
-    ensures ok { OnOk result (out.new.items ≡ out.old.items ++ first ∷ second ∷ []) }
-    ensures err { IsOkUnless result no_memory }
-{
-    out.reserve(2)?;
-    out.push_reserved(first);
-    out.push_reserved(second);
-    Ok(())
+    out.push_line(name, value)
 }
 
 /// The bytes of a request head. None where its target or its version can't stand on a request line.
@@ -273,25 +245,25 @@ fn print_request(req: &RequestHeader, version: &str) -> Result<BytesMut, Error>
     ensures ok { IfOk result (λ wire. wire.items ≡ print_request req.now version.now) }
     ensures err { IsOkUnless result no_memory }
 {
-    let mut head = Vec::new(req.allocator());
+    let mut head = HeadBuffer::new(req.allocator());
     push_request_line(&mut head, req, version)?;
     push_lines(&mut head, req.fields())?;
-    head.extend_from_slice(b"\r\n")?;
-    Ok(BytesMut::from(head))
+    head.push(b"\r\n")?;
+    Ok(BytesMut::from(head.into_bytes()))
 }
 
 /// Appends method, target and version.
-fn push_request_line(out: &mut Vec<u8>, req: &RequestHeader, version: &str) -> Result<(), Error>
+fn push_request_line(out: &mut HeadBuffer, req: &RequestHeader, version: &str) -> Result<(), Error>
     ensures ok { OnOk result
-        (out.new.items ≡ out.old.items ++ print_request_line req.now version.now) }
+        (out.new ≡ out.old ++ print_request_line req.now version.now) }
     ensures err { IsOkUnless result no_memory }
 {
-    out.extend_from_slice(req.method().as_str().as_bytes())?;
-    out.extend_from_slice(b" ")?;
-    out.extend_from_slice(req.raw_path())?;
-    out.extend_from_slice(b" ")?;
-    out.extend_from_slice(version.as_bytes())?;
-    out.extend_from_slice(b"\r\n")?;
+    out.push(req.method().as_str().as_bytes())?;
+    out.push(b" ")?;
+    out.push(req.raw_path())?;
+    out.push(b" ")?;
+    out.push(version.as_bytes())?;
+    out.push(b"\r\n")?;
     Ok(())
 }
 

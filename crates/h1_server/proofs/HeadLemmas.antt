@@ -1,6 +1,7 @@
 -- Lemmas on reading the head of a request.
-use Rattle.std.proofs.Common.{◌≡◌, ℕ, ◌<◌, nat_lt, Bool, true, false, List, [], ◌∷◌, length, arith, drop, Option, Some, None, Result, Ok, refl, ap, ◌∙◌, inl, inr}
-use Rattle.h1_server.specs.Words.{Poll, Ready, Error, LinkState, HasLooked, HeadSearch, MAX_HEADER_SIZE, RefusedAt, NotYetAt, body, reads, Settings, TransferView, BodyState, HeadStop, ReadRequest, Request}
+use Rattle.std.proofs.Common.{◌≡◌, ℕ, ◌<◌, ◌==◌, nat_lt, Bool, true, false, cond, List, [], ◌∷◌, length, arith, drop, Option, Some, None, IfSome, Result, Ok, refl, ap, ◌∙◌, inl, inr}
+use Rattle.h1_cut.specs.Limit.{HasNoCut}
+use Rattle.h1_server.specs.Words.{Poll, Ready, Error, LinkState, HasLooked, MAX_HEADER_SIZE, RefusedAt, NotYetAt, body, reads, Settings, TransferView, BodyState, HeadStop, ReadRequest, Request}
 use Rattle.h1_transfer.specs.Heads.{HeadIsTimed, ReadsHead, StopCause}
 use Rattle.h1_transfer.specs.Budget.{allowance}
 use Rattle.h1_transfer.specs.Deadline.{Wait, noted_since}
@@ -12,8 +13,10 @@ use Rattle.h1_server.proofs.Words.{keepalive_set, SessionView, session}
 use Rattle.h1_server.specs.Keepalive.{wished}
 use Rattle.h1_transfer.specs.declared.reading_head.HeadRead.TheVariants as h
 use Rattle.h1_transfer.specs.declared.reading_head.HeadStop.TheVariants as s
-use Rattle.h1_server.specs.Requests.{IsRequestOf, ReadsRequest, HeadAnswer, HeadTimed, BeginsNone, StopsFor}
-use Rattle.h1_server.specs.SessionView.{IsSearched}
+use Rattle.h1_server.specs.declared.request_place.RequestPlace.{RequestPlace}
+use Rattle.h1_server.specs.declared.request_state.RequestState.{RequestState}
+use Rattle.h1_server.specs.Requests.{IsPlaceOf, ReadsRequest, HeadAnswer, HeadTimed, BeginsNone, StopsFor}
+use Rattle.h1_server.specs.SessionView.{IsSearched, request_in}
 use Rattle.h1_server.specs.declared.request.ReadRequest.TheVariants as read
 
 nothing : (bytes : List ℕ) → true ≡ is_nothing bytes → bytes ≡ []
@@ -23,6 +26,12 @@ nothing (b ∷ bytes) is = absurd (true≢false is)
 something : (bytes : List ℕ) → false ≡ is_nothing bytes → 0 < length bytes
 something [] is = absurd (false≢true is)
 something (b ∷ bytes) is = omega arith
+
+-- in no bytes no head ends, and one may still end
+pub not_yet_empty : (bytes : List ℕ) → true ≡ (length bytes == 0) → NotYetAt bytes
+unfolding HasNoCut
+not_yet_empty [] none = record { uncut = refl; short = omega arith }
+not_yet_empty (b ∷ bytes) none = absurd (grind arith)
 
 -- what a call answers that read no head, and keeps as the refusal of later ones
 stop_answer : {L C : Type 0} (state : L → LinkState) (old new : SessionView L C) (stop : HeadStop)
@@ -72,14 +81,15 @@ stop_timed wait since before now received left bare old new s.NoMemory result ti
 
 -- a call that read no head
 pub head_stopped : {L C : Type 0} (state : L → LinkState) (old : SessionView L C)
-    (new : TransferView L) (found : Option Request)
+    (new : TransferView L) (found : RequestPlace) (request : Option Request)
     (refused : Option Error) (stop : HeadStop) (result : Poll (Result ReadRequest Error)) (now : ℕ) (bare : Bool)
+    → request ≡ None
     → bare ≡ is_nothing new.received → old.refused ≡ None → StopsFor bare old.refused refused stop result
-    → ReadsHead state IsRequestOf RefusedAt NotYetAt (head_deadline old.settings now) (session.transfer old) new
+    → ReadsHead state IsPlaceOf RefusedAt NotYetAt (head_deadline old.settings now) (session.transfer old) new
     found (h.Stopped stop)
-    → ReadsRequest state now old (record (session.put old new) { request = found; refused = refused }) result
-head_stopped {L} {C} state old new found refused stop result now bare bare_is none is reads =
-    let behind : SessionView L C = record (session.put old new) { request = found; refused = refused } in
+    → ReadsRequest state now old (record (session.put old new) { request = request; refused = refused }) result
+head_stopped {L} {C} state old new found request refused stop result now bare unread bare_is none is reads =
+    let behind : SessionView L C = record (session.put old new) { request = request; refused = refused } in
     record {
       bytes = new.received;
       left = reads.left;
@@ -87,43 +97,56 @@ head_stopped {L} {C} state old new found refused stop result now bare bare_is no
       received = reads.receives.received;
       budget = reads.budget;
       rest = ap (λ (t : TransferView L). let s : SessionView L C =
-          record (session.put old new) { request = found; refused = refused; reply = t.outgoing } in s) reads.rest;
+          record (session.put old new) { request = request; refused = refused; reply = t.outgoing } in s) reads.rest;
       few = reads.receives.few;
       answer = stop_answer state old behind stop reads.left result bare bare_is none
           (record {
-            request = reads.cause.1;
+            request = unread;
             received = refl;
             body = ap (λ (t : TransferView L). t.body) reads.rest;
             settings = refl;
-          }) is reads.cause.0;
+          }) is reads.cause;
       timed = stop_timed (record {
         deadline = head_deadline old.settings now;
         moved = nat_lt reads.left (allowance old.budget);
         since = old.body.since.read;
       }) new.body.since.read (state old.link) (state new.link) new.received reads.left bare old.refused refused
-          stop result reads.timed reads.cause.0 is;
+          stop result reads.timed reads.cause is;
     }
 
+-- a place that isn't read stays so, whatever is put in it
+pub still_unread : (is_read : Bool) (one other : Request) → cond is_read (Some one) None ≡ None
+    → cond is_read (Some other) None ≡ None
+still_unread true one other none = absurd (cc)
+still_unread false one other none = refl
+
+-- what is so of the request in a place is so of the request that was read into it
+pub if_read : (is_read : Bool) (request : Request) (P : Request → Type 0) → P request
+    → IfSome (cond is_read (Some request) None) P
+if_read true request P p = p
+if_read false request P p = tt
+
 -- until a head is read, its search has looked at a front of what is received
-pub unread_searched : (request : Option Request) (search : HeadSearch) (received : List ℕ)
-    → request ≡ None → HasLooked MAX_HEADER_SIZE search received → IsSearched request search received
-unread_searched request search received none looked = rw none looked
+pub unread_searched : (asked : RequestState) (received : List ℕ) → asked.is_read ≡ false
+    → HasLooked MAX_HEADER_SIZE asked.search received
+    → IsSearched (request_in asked) asked.search received
+unread_searched asked received unread looked = rw unread looked
 
 -- a call that read a head: it is passed over, and its body begins
 pub head_read : {L C : Type 0} (state : L → LinkState) (old : SessionView L C)
-    (mid after new : TransferView L) (found : Option Request) (request : Request) (used n : ℕ)
+    (mid after new : TransferView L) (found : RequestPlace) (used n : ℕ)
     (settings : Settings) (now : ℕ)
-    → old.refused ≡ None → found ≡ Some request
-    → ReadsHead state IsRequestOf RefusedAt NotYetAt (head_deadline old.settings now) (session.transfer old) mid
+    → old.refused ≡ None
+    → ReadsHead state IsPlaceOf RefusedAt NotYetAt (head_deadline old.settings now) (session.transfer old) mid
     found (h.Whole used)
     → after ≡ record mid { received = drop used mid.received }
-    → ((rest : List ℕ) → reads new.body.reader rest ≡ body request.framing rest)
+    → ((rest : List ℕ) → reads new.body.reader rest ≡ body found.request.framing rest)
     → new ≡ record after { body = record after.body { reader = new.body.reader; refused = None } }
-    → n ≡ length request.raw → settings ≡ keepalive_set old.settings (wished request.wish)
-    → ReadsRequest state now old (record (session.put old new) { request = found; settings = settings })
+    → n ≡ length found.request.raw → settings ≡ keepalive_set old.settings (wished found.request.wish)
+    → ReadsRequest state now old
+    (record (session.put old new) { request = Some found.request; settings = settings })
     (Ready (Ok (read.Head n)))
-head_read {L} {C} state old mid after new found request used n settings now none found_is told skips begins rest n_is
-    settings_is =
+head_read {L} {C} state old mid after new found used n settings now none told skips begins rest n_is settings_is =
     let is = rest
     ∙ ap (λ (t : TransferView L). record t { body = record t.body { reader = new.body.reader; refused = None } })
     (skips ∙ ap (λ (t : TransferView L). record t { received = drop used mid.received }) told.rest) in
@@ -146,14 +169,18 @@ head_read {L} {C} state old mid after new found request used n settings now none
       received = rw link told.receives.received;
       budget = ap (λ (t : TransferView L). t.budget) is ∙ told.budget;
       rest = ap (λ (t : TransferView L). let s : SessionView L C =
-          record (session.put old new) { request = found; settings = settings; reply = t.outgoing } in s) is;
+          record (session.put old new) {
+            request = Some found.request;
+            settings = settings;
+            reply = t.outgoing;
+          } in s) is;
       few = rw link told.receives.few;
       answer = (
-        request,
-        found_is,
+        found.request,
+        refl,
         record {
           used = used;
-          is = rw found_is at told.cause.0;
+          is = told.cause.0;
           received = ap (λ (t : TransferView L). t.received) is;
           raw = n_is;
           reader = begins;

@@ -13,6 +13,7 @@ use Rattle.h1_server.specs.Times.{head_deadline}
 use Rattle.h1_transfer.specs.Deadline.{FailsInTime, Noted, is_timeout, noted_since}
 use Rattle.h1_transfer.specs.Budget.{allowance}
 use Rattle.h1_server.specs.declared.request.ReadRequest.TheVariants as read
+use Rattle.h1_server.specs.declared.request_place.RequestPlace.{RequestPlace}
 use Rattle.h1_server.specs.declared.request.NoRequest.TheVariants.{Closed, IdleTimeout}
 
 -- the head that was read, its bytes as they were parsed, and what follows from it: its wish, and the
@@ -22,6 +23,10 @@ pub record IsRequestOf (bytes : List ℕ) (used : ℕ) (request : Request) : Typ
   pub raw : IsReadAs (take used bytes) request.raw
   pub framed : request.framing ≡ framing request.header
   pub wishes : request.wish ≡ wish request.header request.both
+
+-- the same of the request in a place
+abbrev pub IsPlaceOf : List ℕ → ℕ → RequestPlace → Type 0
+IsPlaceOf bytes used place = IsRequestOf bytes used place.request
 
 -- a head was read: its bytes are used, and the body after it is still to be read
 pub record BeginsRequest {L C : Type 0} (old new : SessionView L C) (bytes : List ℕ)

@@ -1,7 +1,8 @@
 -- What contracts see of a server session.
-use Rattle.std.specs.Prelude.{◌≡◌, ℕ, List, [], Bool, Option, Some, None, true, false}
+use Rattle.std.specs.Prelude.{◌≡◌, ℕ, List, [], Bool, Option, Some, None, false, if◌then◌else◌}
 use Rattle.h1_server.specs.Words.{Error, Request, BodyState, Outgoing, IsNoBody, no_reply, Settings, HasLooked, HeadSearch, MAX_HEADER_SIZE}
 use Rattle.h1_server.specs.Keepalive.{new_settings}
+use Rattle.h1_server.specs.declared.request_state.RequestState.{RequestState}
 use Rattle.h1_server.specs.declared.times.Times.{Times}
 use Rattle.h1_transfer.specs.TransferView.{Holds}
 
@@ -42,6 +43,10 @@ session = record {
     budget = t.budget;
   };
 }
+
+-- the request, once its head was read
+abbrev pub request_in : RequestState → Option Request
+request_in asked = if asked.is_read then Some asked.place.request else None
 
 -- until a head is read, the search for its end has looked at a front of what is received
 abbrev pub IsSearched : Option Request → HeadSearch → List ℕ → Type 0

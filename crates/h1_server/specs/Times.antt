@@ -1,5 +1,5 @@
 -- How long the reads and writes of a session may wait. All times are milliseconds.
-use Rattle.std.specs.Prelude.{◌≡◌, ℕ, zero, suc, ◌-◌, ◌*◌, ◌/◌, ◌^◌, min, max, ◌==◌, List, Option, Some, None, if◌then◌else◌}
+use Rattle.std.specs.Prelude.{ℕ, zero, suc, ◌-◌, ◌*◌, ◌/◌, ◌^◌, min, max, List, Option, Some, None, if◌then◌else◌}
 use Rattle.h1_server.specs.Words.{Outgoing, Settings}
 use Rattle.h1_server.specs.Limit.{limited, shown}
 use Rattle.h1_transfer.specs.BodyWrites.{piece_len}

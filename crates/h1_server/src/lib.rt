@@ -5,13 +5,12 @@ mod limit;
 mod persistence;
 mod reading_head;
 mod request;
+mod request_place;
 mod request_state;
 mod reusable;
 mod server;
 mod settings;
 mod taking_up;
-#[cfg(test)]
-mod tests;
 mod times;
 
 pub use h1_transfer::{BodyState, CALL_BUDGET, Outgoing, Step};

@@ -1,5 +1,6 @@
 //! When a connection persists after a reply (RFC 9112, section 9.3).
 ghost use Rattle.std.specs.Prelude.{◌≡◌, []};
+ghost use Rattle.std.specs.Option.{option_copied};
 ghost use Rattle.h1_body.specs.Reader.{reads};
 ghost use Rattle.h1_server.specs.Persistence.{keep_flag, has_reuses, is_body_whole, is_whole, grants, stays_open, is_replied, may_follow};
 
@@ -25,7 +26,7 @@ impl<L: Link + Drop, C: Drop> HttpSession<L, C> {
     {
         !self.settings.keep_off
             && has_reuses(self.settings.reuses)
-            && grants(&self.asked.request)
+            && grants(self.asked.get())
             && self.transfer.body().refused.is_none()
             && stays_open(self.keep, self.transfer.outgoing())
     }
@@ -50,8 +51,8 @@ fn has_reuses(reuses: Option<u32>) -> bool
 }
 
 /// The wish of the request, once its head was read.
-fn grants(request: &Option<Request>) -> bool
-    ensures { result ≡ grants request.now }
+fn grants(request: Option<&Request>) -> bool
+    ensures { result ≡ grants (option_copied request.entry) }
 {
     match request {
         Some(request) => request.wish,

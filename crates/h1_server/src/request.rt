@@ -7,7 +7,8 @@ ghost use Rattle.h1_server.specs.Words.{framing, wish};
 use bytes::Bytes;
 use h1_body::{Framing, framing_of};
 use h1_error::{Error, HeadFault};
-use h1_head::{RequestHeader, Room, Verdict, judge_front, judge_head};
+use h1_head::{FEW_HEADERS, RequestHeader, Room, Verdict, judge_front, judge_head};
+use httparse::spans::HeaderSpan;
 use std::alloc::Global;
 
 /// A request as it was read. Its wish, framing and raw bytes don't change with its header.
@@ -76,18 +77,20 @@ impl Request {
     }
 
     /// The same for the head at the front of the bytes, where the grammar tells its end. Says how
-    /// many of the bytes it takes.
+    /// many of the bytes it takes. What the spans hold has no meaning before and after.
     #[inline(always)]
     pub(crate) fn read_front(
         &mut self,
         alloc: Global,
         bytes: &[u8],
         room: &mut Room,
+        spans: &mut [HeaderSpan; FEW_HEADERS],
     ) -> Result<Option<(Option<HeadFault>, usize)>, Error>
         ensures ok { IfOk result (λ found. IfSome found (IsFrontRead bytes.now self.new)) }
         ensures err { IsOkUnless result no_memory }
     {
-        match judge_front(alloc, bytes, room, &mut self.header, &mut self.raw)? {
+        let (header, raw) = (&mut self.header, &mut self.raw);
+        match judge_front(alloc, bytes, room, spans, header, raw)? {
             Some((Verdict::Accepted { both }, len)) => {
                 self.note(both);
                 Ok(Some((None, len)))

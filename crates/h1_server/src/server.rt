@@ -1,5 +1,5 @@
 //! The session: one exchange at a time over a link, call by call.
-ghost use Rattle.std.specs.Prelude.{◌≡◌, ◌↔◌, [], IsTrue, IsSome, IfSome, None, Some, true, false, is_some, MatchOption, IsOkAnd};
+ghost use Rattle.std.specs.Prelude.{◌≡◌, ◌↔◌, [], IsTrue, IsSome, IfSome, None, Some, true, false, is_some, unwrap_or, MatchOption, IsOkAnd};
 ghost use Rattle.h1_link.specs.Steps.{after_shutdown};
 ghost use Rattle.h1_link.specs.Later.{KeepsBytes};
 ghost use Rattle.std.specs.Fn.{FnOnceTakesAtMut, FnOnceReturnsAtMut};
@@ -7,7 +7,6 @@ ghost use Rattle.h1_server.specs.Keepalive.{keepalive_set, keepalive_timeout};
 
 use crate::persistence::is_at_end;
 use crate::request_state::RequestState;
-use crate::settings::with_keepalive;
 use crate::{Request, Settings, Step};
 use h1_body::BodyBytes;
 use h1_error::Error;
@@ -38,14 +37,14 @@ pub struct HttpSession<L: Link + Drop, C: Drop> {
 }
 
 impl<L: Link + Drop, C: Drop> Model for HttpSession<L, C> {
-    ghost use Rattle.h1_server.specs.SessionView.{SessionView, IsSearched};
+    ghost use Rattle.h1_server.specs.SessionView.{SessionView, IsSearched, request_in};
 
     ghost Value = { SessionView L C };
 
     ghost view = { λ s. record {
       link = s.transfer.link;
       received = s.transfer.received;
-      request = s.asked.request;
+      request = request_in s.asked;
       refused = s.asked.refused;
       body = s.transfer.body;
       reply = s.transfer.outgoing;
@@ -56,7 +55,7 @@ impl<L: Link + Drop, C: Drop> Model for HttpSession<L, C> {
       context = s.context;
     } };
 
-    ghost invariant = { λ s. IsSearched s.asked.request s.asked.search s.transfer.received };
+    ghost invariant = { λ s. IsSearched (request_in s.asked) s.asked.search s.transfer.received };
 }
 
 impl<L: Link + Drop, C: Drop> HttpSession<L, C> {
@@ -71,7 +70,7 @@ impl<L: Link + Drop, C: Drop> HttpSession<L, C> {
     {
         Ok(HttpSession {
             transfer: Transfer::new(alloc, link),
-            asked: RequestState::new(),
+            asked: RequestState::new(alloc),
             settings: Settings::new(),
             keep: false,
             reusable: false,
@@ -84,7 +83,7 @@ impl<L: Link + Drop, C: Drop> HttpSession<L, C> {
     pub fn has_request(&self) -> bool
         ensures { result ≡ is_some self.now.request }
     {
-        self.asked.request.is_some()
+        self.asked.is_read
     }
 
     /// The request, once its head was read.
@@ -92,7 +91,7 @@ impl<L: Link + Drop, C: Drop> HttpSession<L, C> {
         ensures { MatchOption result (self.now.request ≡ None)
             (λ request. self.now.request ≡ Some request.now) }
     {
-        self.asked.request.as_ref()
+        self.asked.get()
     }
 
     /// The head of the request.
@@ -100,10 +99,7 @@ impl<L: Link + Drop, C: Drop> HttpSession<L, C> {
         requires { IsSome self.now.request }
         ensures { IfSome self.now.request (λ request. result.now ≡ request.header) }
     {
-        match &self.asked.request {
-            Some(request) => &request.header,
-            None => unreachable!(),
-        }
+        &self.asked.place.request.header
     }
 
     /// Which write is in progress, and may be made again with nothing handed in.
@@ -126,7 +122,7 @@ impl<L: Link + Drop, C: Drop> HttpSession<L, C> {
         ensures { self.new
             ≡ record self.old { settings = keepalive_set self.old.settings seconds } }
     {
-        self.settings = with_keepalive(self.settings, seconds);
+        self.settings.set_keepalive(seconds);
     }
 
     /// The deadline of the next head in seconds, of which 0 is none; None where keep-alive was set off.
@@ -174,6 +170,14 @@ impl<L: Link + Drop, C: Drop> HttpSession<L, C> {
         ensures { self.new ≡ record self.old { body = record self.old.body { kept = Some kept } } }
     {
         self.transfer.keep_payload(kept);
+    }
+
+    /// The payload that is kept so far.
+    #[inline(always)]
+    pub fn kept_payload(&self) -> &[u8]
+        ensures { result.now ≡ unwrap_or self.now.body.kept [] }
+    {
+        self.transfer.kept_payload()
     }
 
     /// Hands out the payload that was kept, and keeps none from here on.

@@ -22,40 +22,11 @@ pub struct Settings {
     pub times: Times,
 }
 
-/// The settings with keep-alive off, or on with a deadline.
-pub(crate) fn with_keepalive(settings: Settings, seconds: Option<u64>) -> Settings
-    ensures { result ≡ keepalive_set settings seconds }
-{
-    match seconds {
-        None => Settings {
-            keep_off: true,
-            ..settings
-        },
-        Some(seconds) => Settings {
-            keep_off: false,
-            keepalive: seconds,
-            ..settings
-        },
-    }
-}
-
 /// Keep-alive without a deadline where the request wishes it, and off where it doesn't.
 pub(crate) fn wished(wish: bool) -> Option<u64>
     ensures { result ≡ wished wish }
 {
     if wish { Some(0) } else { None }
-}
-
-/// What stays set from one request to the next.
-pub(crate) fn next_settings(settings: Settings) -> Settings
-    ensures { result ≡ next_settings settings }
-{
-    Settings {
-        closing: true,
-        reuses: one_less(settings.reuses),
-        times: Times::new(),
-        ..settings
-    }
 }
 
 /// One request fewer may follow, where there is a limit.
@@ -69,6 +40,30 @@ pub fn one_less(reuses: Option<u32>) -> Option<u32>
 }
 
 impl Settings {
+    /// Turns keep-alive off, or on with a deadline.
+    #[inline(always)]
+    pub(crate) fn set_keepalive(&mut self, seconds: Option<u64>)
+        ensures { self.new ≡ keepalive_set self.old seconds }
+    {
+        match seconds {
+            None => self.keep_off = true,
+            Some(seconds) => {
+                self.keep_off = false;
+                self.keepalive = seconds;
+            }
+        }
+    }
+
+    /// Leaves what stays set from one request to the next.
+    #[inline(always)]
+    pub(crate) fn start_over(&mut self)
+        ensures { self.new ≡ next_settings self.old }
+    {
+        self.closing = true;
+        self.reuses = one_less(self.reuses);
+        self.times = Times::new();
+    }
+
     /// Keep-alive is off, a reply before the request's end closes, and nothing is pipelined.
     pub(crate) fn new() -> Self
         ensures { result ≡ new_settings }

@@ -8,7 +8,7 @@ ghost use Rattle.h1_server.specs.TakingUp.{TakesUpHeader, head_delivery};
 use crate::Request;
 use h1_body::{BodyWriter, Framing, reply_framing};
 use h1_error::{Error, ErrorType, HeadFault};
-use h1_head::{CacheableDate, ResponseHeader, is_http_1, print_reply_head};
+use h1_head::{CacheableDate, HeadBuffer, ResponseHeader, is_http_1, print_reply_head};
 use h1_link::Link;
 use h1_transfer::{Delivery, Transfer};
 
@@ -63,10 +63,10 @@ fn print_head(
     keep: bool,
     now: u64,
     dates: &mut CacheableDate,
-    out: &mut Vec<u8>,
+    out: &mut HeadBuffer,
 ) -> Result<(), Error>
     requires { now < YEAR_10000 }
-    ensures { IsHeadOf head.now keep now out.new.items result }
+    ensures { IsHeadOf head.now keep now out.new result }
 {
     if !is_http_1(head.version()) {
         return Err(Error::from(ErrorType::InvalidHTTPHeader(HeadFault::UnsupportedVersion)));

@@ -6,6 +6,3 @@ mod serving;
 
 pub use generated::serve_gen;
 pub use serving::{Echoed, MOST_POLLS, serve_link};
-
-#[cfg(test)]
-mod tests;

@@ -2,6 +2,7 @@
 //! here promises anything: an expectation that isn't met ends the test.
 mod bodies;
 mod calls;
+mod exchange;
 mod heads;
 mod peer;
 mod pieces;

@@ -114,6 +114,17 @@ impl Transcript {
         Ok(())
     }
 
+    /// The exchange that goes on is dropped, as if it had not begun.
+    #[cold]
+    #[inline(never)]
+    pub fn drop_last(&mut self)
+        requires { IsSome self.old.last }
+        ensures done { self.new.done ≡ self.old.done }
+        ensures last { self.new.last ≡ None }
+    {
+        self.entries.truncate(self.ended);
+    }
+
     /// Whether an exchange goes on.
     pub fn goes_on(&self) -> bool
         ensures { result ≡ is_some self.now.last }

@@ -1,5 +1,5 @@
 -- Lemmas on the reading of a head that is judged by its limit.
-use Rattle.std.proofs.Common.{◌≡◌, ◌≢◌, ℕ, List, Bool, true, false, Option, refl}
+use Rattle.std.proofs.Common.{◌≡◌, ◌≢◌, ℕ, List, Bool, true, false, refl}
 use Rattle.h1_error.specs.declared.head_fault.HeadFault.{HeadFault}
 use Rattle.h1_transfer.specs.Words.{LinkState}
 use Rattle.h1_transfer.proofs.Words.{Called}
@@ -11,7 +11,7 @@ use Rattle.h1_transfer.specs.declared.reading_head.HeadStop.TheVariants as s
 
 -- the cause of a read that is late is that of one that is not ready
 pub cause_judged : {H : Type 0} (is_at : List ℕ → ℕ → H → Type 0) (refuses : List ℕ → HeadFault → Type 0)
-    (lacks : List ℕ → Type 0) (before now : LinkState) (received : List ℕ) (left : ℕ) (found : Option H)
+    (lacks : List ℕ → Type 0) (before now : LinkState) (received : List ℕ) (left : ℕ) (found : H)
     (late : Bool) (read : HeadRead) → HeadCause is_at refuses lacks before now received left found read
     → HeadCause is_at refuses lacks before now received left found (judged_head late read)
 cause_judged is_at refuses lacks before now received left found false read cause = cause

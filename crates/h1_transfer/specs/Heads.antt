@@ -1,5 +1,5 @@
 -- Heads at the front of what is received, and what reading one comes to (RFC 9112, sections 2.2 and 8).
-use Rattle.std.specs.Prelude.{◌≡◌, ℕ, ◌<◌, ◌≤◌, ◌+◌, nat_lt, List, [], length, Bool, true, false, Option, Some, None, IsSomeAnd, option_map}
+use Rattle.std.specs.Prelude.{◌≡◌, ℕ, ◌<◌, ◌≤◌, ◌+◌, nat_lt, List, [], length, Bool, true, false, Option, Some, None, option_map}
 use Rattle.h1_error.specs.declared.head_fault.HeadFault.{HeadFault}
 use Rattle.h1_transfer.specs.Words.{LinkState, Rose}
 use Rattle.h1_transfer.specs.Budget.{allowance}
@@ -20,10 +20,10 @@ use Rattle.h1_transfer.specs.declared.reading_head.HeadStop.TheVariants as s
 -- what a search says of the bytes, and what it found
 abbrev pub FoundIn : {H : Type 0} → (List ℕ → ℕ → H → Type 0) → (List ℕ → HeadFault → Type 0)
     → (List ℕ → Type 0)
-    → List ℕ → Option H → HeadFound → Type 0
-FoundIn is_at refuses lacks bytes found (head.Whole n) = IsSomeAnd found (is_at bytes n)
-FoundIn is_at refuses lacks bytes found (head.Refused fault) = refuses bytes fault × (found ≡ None)
-FoundIn is_at refuses lacks bytes found head.NotYet = lacks bytes × (found ≡ None)
+    → List ℕ → H → HeadFound → Type 0
+FoundIn is_at refuses lacks bytes found (head.Whole n) = is_at bytes n found
+FoundIn is_at refuses lacks bytes found (head.Refused fault) = refuses bytes fault
+FoundIn is_at refuses lacks bytes found head.NotYet = lacks bytes
 
 -- when the reading of a head stops, with the bytes that are received and not used then
 abbrev pub StopCause : (List ℕ → HeadFault → Type 0) → (List ℕ → Type 0) → LinkState → LinkState
@@ -44,11 +44,11 @@ StopCause refuses lacks before now received left s.NoMemory = Unit {0}
 -- when each answer of a head read comes, and what was found with it
 abbrev pub HeadCause : {H : Type 0} → (List ℕ → ℕ → H → Type 0) → (List ℕ → HeadFault → Type 0)
     → (List ℕ → Type 0)
-    → LinkState → LinkState → List ℕ → ℕ → Option H → HeadRead → Type 0
+    → LinkState → LinkState → List ℕ → ℕ → H → HeadRead → Type 0
 HeadCause is_at refuses lacks before now received left found (h.Whole n) =
-    IsSomeAnd found (is_at received n) × (now.read_waits ≡ before.read_waits)
+    is_at received n found × (now.read_waits ≡ before.read_waits)
 HeadCause is_at refuses lacks before now received left found (h.Stopped stop) =
-    StopCause refuses lacks before now received left stop × (found ≡ None)
+    StopCause refuses lacks before now received left stop
 
 -- how a read of a head went that came to this
 abbrev pub went_with : HeadRead → Went

@@ -32,4 +32,19 @@ impl BodyState {
             since: Since::new(),
         }
     }
+
+    /// Begins with the next message.
+    #[inline(always)]
+    pub(crate) fn start_over(&mut self)
+        ensures { IsNoBody self.new }
+    {
+        self.reader = BodyReader::new(Framing::Counted(0));
+        // Most have nothing that is kept, and then nothing is dropped.
+        if self.kept.is_some() {
+            self.kept = None;
+        }
+        self.refused = None;
+        self.waits = false;
+        self.since = Since::new();
+    }
 }

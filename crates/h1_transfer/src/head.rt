@@ -1,5 +1,5 @@
 //! Heads of messages, as they are found at the front of received bytes (RFC 9112, section 2.2).
-ghost use Rattle.std.specs.Prelude.{◌≡◌, ℕ, List, IfOk, OnErr, IsOkUnless, None};
+ghost use Rattle.std.specs.Prelude.{ℕ, List, IfOk, IsOkUnless};
 ghost use Rattle.h1_cut.specs.Search.{HasLooked};
 ghost use Rattle.h1_error.specs.Memory.{no_memory};
 ghost use Rattle.h1_error.specs.declared.head_fault.HeadFault.{HeadFault};
@@ -30,21 +30,19 @@ pub trait Head: Sized + Drop {
     /// No head ends in the bytes, and one may still end.
     ghost lacks: { List ℕ → Type 0 };
 
-    /// Looks for the head at the front of the bytes, and puts one that is accepted in the place of
-    /// none. The bytes grow from call to call, and the search goes on from the front that it has
-    /// looked at. What is kept of the bytes is a copy in the room's memory. Out of memory is the one
-    /// error, and then nothing is put.
+    /// Looks for the head at the front of the bytes, and puts one that is accepted in its place. The
+    /// bytes grow from call to call, and the search goes on from the front that it has looked at.
+    /// What is kept of the bytes is a copy in the room's memory. Out of memory is the one error.
+    /// Where no head is accepted, what stands in the place has no meaning.
     fn search(
         alloc: Global,
         search: &mut HeadSearch,
         bytes: &[u8],
         room: &mut Room,
-        found: &mut Option<Self>,
+        found: &mut Self,
     ) -> Result<HeadFound, Error>
         requires looked { HasLooked MAX_HEADER_SIZE search.old bytes.now }
-        requires none { found.old ≡ None }
         ensures ok { IfOk result (FoundIn is_at refuses lacks bytes.now found.new) }
         ensures err { IsOkUnless result no_memory }
-        ensures none { OnErr result (found.new ≡ None) }
         ensures looked { HasLooked MAX_HEADER_SIZE search.new bytes.now };
 }

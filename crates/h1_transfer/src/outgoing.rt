@@ -54,6 +54,7 @@ impl Outgoing {
     }
 
     /// Begins with the next message.
+    #[inline(always)]
     pub fn start_over(&mut self)
         ensures { self.new ≡ no_reply }
     {

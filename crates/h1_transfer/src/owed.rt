@@ -2,6 +2,7 @@
 ghost use Rattle.std.specs.Prelude.{◌≡◌, ◌<◌, ◌≤◌, ◌==◌, [], drop, take, length};
 
 use h1_body::Wire;
+use h1_head::HeadBuffer;
 use std::alloc::Global;
 use std::marker::Model;
 use std::mem;
@@ -12,7 +13,7 @@ use std::mem;
 #[derive(Drop)]
 pub struct Owed {
     alloc: Global,
-    head: Vec<u8>,
+    head: HeadBuffer,
     /// How many bytes of the head were sent.
     sent: usize,
     wire: Wire,
@@ -23,9 +24,9 @@ impl Model for Owed {
 
     ghost Value = { List ℕ };
 
-    ghost view = { λ owed. drop owed.sent owed.head.items ++ owed.wire };
+    ghost view = { λ owed. drop owed.sent owed.head ++ owed.wire };
 
-    ghost invariant = { λ owed. owed.sent ≤ length owed.head.items };
+    ghost invariant = { λ owed. owed.sent ≤ length owed.head };
 }
 
 impl Owed {
@@ -35,28 +36,28 @@ impl Owed {
     {
         Owed {
             alloc,
-            head: Vec::new(alloc),
+            head: HeadBuffer::new(alloc),
             sent: 0,
             wire: Wire::empty(),
         }
     }
 
     /// Hands out the buffer of the last head, with nothing in it, where nothing is owed.
-    pub fn take_buffer(&mut self) -> Vec<u8>
+    pub fn take_buffer(&mut self) -> HeadBuffer
         requires { self.old ≡ [] }
-        ensures empty { result.items ≡ [] }
+        ensures empty { result ≡ [] }
         ensures same { self.new ≡ [] }
     {
         self.sent = 0;
-        let mut buffer = mem::replace(&mut self.head, Vec::new(self.alloc));
+        let mut buffer = mem::replace(&mut self.head, HeadBuffer::new(self.alloc));
         buffer.clear();
         buffer
     }
 
     /// Owes a head, where nothing is owed.
-    pub fn put_head(&mut self, head: Vec<u8>)
+    pub fn put_head(&mut self, head: HeadBuffer)
         requires { self.old ≡ [] }
-        ensures { self.new ≡ head.items }
+        ensures { self.new ≡ head }
     {
         self.head = head;
         self.sent = 0;
@@ -75,6 +76,7 @@ impl Owed {
     }
 
     /// Owes nothing any more.
+    #[inline(always)]
     pub fn clear(&mut self)
         ensures { self.new ≡ [] }
     {
@@ -96,7 +98,7 @@ impl Owed {
         ensures some { 0 < length self.now → 0 < length result.now }
     {
         if self.sent < self.head.len() {
-            &self.head[self.sent..]
+            &self.head.as_slice()[self.sent..]
         } else {
             self.wire.front()
         }

@@ -8,7 +8,8 @@ ghost use Rattle.h1_transfer.specs.Calls.{Called, is_part, is_done, fault_of_rea
 use crate::receiving::{Filled, fill};
 use crate::taking::{TakeStep, take};
 use bytes::{Bytes, BytesMut};
-use h1_body::{BodyBytes, BodyReader};
+use h1_body::{BodyBytes, BodyReader, FeedState};
+use h1_head::Room;
 use h1_link::Link;
 
 /// Why the reading of a body goes no further.
@@ -44,6 +45,7 @@ pub fn read_body<L: Link>(
     received: &mut BytesMut,
     reader: &mut BodyReader,
     kept: &mut Option<BodyBytes>,
+    room: &mut Room,
     budget: &mut u32,
 ) -> BodyRead
     ensures reads { ReadsBody (L.state link.old)
@@ -58,7 +60,7 @@ pub fn read_body<L: Link>(
     ensures plan { L.same_plan link.old link.new }
 {
     'reads: loop {
-        match take(received, reader, kept) {
+        match take(received, reader, kept, room) {
             Ok(TakeStep::Piece(bytes)) => return BodyRead::Piece(bytes),
             Ok(TakeStep::Done) => return BodyRead::Stopped(BodyStop::Done),
             Ok(TakeStep::Broken) => return BodyRead::Stopped(BodyStop::Broken),
@@ -79,11 +81,44 @@ pub fn read_body<L: Link>(
 }
 
 /// Reads on until the body ends or can't be read on.
+#[inline(always)]
 pub fn drain_body<L: Link>(
     link: &mut L,
     received: &mut BytesMut,
     reader: &mut BodyReader,
     kept: &mut Option<BodyBytes>,
+    room: &mut Room,
+    budget: &mut u32,
+) -> BodyStop
+    ensures reads { (payload : List ℕ)
+        × ReadsBody (L.state link.old)
+        (L.state link.new) received.old.items received.new.items reader.old reader.new kept.old
+        kept.new budget.old budget.new payload }
+    ensures cause { StopCause (L.state link.old) (L.state link.new) reader.new received.new.items
+        budget.new result }
+    ensures few { (L.state link.new).read_waits ≤ (L.state link.old).read_waits + 1 }
+    ensures parsed { budget.new < budget.old → IsUnfinished (reads reader.old received.old.items) }
+    ensures calls { Called (L.state link.old) (L.state link.new) (is_done result)
+        (fault_of_stop result) }
+    ensures plan { L.same_plan link.old link.new }
+{
+    // Of most bodies nothing is left.
+    match reader.state() {
+        FeedState::Done => BodyStop::Done,
+        FeedState::More | FeedState::Broken => {
+            drain_rest(link, received, reader, kept, room, budget)
+        }
+    }
+}
+
+/// The same of a body of which something may be left.
+#[inline(never)]
+fn drain_rest<L: Link>(
+    link: &mut L,
+    received: &mut BytesMut,
+    reader: &mut BodyReader,
+    kept: &mut Option<BodyBytes>,
+    room: &mut Room,
     budget: &mut u32,
 ) -> BodyStop
     ensures reads { (payload : List ℕ)
@@ -99,7 +134,7 @@ pub fn drain_body<L: Link>(
     ensures plan { L.same_plan link.old link.new }
 {
     'drains: loop {
-        let read = read_body(link, received, reader, kept, budget);
+        let read = read_body(link, received, reader, kept, room, budget);
         // What is received is bounded by its buffer before the next read.
         let _left_over = received.len();
         match read {

@@ -1,5 +1,5 @@
 //! Reading a head off the link (RFC 9112, section 2.2).
-ghost use Rattle.std.specs.Prelude.{◌≡◌, ◌≢◌, None};
+ghost use Rattle.std.specs.Prelude.{◌≡◌, ◌≢◌};
 ghost use Rattle.h1_cut.specs.Search.{HasLooked};
 ghost use Rattle.h1_head.specs.declared.limits.TheConstants.{MAX_HEADER_SIZE};
 ghost use Rattle.h1_transfer.specs.Heads.{ReceivesHead, HeadCause, went_with, judged_head, is_whole_head, fault_of_head};
@@ -43,8 +43,10 @@ pub enum HeadRead {
     Stopped(HeadStop),
 }
 
-/// Reads until a head is whole, is refused or can't go on, and puts a whole one in the place of none.
-/// What is received already is judged before the first read.
+/// Reads until a head is whole, is refused or can't go on, and puts a whole one in its place. What is
+/// received already is judged before the first read. Where no head is whole, what stands in the place
+/// has no meaning.
+#[inline(always)]
 pub fn read_head<H: Head, L: Link>(
     alloc: Global,
     link: &mut L,
@@ -52,10 +54,9 @@ pub fn read_head<H: Head, L: Link>(
     search: &mut HeadSearch,
     room: &mut Room,
     budget: &mut u32,
-    found: &mut Option<H>,
+    found: &mut H,
 ) -> HeadRead
     requires looked { HasLooked MAX_HEADER_SIZE search.old received.old.items }
-    requires none { found.old ≡ None }
     ensures receives { ReceivesHead H.lacks (L.state link.old)
         (L.state link.new) received.old.items received.new.items budget.old budget.new }
     ensures unjudged { result ≢ Stopped Late }

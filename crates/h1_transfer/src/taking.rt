@@ -5,6 +5,7 @@ ghost use Rattle.h1_transfer.specs.Taking.{TakesBody, TakesPayload, IsJudged};
 use bytes::{Bytes, BytesMut};
 use h1_body::{BodyBytes, BodyReader, FeedState, Taken};
 use h1_error::Error;
+use h1_head::Room;
 
 /// What the bytes that are received give of a body.
 #[derive(Drop)]
@@ -28,6 +29,7 @@ pub fn take(
     received: &mut BytesMut,
     reader: &mut BodyReader,
     kept: &mut Option<BodyBytes>,
+    room: &mut Room,
 ) -> Result<TakeStep, Error>
     ensures { TakesBody received.old.items received.new.items reader.old reader.new kept.old
         kept.new result }
@@ -38,7 +40,7 @@ pub fn take(
         FeedState::Done => return Ok(TakeStep::Done),
         FeedState::Broken => return Ok(TakeStep::Broken),
     }
-    let taken = take_payload(received, reader, kept)?;
+    let taken = take_payload(received, reader, kept, room)?;
     Ok(judge(taken))
 }
 
@@ -48,12 +50,13 @@ fn take_payload(
     received: &mut BytesMut,
     reader: &mut BodyReader,
     kept: &mut Option<BodyBytes>,
+    room: &mut Room,
 ) -> Result<Taken, Error>
     ensures { TakesPayload received.old.items received.new.items reader.old reader.new kept.old
         kept.new result }
 {
     match kept {
-        Some(bytes) => reader.take_into(received, bytes),
+        Some(bytes) => reader.take_into(received, bytes, room),
         None => reader.take(received),
     }
 }

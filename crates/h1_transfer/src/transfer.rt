@@ -1,6 +1,6 @@
 //! The bytes of one message each way over a link: a session's link with what is received, the body
 //! that is read and the message that is written.
-ghost use Rattle.std.specs.Prelude.{◌≡◌, ◌≤◌, ℕ, List, [], length, drop, Some, None, false};
+ghost use Rattle.std.specs.Prelude.{◌≡◌, ◌≤◌, ℕ, List, [], length, drop, unwrap_or, Some, None, false};
 ghost use Rattle.std.specs.Fn.{FnOnceTakesAtMut, FnOnceReturnsAtMut};
 ghost use Rattle.h1_link.specs.Steps.{after_shutdown};
 ghost use Rattle.h1_link.specs.Later.{KeepsBytes};
@@ -69,7 +69,7 @@ impl<L: Link + Drop> Transfer<L> {
     pub fn start_over(&mut self)
         ensures { StartsOver self.old self.new }
     {
-        self.body = BodyState::new();
+        self.body.start_over();
         self.outgoing.start_over();
     }
 
@@ -159,6 +159,17 @@ impl<L: Link + Drop> Transfer<L> {
         ensures { self.new ≡ record self.old { body = record self.old.body { kept = Some kept } } }
     {
         self.body.kept = Some(kept);
+    }
+
+    /// The payload that is kept so far.
+    #[inline(always)]
+    pub fn kept_payload(&self) -> &[u8]
+        ensures { result.now ≡ unwrap_or self.now.body.kept [] }
+    {
+        match &self.body.kept {
+            Some(kept) => kept.as_slice(),
+            None => b"",
+        }
     }
 
     /// Hands out the payload that was kept, and keeps none from here on.

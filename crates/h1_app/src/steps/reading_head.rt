@@ -1,5 +1,5 @@
 //! A head is awaited; with it the exchange begins.
-ghost use Rattle.std.specs.Prelude.{◌≡◌, ◌+◌, ◌<◌, IsSome, IfOk, IfErr, None};
+ghost use Rattle.std.specs.Prelude.{◌≡◌, ◌+◌, ◌<◌, IsSome, IfOk, IfErr, OnOk, None, Some};
 ghost use Rattle.h1_error.specs.Memory.{no_memory};
 ghost use Rattle.h1_server.specs.Keepalive.{keepalive_set};
 ghost use Rattle.h1_app.specs.Beginning.{StartedAs, BegunAs, head_time};
@@ -12,6 +12,7 @@ use crate::{Entry, How, HttpServer, ServeHttp, Transcript};
 use futures::task::Poll;
 use h1_body::BodyBytes;
 use h1_error::{End, Error, Waiting};
+use h1_head::RequestHeader;
 use h1_link::Link;
 use h1_server::{HttpSession, ReadRequest, Request, Settings};
 use std::alloc::Global;
@@ -101,12 +102,10 @@ fn start<L: Link + Drop, SV: ServeHttp<L, C> + Drop, C: Drop>(
     ensures err { IfErr result (λ error. (error ≡ no_memory) × (transcript.new.last ≡ None)) }
     ensures done { transcript.new.done ≡ transcript.old.done }
 {
-    let head = request.header.copy()?;
-    let filtered = request.header.copy()?;
     let job = app.start(alloc)?;
     transcript.begin(Entry {
-        head,
-        filtered: Some(filtered),
+        head: RequestHeader::new(alloc),
+        filtered: Some(RequestHeader::new(alloc)),
         body: BodyBytes::new(alloc),
         handed: 0,
         body_error: None,
@@ -123,7 +122,28 @@ fn start<L: Link + Drop, SV: ServeHttp<L, C> + Drop, C: Drop>(
         keep: false,
         owed: false,
     })?;
+    // The heads are copied to their places in the list, so that neither is moved.
+    if let Err(error) = note_heads(transcript.last_entry(), &request.header) {
+        transcript.drop_last();
+        return Err(error);
+    }
     Ok(job)
+}
+
+/// Puts the head of the request in the places for it. With an error what stands there has no
+/// meaning.
+#[inline(always)]
+fn note_heads(entry: &mut Entry, header: &RequestHeader) -> Result<(), Error>
+    requires { IsSome entry.old.filtered }
+    ensures ok { OnOk result (entry.new
+        ≡ record entry.old { head = header.now; filtered = Some header.now }) }
+    ensures err { IfErr result (λ error. error ≡ no_memory) }
+{
+    header.copy_to(&mut entry.head)?;
+    let Some(filtered) = &mut entry.filtered else {
+        unreachable!()
+    };
+    header.copy_to(filtered)
 }
 
 /// Keep-alive with the time for the next head, or off.

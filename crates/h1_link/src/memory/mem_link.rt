@@ -201,6 +201,7 @@ impl Link for MemLink {
         ReadStep::Got(count)
     }
 
+    #[inline(always)]
     fn poll_write(&mut self, piece: &[u8]) -> WriteStep
         ensures fits { FitsWrite piece.now result }
         ensures answer { (result ≡ WriteStep.NoMemory)

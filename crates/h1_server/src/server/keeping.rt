@@ -4,7 +4,7 @@ ghost use Rattle.h1_server.specs.Payload.{is_empty_framing};
 
 use super::HttpSession;
 use crate::persistence::is_at_end;
-use crate::settings::{wished, with_keepalive};
+use crate::settings::wished;
 use bytes::BytesMut;
 use h1_body::Framing;
 use h1_head::HeadSearch;
@@ -24,10 +24,8 @@ impl<L: Link + Drop, C: Drop> HttpSession<L, C> {
             ≡ record self.old
             { settings = keepalive_set self.old.settings (wished request.wish) }) }
     {
-        let Some(request) = &self.asked.request else {
-            unreachable!()
-        };
-        self.settings = with_keepalive(self.settings, wished(request.wish));
+        self.settings
+            .set_keepalive(wished(self.asked.place.request.wish));
     }
 
     /// Sets how many requests more may be served after this one; None is no limit.
@@ -99,10 +97,7 @@ impl<L: Link + Drop, C: Drop> HttpSession<L, C> {
             (λ request. result ≡ is_empty_framing request.framing) }
         ensures same { self.new ≡ self.old }
     {
-        let Some(request) = &self.asked.request else {
-            unreachable!()
-        };
-        is_empty_framing(request.framing)
+        is_empty_framing(self.asked.place.request.framing)
     }
 }
 

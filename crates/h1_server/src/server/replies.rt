@@ -90,9 +90,7 @@ impl<L: Link + Drop, C: Drop> HttpSession<L, C> {
         if is_passed_over(resp, self.transfer.outgoing().headed) {
             return Poll::Ready(Ok(()));
         }
-        let Some(request) = &self.asked.request else {
-            unreachable!()
-        };
+        let request = &self.asked.place.request;
         let flag = keep_flag(request.wish, self.settings, self.transfer.body());
         let keep = keep_after(resp, self.keep, flag);
         let dates = &mut self.dates;

@@ -8,7 +8,7 @@ ghost use Rattle.h1_server.specs.Persistence.{is_nothing};
 ghost use Rattle.h1_server.specs.Requests.{StopsFor};
 
 use super::HttpSession;
-use crate::settings::{wished, with_keepalive};
+use crate::settings::wished;
 use crate::times::{body_deadline, head_limit};
 use crate::{NoRequest, ReadRequest};
 use bytes::Bytes;
@@ -75,15 +75,14 @@ impl<L: Link + Drop, C: Drop> HttpSession<L, C> {
         };
         let read = self
             .transfer
-            .read_head(&mut asked.search, &mut asked.request, deadline);
+            .read_head(&mut asked.search, &mut asked.place, deadline);
         match read {
             HeadRead::Whole(used) => {
-                let Some(request) = &self.asked.request else {
-                    unreachable!()
-                };
+                self.asked.is_read = true;
+                let request = &self.asked.place.request;
                 self.transfer.skip(used);
                 self.transfer.begin_body(request.framing);
-                self.settings = with_keepalive(self.settings, wished(request.wish));
+                self.settings.set_keepalive(wished(request.wish));
                 Poll::Ready(Ok(ReadRequest::Head(request.raw.len())))
             }
             HeadRead::Stopped(stop) => {

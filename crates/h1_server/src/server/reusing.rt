@@ -8,8 +8,6 @@ ghost use Rattle.h1_transfer.specs.declared.outgoing.Step.TheVariants.{Free};
 use super::HttpSession;
 use crate::ReusableHttpStream;
 use crate::persistence::may_follow;
-use crate::request_state::RequestState;
-use crate::settings::next_settings;
 use crate::times::drain_limits;
 use bytes::BytesMut;
 use futures::task::Poll;
@@ -83,9 +81,9 @@ impl<L: Link + Drop, C: Drop> HttpSession<L, C> {
         ensures { AwaitsNext self.old self.new }
     {
         self.transfer.start_over();
-        self.asked = RequestState::new();
+        self.asked.start_over();
         self.keep = false;
-        self.settings = next_settings(self.settings);
+        self.settings.start_over();
         self.reusable = false;
     }
 

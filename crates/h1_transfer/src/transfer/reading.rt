@@ -1,5 +1,5 @@
 //! Reading a message: its head and its body.
-ghost use Rattle.std.specs.Prelude.{◌≡◌, ◌<◌, ◌^◌, length, IfSome, IfNone, None, Err};
+ghost use Rattle.std.specs.Prelude.{◌≡◌, ◌<◌, ◌^◌, length, IfSome, IfNone, Err};
 ghost use Rattle.futures.specs.declared.task.Poll.TheVariants.{Ready};
 
 use super::Transfer;
@@ -40,17 +40,17 @@ impl<L: Link + Drop> Transfer<L> {
         fill(&mut self.link, &mut self.received)
     }
 
-    /// Reads until a head is whole, is refused or can't go on, and puts a whole one in the place of
-    /// none. Its bytes stay among those received. A read that waited too long is late.
+    /// Reads until a head is whole, is refused or can't go on, and puts a whole one in its place.
+    /// Its bytes stay among those received. A read that waited too long is late. Where no head is
+    /// whole, what stands in the place has no meaning.
     #[inline(always)]
     pub fn read_head<H: Head>(
         &mut self,
         search: &mut HeadSearch,
-        found: &mut Option<H>,
+        found: &mut H,
         deadline: Deadline,
     ) -> HeadRead
         requires looked { HasLooked MAX_HEADER_SIZE search.old self.old.received }
-        requires none { found.old ≡ None }
         ensures reads { ReadsHead L.state H.is_at H.refuses H.lacks deadline self.old self.new
             found.new result }
         ensures looked { HasLooked MAX_HEADER_SIZE search.new self.new.received }
@@ -99,6 +99,7 @@ impl<L: Link + Drop> Transfer<L> {
             &mut self.received,
             &mut self.body.reader,
             &mut self.body.kept,
+            &mut self.room,
             &mut left,
         );
         let _left_over = self.received.len();
@@ -128,6 +129,7 @@ impl<L: Link + Drop> Transfer<L> {
             &mut self.received,
             &mut self.body.reader,
             &mut self.body.kept,
+            &mut self.room,
             &mut left,
         );
         self.budget = budget_left(self.budget, left);

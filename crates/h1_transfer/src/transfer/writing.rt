@@ -11,6 +11,7 @@ use bytes::Bytes;
 use futures::task::Poll;
 use h1_body::Framing;
 use h1_error::Error;
+use h1_head::HeadBuffer;
 use h1_link::Link;
 
 impl<L: Link + Drop> Transfer<L> {
@@ -25,10 +26,10 @@ impl<L: Link + Drop> Transfer<L> {
     ghost use Rattle.std.specs.Prelude.{◌&&◌};
 
     /// The buffer for the bytes of a head, with nothing in it: that of the head before.
-    pub fn head_buffer(&mut self) -> Vec<u8>
+    pub fn head_buffer(&mut self) -> HeadBuffer
         requires free { self.old.outgoing.step ≡ Free }
         requires unrefused { self.old.outgoing.refused ≡ None }
-        ensures empty { result.items ≡ [] }
+        ensures empty { result ≡ [] }
         ensures same { self.new ≡ self.old }
     {
         self.outgoing.owed.take_buffer()
@@ -36,13 +37,13 @@ impl<L: Link + Drop> Transfer<L> {
 
     /// Takes up a head, whose body has this framing.
     #[inline(always)]
-    pub fn take_up_head(&mut self, head: Vec<u8>, framing: Framing)
+    pub fn take_up_head(&mut self, head: HeadBuffer, framing: Framing)
         requires free { self.old.outgoing.step ≡ Free }
         requires unrefused { self.old.outgoing.refused ≡ None }
         ensures takes { self.new
             ≡ record self.old {
               outgoing = record self.old.outgoing {
-                owed = head.items;
+                owed = head;
                 writer = begun framing;
                 headed = true;
                 step = Head;

@@ -1,12 +1,12 @@
 -- The reading goes on from call to call.
 use Rattle.std.proofs.Common.{arith, ◌∙◌}
-use Rattle.h1_echo.proofs.EchoLemmas.{reading_itself, reading_on, reading_gathers}
+use Rattle.h1_echo.proofs.EchoLemmas.{reading_itself, reading_on}
 use Rattle.h1_application.proofs.ReadLemmas.{reads_on}
 use Rattle.h1_echo.proofs.echo.read_body.Goals as goal
 
 pub reads-init : goal.reads-init
 reads-init g c = record {
-  reading = reading_itself g.L.Link.state _ _ c.requires.request c.requires.kept c.requires.budget;
+  reading = reading_itself g.L.Link.state _ c.requires.request c.requires.kept c.requires.budget;
   plan = g.met.L.Link.plan_itself _;
 }
 
@@ -21,18 +21,12 @@ returns-in-Some-clause-plan g c = g.met.L.Link.plan_on _ _ _ c.reads.invariant.p
 pub returns-in-Some-clause-settings : goal.returns-in-Some-clause-settings
 returns-in-Some-clause-settings g c = c.read_piece.ensures.settings ∙ c.reads.invariant.reading.settings
 
-pub returns-in-Some-clause-body : goal.returns-in-Some-clause-body
-returns-in-Some-clause-body g c =
-    reading_gathers c.args.body.now c.reads.body _ c.args.http.now c.reads.http c.read_piece.new.http _
-    c.reads.invariant.reading.body c.in-Some.ensures.body
-
 pub reads-smaller : goal.reads-smaller
 reads-smaller g c = let longer = c.in-None.ensures.longer in omega arith
 
 pub reads-preserved : goal.reads-preserved
 reads-preserved g c = record {
-  reading = reading_on g.L.Link.state _ _ _ _ _ _
-      c.reads.invariant.reading c.read_piece.ensures.reads
-      c.in-None.ensures.cause c.read_piece.ensures.settings c.in-None.ensures.body;
+  reading = reading_on g.L.Link.state _ _ _ c.reads.invariant.reading c.read_piece.ensures.reads
+      c.in-None.ensures.cause c.read_piece.ensures.settings;
   plan = g.met.L.Link.plan_on _ _ _ c.reads.invariant.plan c.read_piece.ensures.plan;
 }

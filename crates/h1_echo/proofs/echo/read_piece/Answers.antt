@@ -1,7 +1,10 @@
 -- One call that reads.
-use Rattle.h1_application.proofs.ReadLemmas.{reads_call}
+use Rattle.h1_application.proofs.ReadLemmas.{reads_itself, reads_call}
 use Rattle.h1_echo.proofs.EchoLemmas.{stop_cause}
 use Rattle.h1_echo.proofs.echo.read_piece.Goals as goal
+
+pub returns-then-is_none-clause-reads : goal.returns-then-is_none-clause-reads
+returns-then-is_none-clause-reads g c = reads_itself g.L.Link.state _
 
 pub returns-in-Ready-Err-clause-reads : goal.returns-in-Ready-Err-clause-reads
 returns-in-Ready-Err-clause-reads g c =

@@ -4,5 +4,5 @@ use Rattle.h1_echo.proofs.echo.refusal.Goals as goal
 
 pub returns-clause-ok : goal.returns-clause-ok
 returns-clause-ok c =
-    refusal_is c.in_ok-header.header c.add_length.new.head c.new.result
-    c.in_ok-header.ensures.ok c.in_ok-add_length.ensures.ok c.new.ensures
+    refusal_is c.in_ok-header.header c.append_content_length.new.self c.new.result
+    c.in_ok-header.ensures.ok c.in_ok-append_content_length.ensures.ok c.new.ensures

@@ -4,4 +4,4 @@ use Rattle.h1_head.proofs.wire.push_lines.Given as goal
 
 abbrev pub invariant-loop-name : goal.invariant-loop-name
 invariant-loop-name l =
-    l.out.items ++ print_lines l.name-iterator ≡ l.fn.out.items ++ print_lines l.fields
+    l.out ++ print_lines l.name-iterator ≡ l.fn.out ++ print_lines l.fields

@@ -6,6 +6,6 @@ use Rattle.h1_head.proofs.wire.push_reply_lines.Given as goal
 
 abbrev pub invariant-loop-name : goal.invariant-loop-name
 invariant-loop-name l =
-    l.out.items
+    l.out
     ++ print_lines (own_left l.date (keep_option l.keep) l.dated l.connected l.name-iterator)
-    ≡ l.fn.out.items ++ print_lines (own_left l.date (keep_option l.keep) false false l.fields)
+    ≡ l.fn.out ++ print_lines (own_left l.date (keep_option l.keep) false false l.fields)

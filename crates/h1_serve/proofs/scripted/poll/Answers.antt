@@ -1,4 +1,5 @@
-use Rattle.std.proofs.Common.{◌≡◌, ◌++◌, [], refl, ap, ◌∙◌, subst}
+use Rattle.std.proofs.Common.{◌≡◌, ◌++◌, refl, ap, ◌∙◌, subst}
+use Rattle.std.specs.Prelude.{⊤}
 use Rattle.h1_link.specs.MemRule.{Rule}
 use Rattle.h1_serve.specs.State.{new_link}
 use Rattle.h1_serve.specs.PollLine.{poll_line}
@@ -17,7 +18,7 @@ returns c =
     let is : c.push.new.self ≡ c.args.text.now ++ poll_line c.args.moment c.poll-answer.result =
     text ∙ ap (λ line. c.args.text.now ++ line) words in
     polls_once
-    (λ job. job.body ≡ []) place _ _ c.args.moment c.poll-answer.result c.args.text.now c.push.new.self running
+    (λ job. ⊤) place _ _ c.args.moment c.poll-answer.result c.args.text.now c.push.new.self running
     (record {
       later = polled.later;
       plan = polled.plan;

@@ -1,4 +1,5 @@
-use Rattle.std.proofs.Common.{◌≡◌, [], arith}
+use Rattle.std.proofs.Common.{arith}
+use Rattle.std.specs.Prelude.{⊤}
 use Rattle.h1_echo.specs.declared.echo.EchoJob.{EchoJob}
 use Rattle.h1_serving.specs.declared.serving.TheConstants.{MOST_POLLS}
 use Rattle.h1_serving.proofs.WaitLemmas.{poll_leaves}
@@ -15,7 +16,7 @@ pub loop-preserved : goal.loop-preserved
 loop-preserved g c =
     let p = c.poll-answer.ensures in
     let at = c.now-now.ensures in
-    serving_on g.L.Link.state g.L.Link.same_plan (λ (job : EchoJob). job.body ≡ []) c.loop.counter
+    serving_on g.L.Link.state g.L.Link.same_plan (λ (job : EchoJob). ⊤) c.loop.counter
     (g.T.Clock.moment c.args.clock.now)
     (g.T.Clock.moment c.loop.clock)
     (g.T.Clock.moment c.now-now.new.self) c.args.connection.now
@@ -32,7 +33,7 @@ returns-in-Ready g c =
     let at = c.now-now.ensures in
     let call =
     call_of g.L.Link.state g.L.Link.same_plan
-    (λ (job : EchoJob). job.body ≡ []) c.loop.counter MOST_POLLS
+    (λ (job : EchoJob). ⊤) c.loop.counter MOST_POLLS
     (g.T.Clock.moment c.args.clock.now)
     (g.T.Clock.moment c.loop.clock)
     (g.T.Clock.moment c.now-now.new.self) c.args.connection.now
@@ -59,7 +60,7 @@ returns g c =
     let at = c.now-now-2.ensures in
     let call =
     call_of g.L.Link.state g.L.Link.same_plan
-    (λ (job : EchoJob). job.body ≡ []) c.loop.counter MOST_POLLS
+    (λ (job : EchoJob). ⊤) c.loop.counter MOST_POLLS
     (g.T.Clock.moment c.args.clock.now)
     (g.T.Clock.moment c.loop.clock)
     (g.T.Clock.moment c.now-now-2.new.self) c.args.connection.now

@@ -14,7 +14,6 @@ reads-init g c = record {
   parsed = λ less. absurd (omega (arith, less));
   calls = called_itself _;
   looked = c.requires.looked;
-  none = c.requires.none;
   plan = g.met.L.Link.plan_itself _;
 }
 
@@ -28,10 +27,9 @@ reads-preserved g c =
       waits = c.in-Got.ensures.fills.cause.1 ∙ c.reads.invariant.waits;
       parsed = λ _. elim (cases_lt c.reads.budget c.args.budget.now) [
         | inl less ↦ c.reads.invariant.parsed less
-        | inr first ↦ read_nothing _ _ _ _ _ _ g.H.Head.lacks c.reads.invariant.moved first lacks.0
+        | inr first ↦ read_nothing _ _ _ _ _ _ g.H.Head.lacks c.reads.invariant.moved first lacks
       ];
       calls = called_on _ _ _ _ _ c.reads.invariant.calls c.in-Got.ensures.calls;
-      none = lacks.1;
       looked = rw c.in-Got.ensures.fills.bytes (HasLooked-append _ _ _ _ looked);
       plan = g.met.L.Link.plan_on _ _ _ c.reads.invariant.plan c.fill.ensures.plan;
     }

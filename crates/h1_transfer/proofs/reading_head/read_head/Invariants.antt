@@ -1,5 +1,5 @@
 -- What is received grows by what the link gives, and no reads wait.
-use Rattle.std.proofs.Common.{◌≡◌, ◌<◌, None, true}
+use Rattle.std.proofs.Common.{◌≡◌, ◌<◌, true}
 use Rattle.h1_cut.specs.Search.{HasLooked}
 use Rattle.h1_head.specs.declared.limits.TheConstants.{MAX_HEADER_SIZE}
 use Rattle.h1_transfer.proofs.Words.{Called, no_fault, Received}
@@ -13,7 +13,6 @@ invariant-reads g l = record {
   parsed : l.budget < l.fn.budget → g.H.Head.lacks l.fn.received.items;
   calls : Called (g.L.Link.state l.fn.link) (g.L.Link.state l.link) true no_fault;
   looked : HasLooked MAX_HEADER_SIZE l.search l.received.items;
-  none : l.found ≡ None;
   plan : g.L.Link.same_plan l.fn.link l.link;
 }
 

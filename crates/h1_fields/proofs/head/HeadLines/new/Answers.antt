@@ -4,7 +4,7 @@ use Rattle.h1_fields.proofs.KindLemmas.{known_found}
 use Rattle.h1_fields.proofs.head.HeadLines.new.Goals as goal
 
 pub loop-span-preserved : goal.loop-span-preserved
-loop-span-preserved c =
+loop-span-preserved g c =
     let before = c.loop-span.invariant in
     let added = c.in_ok-push.ensures.ok in
     let place = rw c.as_slice-in-loop-span.ensures at c.of_header.ensures in

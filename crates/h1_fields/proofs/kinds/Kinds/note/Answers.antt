@@ -1,6 +1,6 @@
 use Rattle.std.proofs.Common.{codes, refl, sym, ap, ◌∙◌}
 use Rattle.h1_fields.specs.Kinds.{place_with}
-use Rattle.h1_fields.proofs.KindLemmas.{length_in_lower_case, noted, other_place, place_kept}
+use Rattle.h1_fields.proofs.KindLemmas.{noted, other_place, place_kept}
 use Rattle.h1_fields.proofs.kinds.Kinds.note.Goals as goal
 
 pub returns-then-len-eq4 : goal.returns-then-len-eq4
@@ -31,7 +31,7 @@ returns-then-len-eq14 c =
     (place_kept (codes "Connection") _ _ _ 14 long refl)
     (c.with-self-then-len-eq14.ensures
     ∙ ap (λ named. place_with named c.args.self.now.content_length c.args.at)
-    (c.is_same_name-named.ensures ∙ length_in_lower_case _))
+    c.is_content_length-named.ensures)
     (place_kept (codes "Host") _ _ _ 14 long refl)
     (place_kept (codes "Transfer-Encoding") _ _ _ 14 long refl)
 
@@ -44,7 +44,7 @@ returns-then-len-eq17 c =
     (place_kept (codes "Host") _ _ _ 17 long refl)
     (c.with-self-then-len-eq17.ensures
     ∙ ap (λ named. place_with named c.args.self.now.transfer_encoding c.args.at)
-    c.is_same_name-named-then-len-eq17.ensures)
+    c.is_same_name-named.ensures)
 
 pub returns-else-len-eq17 : goal.returns-else-len-eq17
 returns-else-len-eq17 c =

@@ -3,4 +3,4 @@ use Rattle.h1_server.proofs.HeadLemmas.{unread_searched}
 use Rattle.h1_server.proofs.server.HttpSession.next_request.Goals as goal
 
 pub invariant_of-self : goal.invariant_of-self
-invariant_of-self g c = unread_searched _ _ _ c.new.ensures.none.0 (c.new.ensures.looked _ _)
+invariant_of-self g c = unread_searched c.start_over-2.new.self _ c.start_over-2.ensures.none.0 (c.start_over-2.ensures.looked _ _)

@@ -2,7 +2,7 @@
 use Rattle.std.proofs.Common.{◌≡◌, ◌<◌, ◌*◌, ◌+◌, ℕ, List, length, true}
 use Rattle.h1_transfer.specs.Words.{reads}
 use Rattle.h1_transfer.proofs.Words.{ReadsBody, IsUnfinished, Called, no_fault}
-use Rattle.h1_transfer.proofs.reading_body.drain_body.Given as goal
+use Rattle.h1_transfer.proofs.reading_body.drain_rest.Given as goal
 
 abbrev pub invariant-drains : goal.invariant-drains
 invariant-drains g l = record {

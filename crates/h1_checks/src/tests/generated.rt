@@ -1,8 +1,31 @@
-//! Requests that are made and served.
-use crate::{Echoed, serve_gen};
+//! Requests that are made, byte by byte, and served.
 use h1_error::End;
+use h1_generator::generate;
 use h1_link::MemLink;
+use h1_serving::{Echoed, serve_gen};
 use std::test::Fail;
+
+#[test]
+fn requests_are_made_in_turn(rt: HostRuntime) -> Result<(), Fail> {
+    let bytes = generate(rt.alloc(), 3)?;
+    assert_eq!(rt;
+        bytes.as_slice(),
+        b"GET /1 HTTP/1.1\r\n\r\n\
+            POST /2 HTTP/1.1\r\nContent-Length: 2\r\n\r\naa\
+            POST /3 HTTP/1.1\r\nTransfer-Encoding: chunked\r\n\r\n3\r\nbbb\r\n0\r\n\r\n"
+            .as_slice()
+    );
+    Ok(())
+}
+
+#[test]
+fn a_chunk_of_no_bytes_is_left_out(rt: HostRuntime) -> Result<(), Fail> {
+    let bytes = generate(rt.alloc(), 21)?;
+    let last = b"POST /21 HTTP/1.1\r\nTransfer-Encoding: chunked\r\n\r\n0\r\n\r\n";
+    assert!(rt; bytes.ends_with(last));
+    assert!(rt; generate(rt.alloc(), 0)?.is_empty());
+    Ok(())
+}
 
 fn body_bytes(connection: &Echoed<MemLink>) -> usize {
     let mut count = 0usize;

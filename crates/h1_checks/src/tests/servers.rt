@@ -1,5 +1,5 @@
 //! What is set on a server, and what goes from one session to the next.
-use crate::{
+use h1_app::{
     EchoApp, HttpPersistentSettings, HttpServerApp, HttpServerOptions, HttpSession, Plain,
 };
 use h1_link::MemLink;
@@ -36,7 +36,10 @@ fn a_plain_server_has_nothing_set(rt: HostRuntime) -> Result<(), Fail> {
         keepalive_request_limit: Some(2),
         allow_connect_method_proxying: false,
     });
-    assert_eq!(rt; server.request_limit(), Some(2));
-    assert!(rt; HttpServerApp::<MemLink, ()>::server_options(&server).is_some());
+    let options = HttpServerApp::<MemLink, ()>::server_options(&server);
+    assert_eq!(rt;
+        options.and_then(|set| set.keepalive_request_limit),
+        Some(2)
+    );
     Ok(())
 }
