@@ -1,5 +1,5 @@
 -- What an exchange begins with.
-use Rattle.std.specs.Prelude.{replicate, ◌≡◌, ℕ, ◌<◌, List, [], length, Bool, true, false, Option, Some, None}
+use Rattle.std.specs.Prelude.{◌≡◌, ℕ, ◌<◌, List, [], length, replicate, Bool, true, false, Option, Some, None}
 use Rattle.h1_app.specs.Words.{RequestView, SessionView, Settings, Request, Entry, Open, Stage, Outcome, Error, ErrorType, no_memory}
 use Rattle.h1_app.specs.declared.exchange.Stage.TheVariants as stage
 use Rattle.h1_app.specs.declared.exchange.Outcome.TheVariants as outcome

@@ -206,6 +206,7 @@ fn body_of(
     room.push(b" ")?;
     room.push(header.raw_path())?;
     room.push(b"\n")?;
+    // Most requests have no body, and then no call is made.
     if !handed.is_empty() {
         room.push(handed)?;
     }

@@ -8,8 +8,8 @@ use std::alloc::Global;
 #[derive(Drop)]
 pub(crate) struct RequestPlace {
     pub request: Request,
-    /// Where the parser puts the places of the lines. They stay from one request to the next, since to
-    /// clear them costs more than to parse a short head.
+    /// Where the parser puts the places of the lines. They stay from one request to the next, so
+    /// that they aren't cleared for each.
     pub spans: [HeaderSpan; FEW_HEADERS],
 }
 

@@ -97,7 +97,7 @@ pub record ReceivesHead (lacks : List ℕ → Type 0) (before now : LinkState) (
 -- one read of a head, which stays among the received bytes
 pub record ReadsHead {L H : Type 0} (state : L → LinkState) (is_at : List ℕ → ℕ → H → Type 0)
     (refuses : List ℕ → HeadFault → Type 0) (lacks : List ℕ → Type 0) (deadline : Deadline)
-    (old new : TransferView L) (found : Option H) (read : HeadRead) : Type 0 where
+    (old new : TransferView L) (found : H) (read : HeadRead) : Type 0 where
   pub left : ℕ
   pub receives : ReceivesHead lacks (state old.link) (state new.link) old.received new.received
       (allowance old.budget) left

@@ -30,10 +30,10 @@ pub trait Head: Sized + Drop {
     /// No head ends in the bytes, and one may still end.
     ghost lacks: { List ℕ → Type 0 };
 
-    /// Looks for the head at the front of the bytes, and puts one that is accepted in its place. The
-    /// bytes grow from call to call, and the search goes on from the front that it has looked at.
-    /// What is kept of the bytes is a copy in the room's memory. Out of memory is the one error.
-    /// Where no head is accepted, what stands in the place has no meaning.
+    /// Looks for the head at the front of the bytes, and puts one that is accepted in its place.
+    /// The bytes grow from call to call, and the search goes on from the front that it has looked
+    /// at. What is kept of the bytes is a copy in the room's memory. Out of memory is the one
+    /// error. Where no head is accepted, what stands in the place has no meaning.
     fn search(
         alloc: Global,
         search: &mut HeadSearch,

@@ -43,9 +43,9 @@ pub enum HeadRead {
     Stopped(HeadStop),
 }
 
-/// Reads until a head is whole, is refused or can't go on, and puts a whole one in its place. What is
-/// received already is judged before the first read. Where no head is whole, what stands in the place
-/// has no meaning.
+/// Reads until a head is whole, is refused or can't go on, and puts a whole one in its place. What
+/// is received already is judged before the first read. Where no head is whole, what stands in the
+/// place has no meaning.
 #[inline(always)]
 pub fn read_head<H: Head, L: Link>(
     alloc: Global,

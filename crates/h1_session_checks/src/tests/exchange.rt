@@ -5,7 +5,7 @@ use futures::task::Poll;
 use h1_error::Error;
 use h1_head::ResponseHeader;
 use h1_link::MemLink;
-use h1_server::{HttpSession, NoRequest, ReadRequest, Settings};
+use h1_server::{HttpSession, NoRequest, ReadRequest, Settings, one_less};
 use std::alloc::Global;
 use std::marker::Model;
 use std::process::Abort;
@@ -253,4 +253,17 @@ fn go_on(rt: &impl Abort, played: &mut Played, reuses: Option<u32>) {
 /// Whether no request was read and no reply was begun.
 fn is_new(played: &Played) -> bool {
     !played.session.has_request() && !played.session.is_headed() && !played.session.is_reusable()
+}
+
+#[test]
+fn one_request_fewer_may_follow_where_there_is_a_limit(rt: HostRuntime) {
+    let cases = [
+        (None, None),
+        (Some(2), Some(1)),
+        (Some(1), Some(0)),
+        (Some(0), Some(0)),
+    ];
+    for (reuses, left) in cases {
+        assert_eq!(rt; one_less(reuses), left);
+    }
 }

@@ -80,7 +80,7 @@ fn begins_anew(rt: &impl Abort, timed: &mut Timed) {
 }
 
 /// What is set for a request behind one that has pipelining on.
-pub fn next_settings() -> Settings {
+pub(crate) fn next_settings() -> Settings {
     Settings {
         keep_off: false,
         keepalive: 0,
