@@ -120,19 +120,8 @@ impl BodyBytes {
         }
     }
 
-    /// Adds a piece at the end. Where there are no bytes yet the piece is held and not copied.
-    pub fn append_piece(&mut self, piece: Bytes) -> Result<(), Error>
-        ensures ok { OnOk result (self.new ≡ self.old ++ piece) }
-        ensures err { IfErr result (λ error. (error ≡ no_memory) × (self.new ≡ self.old)) }
-    {
-        if self.is_empty() {
-            *self = BodyBytes::from_shared(self.allocator(), piece);
-            return Ok(());
-        }
-        self.append(piece.as_slice())
-    }
-
-    /// Puts a copy of these bytes in the room's memory, in place of what is held, and hands it out too.
+    /// Puts a copy of these bytes in the room's memory, in place of what is held, and hands it out
+    /// too.
     #[inline(always)]
     pub(crate) fn hold_copy(&mut self, bytes: &[u8], room: &mut Room) -> Result<Bytes, Error>
         ensures ok { IfOk result (λ piece. (piece ≡ bytes.now) × (self.new ≡ bytes.now)) }

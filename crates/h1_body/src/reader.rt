@@ -120,8 +120,8 @@ impl BodyReader {
         })
     }
 
-    /// Takes as `take` does, and adds a copy of the payload to what is kept. A short run before which
-    /// nothing is kept is copied into the room's memory, and the copy itself is handed out.
+    /// Takes as `take` does, and adds a copy of the payload to what is kept. A short run before
+    /// which nothing is kept is copied into the room's memory, and the copy itself is handed out.
     #[inline(always)]
     pub fn take_into(
         &mut self,

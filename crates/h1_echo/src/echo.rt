@@ -37,13 +37,13 @@ impl<L: Link + Drop, C: Drop> ServeHttp<L, C> for EchoApp {
 
     ghost gives = { λ _. EchoGives };
 
-    ghost begins = { λ job. ⊤ };
+    ghost begins = { λ _. ⊤ };
 
     ghost lawful = { λ _. echo_lawful };
 
     ghost pends = { λ _. 0 };
 
-    ghost runs = { λ _ job head began now payload. EchoRuns head began now };
+    ghost runs = { λ _ _ head began now _. EchoRuns head began now };
 
     fn start(&self, alloc: Global) -> Result<EchoJob, Error> {
         Ok(EchoJob { alloc })

@@ -30,12 +30,13 @@ use std::sync::Arc;
 /// The field lines of a message, in order, with names in their spelling. A contract sees the list
 /// of pairs of name and value.
 ///
-/// A copy is one owner more of the same lines, where there never were more than 64 and no room was
-/// reserved for more. An owner that isn't the only one adds and replaces in lines of its own, which
+/// A copy is one owner more of the same lines, or has the same short line, where there never were
+/// more than 64 and no room was reserved for more. An owner that isn't the only one adds and replaces in lines of its own, which
 /// it copies first, and removes by marking lines as gone for itself. All names and values stand in
 /// one text, where those of a line that went stay until the last owner is dropped; no call shows
-/// them. The text of lines that were read may be the head itself, which is then kept as long. A few
-/// short lines take one block of memory. Where the one line of Connection, Content-Length, Host or
+/// them. The text of lines that were read may be the head itself, which is then kept as long. One
+/// short line that was read or added alone takes no block of memory, and a few short lines take one.
+/// Where the one line of Connection, Content-Length, Host or
 /// Transfer-Encoding stands is known without a search.
 #[derive(Drop)]
 pub struct Fields {
@@ -85,8 +86,8 @@ impl Fields {
         })
     }
 
-    /// The lines at these places of a head. Its bytes are copied where there are more than 64 lines,
-    /// and else shared.
+    /// The lines at these places of a head. One short line is copied, and so are more than 64; of
+    /// others the bytes of the head are shared.
     #[inline(always)]
     pub fn of_head(alloc: Global, head: &Bytes, spans: &[HeaderSpan]) -> Result<Self, Error>
         requires { All (IsHeaderWithin (length head.now)) spans.now }
@@ -179,7 +180,6 @@ impl Fields {
     }
 
     // The same with lines that are copied first.
-    #[cold]
     #[inline(never)]
     #[tactic(auto, using(crate::proofs::LivingLemmas::living_all))]
     fn append_to_copy(&mut self, name: &[u8], value: &[u8]) -> Result<(), Error>
@@ -342,8 +342,8 @@ impl Fields {
         lone_in(text, spans, kinds, self.gone, kind)
     }
 
-    /// Puts the same lines in this place, as `copy` gives them. With an error what stands there has no
-    /// meaning.
+    /// Puts the same lines in this place, as `copy` gives them. With an error what stands there has
+    /// no meaning.
     #[inline(always)]
     pub fn copy_to(&self, place: &mut Fields) -> Result<(), Error>
         ensures ok { OnOk result (place.new ≡ self.now) }

@@ -134,7 +134,7 @@ fn connection_options_stand_in_any_line_and_case(rt: HostRuntime) -> Result<(), 
 #[test]
 fn lines_of_any_length_stand_beside_each_other(rt: HostRuntime) -> Result<(), Error> {
     let text = [b'v'; 130];
-    for len in [0, 1, 30, 31, 62, 63, 64, 129] {
+    for len in [0, 1, 22, 23, 30, 31, 62, 63, 64, 129] {
         for room in [0, 1, 3, 4, 65] {
             let mut fields = Fields::with_capacity(rt.alloc(), room)?;
             for n in 0..6u8 {

@@ -12,7 +12,7 @@ const HEAD_ROOM: usize = 256;
 
 /// Bytes that grow at their end, in a block of memory that stays when they are dropped. A contract
 /// sees the list of them.
-#[derive(Debug, Drop)]
+#[derive(Drop)]
 pub struct HeadBuffer {
     /// All of it is there, so that a piece is put in its place without a look at the capacity.
     block: Vec<u8>,

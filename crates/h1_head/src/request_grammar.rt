@@ -14,7 +14,7 @@ use httparse::Status;
 use httparse::spans::{EMPTY_HEADER_SPAN, HeaderSpan, RequestSpans, parse_request};
 use std::alloc::Global;
 
-/// So many field lines most heads have at most.
+/// So many field lines most heads have at most; `judge_front` reads no head of more.
 pub const FEW_HEADERS: usize = 16;
 
 /// Where the parts of a head lie, or why they are not found.

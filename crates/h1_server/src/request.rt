@@ -43,7 +43,8 @@ pub enum NoRequest {
 }
 
 impl Request {
-    /// The place of a request that is to be read. Takes no memory.
+    /// The place of a request that is to be read. Takes no memory. It promises nothing of what
+    /// stands in it, which has no meaning until a head is read into it.
     #[inline(always)]
     pub(crate) fn new(alloc: Global) -> Self {
         Request {

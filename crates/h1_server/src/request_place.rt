@@ -14,7 +14,8 @@ pub(crate) struct RequestPlace {
 }
 
 impl RequestPlace {
-    /// A place with no request in it. Takes no memory.
+    /// A place with no request in it. Takes no memory. It promises nothing of what stands in it,
+    /// which has no meaning until a head is read into it.
     #[inline(always)]
     pub fn new(alloc: Global) -> Self {
         RequestPlace {

@@ -53,7 +53,7 @@ pub enum Step<'a> {
 
 /// Plays the steps with `EchoApp` over this link, and gives the link back. It promises nothing: an
 /// expectation that isn't met ends the test.
-pub fn play_echo(
+pub(crate) fn play_echo(
     rt: &(impl Abort + AllocGlobal),
     limit: Option<u32>,
     link: MemLink,
@@ -65,7 +65,7 @@ pub fn play_echo(
 
 /// Plays the steps with an application that waits so often and then refuses, over this link. It
 /// promises nothing: an expectation that isn't met ends the test.
-pub fn play_refusing(
+pub(crate) fn play_refusing(
     rt: &(impl Abort + AllocGlobal),
     waits: u64,
     link: MemLink,

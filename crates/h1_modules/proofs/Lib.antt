@@ -1,0 +1,3 @@
+pub mod FilterLemmas
+pub mod BuilderLemmas
+pub mod ContentTypeLemmas

@@ -1,0 +1,32 @@
+use Rattle.std.proofs.Common.{refl}
+use Rattle.std.proofs.lemmas.Result.{err_from_is_err_and}
+use Rattle.h1_modules.specs.ContentType.{content_type}
+use Rattle.h1_modules.proofs.ContentTypeLemmas.{grpc_web_fits, chunked_fits}
+use Rattle.h1_modules.proofs.grpc_web.web_response.Goals as goal
+
+pub returns-in_err-insert_header-clause-err : goal.returns-in_err-insert_header-clause-err
+returns-in_err-insert_header-clause-err c =
+    let from = c.from_residual-in_err-insert_header in
+    let p = err_from_is_err_and from.result from.ensures.1 in
+    let fits = grpc_web_fits (content_type c.args.resp.now.fields) c.requires in
+    rw (p.1, p.2)
+    (rw (c.deref.ensures.value, c.in_ok-value.ensures.ok, c.content_type_of_response.ensures, fits)
+    at c.in_err-insert_header.ensures.refused)
+
+pub returns-in_err-insert_header-2-clause-err : goal.returns-in_err-insert_header-2-clause-err
+returns-in_err-insert_header-2-clause-err c =
+    let from = c.from_residual-in_err-insert_header-2 in
+    let p = err_from_is_err_and from.result from.ensures.1 in
+    rw (p.1, p.2) (rw chunked_fits at c.in_err-insert_header-2.ensures.refused)
+
+pub returns-clause-ok : goal.returns-clause-ok
+returns-clause-ok c =
+    rw (
+      c.in_ok-insert_header-2.ensures.ok,
+      c.remove_header.ensures.fields,
+      c.in_ok-insert_header.ensures.ok,
+      c.deref.ensures.value,
+      c.in_ok-value.ensures.ok,
+      c.content_type_of_response.ensures,
+      c.in_ok-made.ensures.ok,
+    ) refl
