@@ -1,3 +1,4 @@
 pub mod WaitLemmas
+pub mod SinceLemmas
 pub mod ServeLemmas
 pub mod WholeLemmas

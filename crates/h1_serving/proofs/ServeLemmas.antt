@@ -20,8 +20,10 @@ use Rattle.h1_transcript.specs.Growth.{Stays, DatedAt, RoseFor, RefusedIn, Grows
 use Rattle.h1_echo.specs.Echo.{EchoGives}
 use Rattle.h1_app.specs.Accounted.{Accounted}
 use Rattle.h1_app.specs.Causes.{Cause}
-use Rattle.h1_app.specs.View.{View, entries}
-use Rattle.h1_serving.specs.Served.{IsUnpolled, KeptInCall, LeavesInCall, BeganInCall, Waited, AnswersFor}
+use Rattle.h1_app.specs.Timely.{IsTimely}
+use Rattle.h1_app.specs.View.{View, entries, work_of}
+use Rattle.h1_serving.specs.Served.{IsUnpolled, KeptInCall, LeavesInCall, BeganInCall, Waited, WaitsFrom, AnswersFor, AnswersInTime}
+use Rattle.h1_serving.proofs.SinceLemmas.{waits_on}
 use Rattle.h1_serving.proofs.WaitLemmas.{PollLeaves, at_none, leaves_none, leaves_on, waited_on, waited_none, waits_in_call}
 
 -- what the exchanges are, they are over a longer stretch
@@ -189,6 +191,7 @@ pub record IsPoll {L C A J : Type 0} (state : L → LinkState) (same_plan : L �
   pub cause : IfNone from.end ((before : LinkState)
       → Accounted state before from.session from.done from.last
       → Cause state begins (λ _. 0) before from to answer)
+  pub timely : IfNone from.end (IsTimely state now from to answer)
 
 -- one poll at the moment that the clock told
 pub poll_of : {L C A J : Type 0} {state : L → LinkState} {same_plan : L → L → Type 0}
@@ -205,8 +208,10 @@ pub poll_of : {L C A J : Type 0} {state : L → LinkState} {same_plan : L → L 
     → IfNone from.end ((before : LinkState)
     → Accounted state before from.session from.done from.last
     → Cause state begins (λ _. 0) before from to answer)
+    → IfNone from.end (IsTimely state told from to answer)
     → IsPoll state same_plan begins now from to answer
-poll_of {state = state} {from = from} {to = to} at app later leaves plan accounted agrees extends cause =
+poll_of {state = state} {from = from} {to = to} {answer = answer} at app later leaves plan accounted
+    agrees extends cause timely =
     record {
       app = app;
       later = later;
@@ -217,6 +222,7 @@ poll_of {state = state} {from = from} {to = to} at app later leaves plan account
       extends = subst (λ now. Extends now false (state from.session.link) (state to.session.link)
           (entries from) (entries to)) at extends;
       cause = cause;
+      timely = subst (λ now. IfNone from.end (IsTimely state now from to answer)) at timely;
     }
 
 -- so many polls were made, and all waited
@@ -235,6 +241,8 @@ pub record IsServing {L C A J : Type 0} (state : L → LinkState) (same_plan : L
       → to.end ≡ None
   pub waited : (before : LinkState) → Accounted state before from.session from.done from.last
       → Waited polls (state from.session.link) (state to.session.link)
+  pub waits : (before : LinkState) → Accounted state before from.session from.done from.last
+      → WaitsFrom first (work_of to)
 
 -- what the call gives after its last poll
 pub record IsCall {L C A J : Type 0} (state : L → LinkState) (same_plan : L → L → Type 0)
@@ -252,6 +260,8 @@ pub record IsCall {L C A J : Type 0} (state : L → LinkState) (same_plan : L �
       (entries to)
   pub answers : (before : LinkState) → Accounted state before from.session from.done from.last
       → AnswersFor state polls before (state from.session.link) to answer
+  pub timely : (before : LinkState) → Accounted state before from.session from.done from.last
+      → AnswersInTime state first now from to answer
 
 -- a poll that waits
 abbrev pub IsWaiting : Progress → Type 0
@@ -279,6 +289,7 @@ serving_none state same_plan first from plan new = record {
   alive = λ before h. new.end;
   waited = λ before h. waited_none (state from.session.link)
       (later_itself (state from.session.link));
+  waits = λ before h. subst (WaitsFrom first) (sym new.work) tt;
 }
 
 -- what stays after one poll more
@@ -317,6 +328,15 @@ pub never_waits : (answer : Progress) (reason : End) → answer ≡ progress.Rea
     → IsWaiting answer → ⊥
 never_waits answer reason is waits = subst IsWaiting is waits
 
+timely_of : {L C A J : Type 0} (state : L → LinkState) (same_plan : L → L → Type 0) (begins : J
+    → Type 0) (polls first mid now : ℕ) (from at to : View L C A J) (answer : Progress)
+    → IsServing state same_plan polls first mid from at
+    → IsPoll state same_plan begins now at to answer
+    → (before : LinkState) → Accounted state before from.session from.done from.last
+    → IsTimely state now at to answer
+timely_of state same_plan begins polls first mid now from at to answer s p before h =
+    at_none at.end (IsTimely state now at to answer) (s.alive before h) p.timely
+
 -- after one poll more that waited
 pub serving_on : {L C A J : Type 0} (state : L → LinkState) (same_plan : L → L → Type 0) (begins : J
     → Type 0) (polls first mid now : ℕ)
@@ -344,6 +364,10 @@ serving_on state same_plan begins polls first mid now from at to
           s.leaves.later p.later (s.waited before h)
           (cause_of state same_plan begins polls first mid now from at to
           (progress.Pending what) s p before h).1;
+      waits = λ before h. waits_on state first now at to what (omega (arith, s.kept.clock, high))
+          (s.waits before h)
+          (timely_of state same_plan begins polls first mid now from at to (progress.Pending what) s p
+          before h);
     }
 
 -- the answer of the last poll is that of the call
@@ -399,4 +423,14 @@ call_of state same_plan begins polls most first mid now from at to answer
           s.kept.clock high s.leaves.later p.later s.served p.extends;
       answers =
           answers_of state same_plan begins polls most first mid now from at to answer last s p;
+      timely = λ before h. record {
+        now = now;
+        after = omega (arith, s.kept.clock, high);
+        before = omega arith;
+        at = at;
+        on = s.leaves.later;
+        waits = s.waits before h;
+        timely =
+            timely_of state same_plan begins polls first mid now from at to answer s p before h;
+      };
     }

@@ -333,7 +333,7 @@ ready_of count app options link made plain is new accounted =
       end_at = Some (length (generated count));
     } = new.link ∙ is in
     record {
-      unpolled = record { done = new.done; last = new.last; end = new.end };
+      unpolled = record { done = new.done; last = new.last; work = new.work; end = new.end };
       limit = new.limit ∙ ap limit_of plain;
       fed = rw linked
           (record {

@@ -15,12 +15,15 @@ use Rattle.h1_transcript.specs.Growth.{RefusedIn}
 use Rattle.h1_transcript.specs.Told.{ToldGrowth}
 use Rattle.h1_transfer.specs.declared.budget.TheConstants.{CALL_BUDGET}
 use Rattle.h1_app.specs.Leaves.{NotesFault, WritesHeld, ReadsHeld, ShutBy}
-use Rattle.h1_app.specs.View.{View}
+use Rattle.h1_app.specs.Timely.{IsTimely}
+use Rattle.h1_app.specs.View.{View, work_of}
+use Rattle.h1_app.specs.Work.{Work, reads_head, drains, writes_piece, untimed}
 
--- no exchange began yet, and the connection hasn't ended
+-- no exchange began yet, no wait is noted, and the connection hasn't ended
 pub record IsUnpolled {L C A J : Type 0} (view : View L C A J) : Type 0 where
   pub done : view.done ≡ []
   pub last : view.last ≡ None
+  pub work : work_of view ≡ reads_head None
   pub end : view.end ≡ None
 
 -- the application, its limit and the link's plan stay, and the clock doesn't go back
@@ -94,3 +97,23 @@ AnswersFor state polls before old to (progress.Pending what) =
 AnswersFor state polls before old to (progress.Ready reason) =
     (to.end ≡ Some reason)
     × EndCause before old (state to.session.link) to.done to.last reason
+
+-- work waits since no moment before this one
+abbrev pub WaitsFrom : ℕ → Work → Type 0
+WaitsFrom first (reads_head since) = IfSome since (λ at. first ≤ at)
+WaitsFrom first (drains times since) =
+    IfSome since.read (λ at. first ≤ at) × IfSome since.drain (λ at. first ≤ at)
+WaitsFrom first (writes_piece limit since) = IfSome since (λ at. first ≤ at)
+WaitsFrom first untimed = Unit {0}
+
+-- The last poll of the call was at a moment between these two, and came in time: `at` is the
+-- connection before it, which waited since moments of this call.
+pub record AnswersInTime {L C A J : Type 0} (state : L → LinkState) (first last : ℕ)
+    (from to : View L C A J) (answer : Progress) : Type 0 where
+  pub now : ℕ
+  pub after : first ≤ now
+  pub before : now ≤ last
+  pub at : View L C A J
+  pub on : Later (state from.session.link) (state at.session.link)
+  pub waits : WaitsFrom first (work_of at)
+  pub timely : IsTimely state now at to answer

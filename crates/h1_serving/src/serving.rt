@@ -5,7 +5,7 @@ ghost use Rattle.h1_transcript.specs.Agrees.{Agrees};
 ghost use Rattle.h1_app.specs.Accounted.{Accounted};
 ghost use Rattle.h1_app.specs.View.{entries};
 ghost use Rattle.h1_echo.specs.Echo.{EchoGives};
-ghost use Rattle.h1_serving.specs.Served.{IsUnpolled, KeptInCall, LeavesInCall, BeganInCall, AnswersFor};
+ghost use Rattle.h1_serving.specs.Served.{IsUnpolled, KeptInCall, LeavesInCall, BeganInCall, AnswersFor, AnswersInTime};
 
 use h1_app::{Connection, EchoApp, NoModules};
 use h1_error::Progress;
@@ -39,6 +39,10 @@ pub fn serve_link<L: Link + Drop, T: Clock>(connection: &mut Echoed<L>, clock: &
     ensures answer { (before : LinkState)
         → Accounted L.state before connection.old.session connection.old.done connection.old.last
         → AnswersFor L.state MOST_POLLS before (L.state connection.old.session.link)
+        connection.new result }
+    ensures timely { (before : LinkState)
+        → Accounted L.state before connection.old.session connection.old.done connection.old.last
+        → AnswersInTime L.state (T.moment clock.old) (T.moment clock.new) connection.old
         connection.new result }
 {
     for _ in 0..MOST_POLLS - 1 {

@@ -6,7 +6,7 @@ use Rattle.h1_serve.proofs.listening.serve_peer.Goals as goal
 pub serve_link-answer-requires : goal.serve_link-answer-requires
 serve_link-answer-requires g c =
     let fresh = c.in_ok-connection.ensures.fresh in
-    record { done = fresh.done; last = fresh.last; end = fresh.end }
+    record { done = fresh.done; last = fresh.last; work = fresh.work; end = fresh.end }
 
 pub returns-clause-answer : goal.returns-clause-answer
 returns-clause-answer g c =
@@ -16,5 +16,5 @@ returns-clause-answer g c =
     fresh.limit ∙ ap (λ s. limit_of s.server_options) c.in_ok-server.ensures.ok
     ∙ c.echo_server.ensures in
     served_of g.L.Link.state g.L.Link.same_plan _ _ c.args.link _ _ _ fresh.link limit
-    (record { done = fresh.done; last = fresh.last; end = fresh.end })
+    (record { done = fresh.done; last = fresh.last; work = fresh.work; end = fresh.end })
     c.in_ok-connection.ensures.accounted s.kept s.agrees s.answer

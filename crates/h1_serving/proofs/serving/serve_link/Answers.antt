@@ -24,7 +24,7 @@ loop-preserved g c =
     g.met.L.Link.plan_on (omega (arith, at.moment, at.later)) c.loop.invariant
     (poll_of at.moment p.app p.later
     (poll_leaves p.leaves p.ended p.moves p.reads_not_ready p.others)
-    p.plan p.accounted p.agrees p.extends p.cause)
+    p.plan p.accounted p.agrees p.extends p.cause p.timely)
     (waiting_of c.poll-answer.result c.in_default.not-Ready)
 
 pub returns-in-Ready : goal.returns-in-Ready
@@ -44,7 +44,7 @@ returns-in-Ready g c =
     (omega (arith, c.loop-test.true)) c.loop.invariant
     (poll_of at.moment p.app p.later
     (poll_leaves p.leaves p.ended p.moves p.reads_not_ready p.others)
-    p.plan p.accounted p.agrees p.extends p.cause) in
+    p.plan p.accounted p.agrees p.extends p.cause p.timely) in
     record {
       kept = call.kept;
       leaves = call.leaves;
@@ -52,6 +52,7 @@ returns-in-Ready g c =
       agrees = call.agrees;
       served = call.served;
       answer = call.answers;
+      timely = call.timely;
     }
 
 pub returns : goal.returns
@@ -70,7 +71,7 @@ returns g c =
     (omega (arith, c.loop-test.false, c.loop.auto.counter-end)) c.loop.invariant
     (poll_of at.moment p.app p.later
     (poll_leaves p.leaves p.ended p.moves p.reads_not_ready p.others)
-    p.plan p.accounted p.agrees p.extends p.cause) in
+    p.plan p.accounted p.agrees p.extends p.cause p.timely) in
     record {
       kept = call.kept;
       leaves = call.leaves;
@@ -78,4 +79,5 @@ returns g c =
       agrees = call.agrees;
       served = call.served;
       answer = call.answers;
+      timely = call.timely;
     }
