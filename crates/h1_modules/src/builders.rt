@@ -1,5 +1,5 @@
 //! The modules of a server, in the order in which they run.
-ghost use Rattle.std.specs.Prelude.{◌≡◌, ℕ, ◌≤◌, [], map, insert, length, IfOk, OnOk, OnErr, Err, IsOkUnless, IfSome, IfNone};
+ghost use Rattle.std.specs.Prelude.{◌≡◌, ◌≢◌, ℕ, ◌≤◌, [], map, insert, length, IfOk, OnOk, OnErr, Err, IsOkUnless, IfSome, IfNone};
 ghost use Rattle.std.specs.Bool.{MatchBool};
 ghost use Rattle.h1_error.specs.Memory.{no_memory};
 ghost use Rattle.h1_modules.specs.Outcome.{duplicate};
@@ -36,6 +36,14 @@ impl<B: HttpModuleBuilder + Drop> HttpModules<B> {
         HttpModules {
             builders: Vec::new(alloc),
         }
+    }
+
+    /// Whether no builder was added.
+    #[inline(always)]
+    pub fn is_empty(&self) -> bool
+        ensures { MatchBool result (self.now ≡ []) (self.now ≢ []) }
+    {
+        self.builders.is_empty()
     }
 
     /// Adds a builder, whose modules run in exchanges that begin from now on. A second one of its

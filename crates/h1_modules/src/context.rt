@@ -1,5 +1,6 @@
 //! The modules of an exchange.
-ghost use Rattle.std.specs.Prelude.{◌≡◌, ℕ, [], None, Ok, IfOk, IfErr, OnOk, OnErr, option_map};
+ghost use Rattle.std.specs.Prelude.{◌≡◌, ◌≢◌, ℕ, [], None, Ok, IfOk, IfErr, OnOk, OnErr, option_map};
+ghost use Rattle.std.specs.Bool.{MatchBool};
 ghost use Rattle.std.specs.Option.{option_copied, option_copied_mut};
 ghost use Rattle.h1_modules.specs.Outcome.{Piece, ErrsBy, refused_by, trailer_error};
 ghost use Rattle.h1_modules.specs.Filters.{run, HasRun, keeping_buffer, keeping_last};
@@ -53,6 +54,14 @@ impl<M: Drop> HttpModuleCtx<M> {
         ensures { result ≡ record { keys = keys.items; modules = modules.items } }
     {
         HttpModuleCtx { keys, modules }
+    }
+
+    /// Whether there are no modules.
+    #[inline(always)]
+    pub fn is_empty(&self) -> bool
+        ensures { MatchBool result (self.now.modules ≡ []) (self.now.modules ≢ []) }
+    {
+        self.modules.is_empty()
     }
 
     /// The module of the key.

@@ -12,6 +12,8 @@ mod grpc_web;
 mod grpc_web_tests;
 mod http_module;
 mod laws;
+#[cfg(test)]
+mod my_filter;
 mod no_modules;
 #[cfg(test)]
 mod noting;

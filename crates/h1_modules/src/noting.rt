@@ -1,5 +1,5 @@
 //! A module for tests, which leaves its name in each value.
-ghost use Rattle.std.specs.Prelude.{◌≡◌, ◌==◌, ◌++◌, ◌∷◌, [], Ok, Err, Some, IfOk, IsOkUnless, unwrap_or, option_map, codes, if◌then◌else◌};
+ghost use Rattle.std.specs.Prelude.{◌≡◌, ◌==◌, ◌++◌, ◌∷◌, [], true, Ok, Err, None, Some, IfOk, IsOkUnless, unwrap_or, option_map, codes, if◌then◌else◌};
 ghost use Rattle.h1_error.specs.Memory.{no_memory};
 ghost use Rattle.h1_modules.specs.Outcome.{by_number, refused_by};
 
@@ -22,6 +22,15 @@ pub(crate) const RESPONSE_TRAILER: u8 = 4;
 
 pub(crate) const RESPONSE_DONE: u8 = 5;
 
+pub(crate) const FILTERS: [u8; 6] = [
+    REQUEST_HEADER,
+    REQUEST_BODY,
+    RESPONSE_HEADER,
+    RESPONSE_BODY,
+    RESPONSE_TRAILER,
+    RESPONSE_DONE,
+];
+
 /// No filter.
 pub(crate) const NEVER: u8 = 6;
 
@@ -30,6 +39,10 @@ pub(crate) const NEVER: u8 = 6;
 pub(crate) struct Note {
     pub(crate) name: u8,
     pub(crate) refuses_at: u8,
+    /// Whether it gives a buffer behind the body, with its name.
+    pub(crate) gives: bool,
+    /// Whether it was told that the response is done.
+    pub(crate) told: bool,
 }
 
 /// Makes notes. The name is the key too.
@@ -41,10 +54,22 @@ pub(crate) struct Noting {
 
 impl Noting {
     pub(crate) fn new(order: i16, name: u8, refuses_at: u8) -> Self {
-        Noting {
-            order,
-            note: Note { name, refuses_at },
-        }
+        let note = Note {
+            name,
+            refuses_at,
+            gives: true,
+            told: false,
+        };
+        Noting { order, note }
+    }
+
+    /// The same, but that it gives no buffer.
+    pub(crate) fn without_buffer(self) -> Self {
+        let note = Note {
+            gives: false,
+            ..self.note
+        };
+        Noting { note, ..self }
     }
 }
 
@@ -67,6 +92,19 @@ impl Note {
         let made = Bytes::from_vec(bytes)?;
         Ok(made)
     }
+
+    fn buffer(&self, alloc: Global) -> Result<Option<Bytes>, Error>
+        ensures ok { IfOk result (λ buffer.
+            buffer ≡ (if self.now.gives then Some (self.now.name ∷ []) else None)) }
+        ensures err { IsOkUnless result no_memory }
+    {
+        if self.gives {
+            let made = Bytes::copy_from_slice(alloc, &[self.name])?;
+            Ok(Some(made))
+        } else {
+            Ok(None)
+        }
+    }
 }
 
 impl HttpModule for Note {
@@ -83,10 +121,16 @@ impl HttpModule for Note {
         else Ok (note, Some (unwrap_or body [] ++ note.name ∷ [])) };
 
     ghost response_trailer = { λ note trailers. if note.refuses_at == 4 then Err (by_number note.name)
-        else Ok (note, (option_map (λ lines. lines ++ (codes "note", note.name ∷ []) ∷ []) trailers, Some (note.name ∷ []))) };
+        else Ok (
+          note,
+          (
+            option_map (λ lines. lines ++ (codes "note", note.name ∷ []) ∷ []) trailers,
+            if note.gives then Some (note.name ∷ []) else None,
+          ),
+        ) };
 
     ghost response_done = { λ note. if note.refuses_at == 5 then Err note.name
-        else Ok (note, Some (note.name ∷ [])) };
+        else Ok (record note { told = true }, if note.gives then Some (note.name ∷ []) else None) };
 
     fn request_header_filter(&mut self, _: Global, req: &mut RequestHeader) -> Result<(), Error> {
         if self.refuses_at == REQUEST_HEADER {
@@ -147,19 +191,20 @@ impl HttpModule for Note {
         if self.refuses_at == RESPONSE_TRAILER {
             return Err(self.refuse());
         }
-        let buffer = Bytes::copy_from_slice(alloc, &[self.name])?;
+        let buffer = self.buffer(alloc)?;
         if let Some(lines) = trailers {
             lines.append(b"note", &[self.name])?;
         }
-        Ok(Some(buffer))
+        Ok(buffer)
     }
 
     fn response_done_filter(&mut self, alloc: Global) -> Result<Option<Bytes>, Error> {
         if self.refuses_at == RESPONSE_DONE {
             return Err(self.refuse());
         }
-        let buffer = Bytes::copy_from_slice(alloc, &[self.name])?;
-        Ok(Some(buffer))
+        let buffer = self.buffer(alloc)?;
+        self.told = true;
+        Ok(buffer)
     }
 }
 
