@@ -24,7 +24,13 @@ fn response(alloc: Global, status: u16, content_type: &[u8]) -> Result<ResponseH
     Ok(resp)
 }
 
-fn trailers<const N: usize>(alloc: Global, lines: [(&[u8], &[u8]); N]) -> Result<Fields, Error> {
+fn one_trailer(alloc: Global, name: &[u8], value: &[u8]) -> Result<Fields, Error> {
+    let mut fields = Fields::new(alloc);
+    fields.append(name, value)?;
+    Ok(fields)
+}
+
+fn two_trailers(alloc: Global, lines: [(&[u8], &[u8]); 2]) -> Result<Fields, Error> {
     let mut fields = Fields::new(alloc);
     for (name, value) in lines {
         fields.append(name, value)?;
@@ -261,7 +267,7 @@ fn frames<'a>() -> [([(&'a [u8], &'a [u8]); 2], &'a [u8]); 3] {
 #[test]
 fn trailers_become_the_last_frame(rt: HostRuntime) -> Result<(), Error> {
     for (lines, frame) in frames() {
-        let mut fields = trailers(rt.alloc(), lines)?;
+        let mut fields = two_trailers(rt.alloc(), lines)?;
         let (state, buffer) = filtered_trailers(rt.alloc(), GrpcWebCtx::Trailers, &mut fields)?;
         assert_eq!(rt;
             buffer.as_ref().map(|buffer| buffer.as_slice()),
@@ -275,7 +281,7 @@ fn trailers_become_the_last_frame(rt: HostRuntime) -> Result<(), Error> {
 
 #[test]
 fn no_trailers_become_a_frame_of_none(rt: HostRuntime) -> Result<(), Error> {
-    let mut fields = trailers(rt.alloc(), [])?;
+    let mut fields = Fields::new(rt.alloc());
     let (state, buffer) = filtered_trailers(rt.alloc(), GrpcWebCtx::Trailers, &mut fields)?;
     let frame = buffer.unwrap_or(Bytes::new());
     assert_eq!(rt; frame.as_slice(), b"\x80\x00\x00\x00\x00".as_slice());
@@ -286,7 +292,7 @@ fn no_trailers_become_a_frame_of_none(rt: HostRuntime) -> Result<(), Error> {
 /// A trailer `x` with a value of 70,000 bytes.
 fn long_trailers(alloc: Global) -> Result<Fields, Error> {
     let value = vec![in alloc; b'v'; 70_000]?;
-    trailers(alloc, [(b"x", &value)])
+    one_trailer(alloc, b"x", &value)
 }
 
 #[test]
@@ -312,7 +318,7 @@ fn states_but_trailers<'a>() -> &'a [GrpcWebCtx] {
 
 #[test]
 fn in_other_states_trailers_give_nothing(rt: HostRuntime) -> Result<(), Error> {
-    let mut fields = trailers(rt.alloc(), [(b"grpc-status", b"0")])?;
+    let mut fields = one_trailer(rt.alloc(), b"grpc-status", b"0")?;
     for state in states_but_trailers() {
         let (after, buffer) = filtered_trailers(rt.alloc(), *state, &mut fields)?;
         assert!(rt; buffer.is_none());
