@@ -1,11 +1,12 @@
 -- How the filters of several modules go on, end, and are refused.
-use Rattle.std.proofs.Common.{◌≡◌, ℕ, ◌+◌, ◌<◌, ◌≤◌, List, [], ◌∷◌, ◌++◌, length, get_or, set, take, drop, refl, sym, ap, ◌∙◌, inl, inr, arith, Result, Ok, Err}
-use Rattle.std.proofs.lemmas.List.{take_more, take_more_set, drop_more, drop-set-lt, take-append-drop}
+use Rattle.std.proofs.Common.{◌≡◌, ℕ, ◌+◌, ◌<◌, List, [], ◌∷◌, ◌++◌, length, get_or, set, take, drop, refl, sym, ap, ◌∙◌, inr, arith, Result, Ok, Err}
+use Rattle.std.proofs.lemmas.List.{take_more, take_more_set, drop_more, drop-set-lt, set-get_or, take-append-drop}
 use Rattle.h1_error.specs.declared.error.Error.{Error}
 use Rattle.h1_error.specs.Memory.{no_memory}
 use Rattle.std.specs.Option.{option_or}
 use Rattle.h1_modules.specs.Outcome.{Outcome, Piece, ErrsBy}
-use Rattle.h1_modules.specs.Filters.{on_ok, run, HasRun, with_buffer, keeping_buffer, with_last, keeping_last}
+use Rattle.std.proofs.lemmas.Option.{slice_get-get_or}
+use Rattle.h1_modules.specs.Filters.{on_ok, run, HasRun, StoppedAt, with_buffer, keeping_buffer, with_last, keeping_last}
 
 -- the modules of both parts, and the value of the second
 abbrev join : {M A R : Type 0} → Result (List M × A) R → (A → Result (List M × A) R)
@@ -111,6 +112,21 @@ has_run_errs filter error_of i old now before value d error has same within errs
     let m = get_or now i d in
     let e : take i old ++ m ∷ drop (i + 1) old ≡ old = ap (λ x. take i old ++ x ∷ drop (i + 1) old) next.0 ∙ ap (λ xs. take i old ++ xs) (sym (drop_more old i d (omega arith))) ∙ take-append-drop i old in
     rw e at (run_errs filter error_of (take i old) (take i now) (drop (i + 1) old) m before value error has.ran errs)
+
+-- the next module errs and stays as it was, and no other runs
+pub stopped_next : {M A R : Type 0} (filter : M → A → Outcome M A R) (error_of : R → Error) (i : ℕ)
+    (old now : List M) (before value after : A) (d n : M) (error : Error)
+    → HasRun filter i old now before value → length now ≡ length old → i < length now
+    → n ≡ get_or now i d → after ≡ value → ErrsBy error_of (filter (get_or now i d) value) error
+    → StoppedAt filter error_of i old (set now i n) before after error
+stopped_next filter error_of i old now before value after d n error has same within stays kept errs =
+    let same_one = (next_same old now i d same within has.rest).0 in
+    rw (stays, kept, set-get_or now i d) (record {
+      has_run = has;
+      refuser = get_or now i d;
+      next = rw same_one (slice_get-get_or old i d (omega arith));
+      errs = errs;
+    })
 
 -- ---- buffers
 

@@ -1,5 +1,5 @@
 -- The order of modules: the higher comes first, and equal orders stand as they were added.
-use Rattle.std.specs.Prelude.{◌≡◌, ℕ, ℤ, ◌==◌, ◌≤ℤ◌, Bool, List, [], ◌∷◌, int_lt, if◌then◌else◌, ⊤}
+use Rattle.std.specs.Prelude.{ℕ, ℤ, ◌==◌, ◌≤ℤ◌, Bool, List, [], ◌∷◌, int_lt, if◌then◌else◌, ⊤}
 use Rattle.std.specs.List.{list_any, AllByRecursion}
 use Rattle.std.specs.Ordering.{int_eq}
 

@@ -1,8 +1,8 @@
 -- How the filters of several modules make one.
-use Rattle.std.specs.Prelude.{◌≡◌, ℕ, List, [], ◌∷◌, take, drop, Option, Result, Ok, Err}
+use Rattle.std.specs.Prelude.{◌≡◌, ℕ, List, [], ◌∷◌, take, drop, slice_get, Some, Result, Ok, Err}
 use Rattle.std.specs.Option.{option_or}
-use Rattle.h1_fields.specs.Lines.{Line}
-use Rattle.h1_modules.specs.Outcome.{Outcome, Piece}
+use Rattle.h1_error.specs.declared.error.Error.{Error}
+use Rattle.h1_modules.specs.Outcome.{Outcome, Piece, ErrsBy}
 
 -- what is next comes only where nothing refused
 abbrev pub on_ok : {V W R : Type 0} → Result V R → (V → Result W R) → Result W R
@@ -22,6 +22,15 @@ pub record HasRun {M A R : Type 0} (filter : M → A → Outcome M A R) (count :
     (old new : List M) (before now : A) : Type 0 where
   pub ran : run filter (take count old) before ≡ Ok (take count new, now)
   pub rest : drop count new ≡ drop count old
+
+-- the filters of so many first modules have run, the next module answers the error, and it and those
+-- behind it are as they were
+pub record StoppedAt {M A R : Type 0} (filter : M → A → Outcome M A R) (error_of : R → Error)
+    (count : ℕ) (old new : List M) (before now : A) (error : Error) : Type 0 where
+  pub has_run : HasRun filter count old new before now
+  pub refuser : M
+  pub next : slice_get old count ≡ Some refuser
+  pub errs : ErrsBy error_of (filter refuser now) error
 
 -- of several buffers the last wins
 abbrev pub with_buffer : {M T R : Type 0} → Piece → Outcome M (T × Piece) R

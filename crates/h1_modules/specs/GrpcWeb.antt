@@ -1,5 +1,5 @@
 -- gRPC-web taken for gRPC, and gRPC for gRPC-web, on one exchange (gRPC's PROTOCOL-WEB.md).
-use Rattle.std.specs.Prelude.{ℕ, ◌^◌, false, ◌&&◌, nat_le, nat_lt, List, Option, None, Some, Result, Ok, Err, if◌then◌else◌, codes, length}
+use Rattle.std.specs.Prelude.{◌^◌, false, ◌&&◌, nat_le, nat_lt, List, Option, None, Some, Ok, Err, if◌then◌else◌, codes, length}
 use Rattle.h1_fields.specs.Lines.{Line, with_line, without}
 use Rattle.h1_head.specs.Views.{RequestView, ResponseView}
 use Rattle.h1_modules.specs.declared.grpc_web.GrpcWebCtx.{GrpcWebCtx}

@@ -1,5 +1,5 @@
 //! The modules of a server, in the order in which they run.
-ghost use Rattle.std.specs.Prelude.{◌≡◌, ◌≢◌, ℕ, ◌≤◌, [], map, insert, length, IfOk, OnOk, OnErr, Err, IsOkUnless, IfSome, IfNone};
+ghost use Rattle.std.specs.Prelude.{◌≡◌, ◌≢◌, ℕ, ◌≤◌, [], map, insert, length, IfOk, OnOk, OnErr, Err, IsOkUnless};
 ghost use Rattle.std.specs.Bool.{MatchBool};
 ghost use Rattle.h1_error.specs.Memory.{no_memory};
 ghost use Rattle.h1_modules.specs.Outcome.{duplicate};
@@ -10,8 +10,8 @@ use h1_error::{Error, ErrorType};
 use std::alloc::Global;
 use std::marker::Model;
 
-/// Builders of modules, no two of one key, in descending order, and those of equal order as they
-/// were added. A contract sees the list of them.
+/// Builders of modules in descending order, and those of equal order as they were added. None has
+/// the key of another, as `add_module` adds no second one. A contract sees the list of them.
 #[derive(Drop)]
 pub struct HttpModules<B: HttpModuleBuilder + Drop> {
     builders: Vec<B>,

@@ -1,9 +1,9 @@
 //! The modules of an exchange.
-ghost use Rattle.std.specs.Prelude.{◌≡◌, ◌≢◌, ℕ, [], None, Ok, IfOk, IfErr, OnOk, OnErr, option_map};
+ghost use Rattle.std.specs.Prelude.{◌≡◌, ◌≢◌, ℕ, [], None, Ok, IfOk, IfErr, OnOk};
 ghost use Rattle.std.specs.Bool.{MatchBool};
 ghost use Rattle.std.specs.Option.{option_copied, option_copied_mut};
 ghost use Rattle.h1_modules.specs.Outcome.{Piece, ErrsBy, refused_by, trailer_error};
-ghost use Rattle.h1_modules.specs.Filters.{run, HasRun, keeping_buffer, keeping_last};
+ghost use Rattle.h1_modules.specs.Filters.{run, StoppedAt, keeping_buffer, keeping_last};
 ghost use Rattle.h1_modules.specs.Context.{module_of, place_of};
 
 use crate::HttpModule;
@@ -101,8 +101,9 @@ impl<M: HttpModule + Drop> HttpModuleCtx<M> {
             ≡ Ok (self.new.modules, req.new)) }
         ensures err { IfErr result (ErrsBy refused_by
             (run M.request_header self.old.modules req.old)) }
-        ensures part { OnErr result ((count : ℕ) × HasRun M.request_header count
-            self.old.modules self.new.modules req.old req.new) }
+        ensures part { IfErr result (λ error. (count : ℕ)
+            × StoppedAt M.request_header refused_by count
+            self.old.modules self.new.modules req.old req.new error) }
         ensures keys { self.new.keys ≡ self.old.keys }
     {
         filter_request_header(&mut self.modules, alloc, req)
@@ -120,8 +121,9 @@ impl<M: HttpModule + Drop> HttpModuleCtx<M> {
             ≡ Ok (self.new.modules, body.new)) }
         ensures err { IfErr result (ErrsBy refused_by
             (run (M.request_body end) self.old.modules body.old)) }
-        ensures part { OnErr result ((count : ℕ) × HasRun (M.request_body end) count
-            self.old.modules self.new.modules body.old body.new) }
+        ensures part { IfErr result (λ error. (count : ℕ)
+            × StoppedAt (M.request_body end) refused_by count
+            self.old.modules self.new.modules body.old body.new error) }
         ensures keys { self.new.keys ≡ self.old.keys }
     {
         filter_request_body(&mut self.modules, alloc, body, end)
@@ -139,8 +141,9 @@ impl<M: HttpModule + Drop> HttpModuleCtx<M> {
             ≡ Ok (self.new.modules, resp.new)) }
         ensures err { IfErr result (ErrsBy refused_by
             (run (M.response_header end) self.old.modules resp.old)) }
-        ensures part { OnErr result ((count : ℕ) × HasRun (M.response_header end) count
-            self.old.modules self.new.modules resp.old resp.new) }
+        ensures part { IfErr result (λ error. (count : ℕ)
+            × StoppedAt (M.response_header end) refused_by count
+            self.old.modules self.new.modules resp.old resp.new error) }
         ensures keys { self.new.keys ≡ self.old.keys }
     {
         filter_response_header(&mut self.modules, alloc, resp, end)
@@ -158,8 +161,9 @@ impl<M: HttpModule + Drop> HttpModuleCtx<M> {
             ≡ Ok (self.new.modules, body.new)) }
         ensures err { IfErr result (ErrsBy refused_by
             (run (M.response_body end) self.old.modules body.old)) }
-        ensures part { OnErr result ((count : ℕ) × HasRun (M.response_body end) count
-            self.old.modules self.new.modules body.old body.new) }
+        ensures part { IfErr result (λ error. (count : ℕ)
+            × StoppedAt (M.response_body end) refused_by count
+            self.old.modules self.new.modules body.old body.new error) }
         ensures keys { self.new.keys ≡ self.old.keys }
     {
         filter_response_body(&mut self.modules, alloc, body, end)
@@ -177,9 +181,9 @@ impl<M: HttpModule + Drop> HttpModuleCtx<M> {
             ≡ Ok (self.new.modules, (trailers.new, buffer))) }
         ensures err { IfErr result (ErrsBy trailer_error
             (run (keeping_buffer M.response_trailer) self.old.modules (trailers.old, None))) }
-        ensures part { OnErr result ((count : ℕ) × (buffer : Piece)
-            × HasRun (keeping_buffer M.response_trailer) count
-            self.old.modules self.new.modules (trailers.old, None) (trailers.new, buffer)) }
+        ensures part { IfErr result (λ error. (count : ℕ) × (buffer : Piece)
+            × StoppedAt (keeping_buffer M.response_trailer) trailer_error count
+            self.old.modules self.new.modules (trailers.old, None) (trailers.new, buffer) error) }
         ensures keys { self.new.keys ≡ self.old.keys }
     {
         filter_response_trailer(&mut self.modules, alloc, trailers)
@@ -193,9 +197,9 @@ impl<M: HttpModule + Drop> HttpModuleCtx<M> {
             ≡ Ok (self.new.modules, buffer)) }
         ensures err { IfErr result (ErrsBy refused_by
             (run (keeping_last M.response_done) self.old.modules None)) }
-        ensures part { OnErr result ((count : ℕ) × (buffer : Piece)
-            × HasRun (keeping_last M.response_done) count
-            self.old.modules self.new.modules None buffer) }
+        ensures part { IfErr result (λ error. (count : ℕ) × (buffer : Piece)
+            × StoppedAt (keeping_last M.response_done) refused_by count
+            self.old.modules self.new.modules None buffer error) }
         ensures keys { self.new.keys ≡ self.old.keys }
     {
         filter_response_done(&mut self.modules, alloc)

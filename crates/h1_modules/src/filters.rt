@@ -1,7 +1,7 @@
 //! The filters of several modules, one after another, up to the first error.
-ghost use Rattle.std.specs.Prelude.{◌≡◌, ℕ, None, Ok, IfOk, IfErr, OnOk, OnErr};
+ghost use Rattle.std.specs.Prelude.{◌≡◌, ℕ, None, Ok, IfOk, IfErr, OnOk};
 ghost use Rattle.h1_modules.specs.Outcome.{Piece, ErrsBy, refused_by, trailer_error};
-ghost use Rattle.h1_modules.specs.Filters.{run, HasRun, keeping_buffer, keeping_last};
+ghost use Rattle.h1_modules.specs.Filters.{run, StoppedAt, keeping_buffer, keeping_last};
 
 use crate::HttpModule;
 use bytes::Bytes;
@@ -18,8 +18,9 @@ pub(crate) fn filter_request_header<M: HttpModule>(
     ensures ok { OnOk result (run M.request_header modules.old req.old
         ≡ Ok (modules.new, req.new)) }
     ensures err { IfErr result (ErrsBy refused_by (run M.request_header modules.old req.old)) }
-    ensures part { OnErr result ((count : ℕ)
-        × HasRun M.request_header count modules.old modules.new req.old req.new) }
+    ensures part { IfErr result (λ error. (count : ℕ)
+        × StoppedAt M.request_header refused_by count
+        modules.old modules.new req.old req.new error) }
 {
     for filter in modules.iter_mut() {
         filter.request_header_filter(alloc, req)?;
@@ -38,8 +39,9 @@ pub(crate) fn filter_request_body<M: HttpModule>(
         ≡ Ok (modules.new, body.new)) }
     ensures err { IfErr result (ErrsBy refused_by
         (run (M.request_body end) modules.old body.old)) }
-    ensures part { OnErr result ((count : ℕ)
-        × HasRun (M.request_body end) count modules.old modules.new body.old body.new) }
+    ensures part { IfErr result (λ error. (count : ℕ)
+        × StoppedAt (M.request_body end) refused_by count
+        modules.old modules.new body.old body.new error) }
 {
     for filter in modules.iter_mut() {
         filter.request_body_filter(alloc, body, end)?;
@@ -58,8 +60,9 @@ pub(crate) fn filter_response_header<M: HttpModule>(
         ≡ Ok (modules.new, resp.new)) }
     ensures err { IfErr result (ErrsBy refused_by
         (run (M.response_header end) modules.old resp.old)) }
-    ensures part { OnErr result ((count : ℕ)
-        × HasRun (M.response_header end) count modules.old modules.new resp.old resp.new) }
+    ensures part { IfErr result (λ error. (count : ℕ)
+        × StoppedAt (M.response_header end) refused_by count
+        modules.old modules.new resp.old resp.new error) }
 {
     for filter in modules.iter_mut() {
         filter.response_header_filter(alloc, resp, end)?;
@@ -78,8 +81,9 @@ pub(crate) fn filter_response_body<M: HttpModule>(
         ≡ Ok (modules.new, body.new)) }
     ensures err { IfErr result (ErrsBy refused_by
         (run (M.response_body end) modules.old body.old)) }
-    ensures part { OnErr result ((count : ℕ)
-        × HasRun (M.response_body end) count modules.old modules.new body.old body.new) }
+    ensures part { IfErr result (λ error. (count : ℕ)
+        × StoppedAt (M.response_body end) refused_by count
+        modules.old modules.new body.old body.new error) }
 {
     for filter in modules.iter_mut() {
         filter.response_body_filter(alloc, body, end)?;
@@ -98,9 +102,9 @@ pub(crate) fn filter_response_trailer<M: HttpModule>(
         ≡ Ok (modules.new, (trailers.new, buffer))) }
     ensures err { IfErr result (ErrsBy trailer_error
         (run (keeping_buffer M.response_trailer) modules.old (trailers.old, None))) }
-    ensures part { OnErr result ((count : ℕ) × (buffer : Piece)
-        × HasRun (keeping_buffer M.response_trailer) count modules.old modules.new
-        (trailers.old, None) (trailers.new, buffer)) }
+    ensures part { IfErr result (λ error. (count : ℕ) × (buffer : Piece)
+        × StoppedAt (keeping_buffer M.response_trailer) trailer_error count
+        modules.old modules.new (trailers.old, None) (trailers.new, buffer) error) }
 {
     let mut last: Option<Bytes> = None;
     for filter in modules.iter_mut() {
@@ -119,8 +123,9 @@ pub(crate) fn filter_response_done<M: HttpModule>(
         run (keeping_last M.response_done) modules.old None ≡ Ok (modules.new, buffer)) }
     ensures err { IfErr result (ErrsBy refused_by
         (run (keeping_last M.response_done) modules.old None)) }
-    ensures part { OnErr result ((count : ℕ) × (buffer : Piece)
-        × HasRun (keeping_last M.response_done) count modules.old modules.new None buffer) }
+    ensures part { IfErr result (λ error. (count : ℕ) × (buffer : Piece)
+        × StoppedAt (keeping_last M.response_done) refused_by count
+        modules.old modules.new None buffer error) }
 {
     let mut last: Option<Bytes> = None;
     for filter in modules.iter_mut() {

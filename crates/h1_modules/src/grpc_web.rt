@@ -1,7 +1,6 @@
 //! gRPC-web taken for gRPC, and gRPC for gRPC-web (gRPC's PROTOCOL-WEB.md).
 ghost use Rattle.std.specs.Prelude.{◌≡◌, true, Ok, IfOk, IfErr, OnOk, OnErr, IsOkUnless};
 ghost use Rattle.h1_error.specs.Memory.{no_memory};
-ghost use Rattle.h1_fields.specs.Lines.{first_value};
 ghost use Rattle.h1_modules.specs.Outcome.{ErrsBy, trailer_error};
 ghost use Rattle.h1_modules.specs.ContentType.{content_type, is_grpc_web, is_grpc};
 ghost use Rattle.h1_modules.specs.GrpcWeb.{grpc_request, web_response, filtered_request, filtered_response, filtered_trailers};

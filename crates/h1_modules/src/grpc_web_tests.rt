@@ -103,10 +103,9 @@ fn a_request_of_grpc_web_becomes_one_of_grpc(rt: HostRuntime) -> Result<(), Erro
     for (given, expected) in web_requests() {
         let types = [*given, b"text/plain"];
         let (state, req) = filtered_request(rt.alloc(), GrpcWebCtx::Init, &types)?;
-        assert_eq!(rt; state, GrpcWebCtx::Upgrade);
+        assert_eq!(rt; (state, req.fields().len()), (GrpcWebCtx::Upgrade, 2));
         assert_eq!(rt; req.get(b"content-type"), Some(*expected));
         assert_eq!(rt; req.get(b"te"), Some(b"trailers".as_slice()));
-        assert_eq!(rt; req.fields().len(), 2);
     }
     Ok(())
 }
@@ -131,9 +130,11 @@ fn other_requests<'a>() -> &'a [&'a [&'a [u8]]] {
 fn other_requests_stay(rt: HostRuntime) -> Result<(), Error> {
     for types in other_requests() {
         let (state, req) = filtered_request(rt.alloc(), GrpcWebCtx::Init, types)?;
-        assert_eq!(rt; state, GrpcWebCtx::Init);
+        assert_eq!(rt;
+            (state, req.fields().len()),
+            (GrpcWebCtx::Init, types.len())
+        );
         assert_eq!(rt; req.get(b"content-type"), types.first().copied());
-        assert_eq!(rt; req.fields().len(), types.len());
     }
     Ok(())
 }
@@ -153,9 +154,8 @@ fn a_request_is_looked_at_in_init_alone(rt: HostRuntime) -> Result<(), Error> {
     let given = b"application/grpc-web".as_slice();
     for state in states_behind_init() {
         let (after, req) = filtered_request(rt.alloc(), *state, &[given])?;
-        assert_eq!(rt; after, *state);
+        assert_eq!(rt; (after, req.fields().len()), (*state, 1));
         assert_eq!(rt; req.get(b"content-type"), Some(given));
-        assert_eq!(rt; req.fields().len(), 1);
     }
     Ok(())
 }

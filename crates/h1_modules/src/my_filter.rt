@@ -9,7 +9,7 @@ use h1_head::{Fields, RequestHeader, ResponseHeader};
 use std::alloc::Global;
 
 /// Sets `my-filter` to 1, or to 2 where it counts and the field is there. It is its own builder.
-#[derive(Clone, Copy, Debug, PartialEq, Eq)]
+#[derive(Clone, Copy)]
 pub(crate) struct SetsMyFilter {
     pub(crate) order: i16,
     pub(crate) key: u32,

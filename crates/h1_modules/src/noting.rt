@@ -35,7 +35,7 @@ pub(crate) const FILTERS: [u8; 6] = [
 pub(crate) const NEVER: u8 = 6;
 
 /// Adds its name to what it is given, and refuses with it in one filter.
-#[derive(Clone, Copy, Debug, PartialEq, Eq)]
+#[derive(Clone, Copy)]
 pub(crate) struct Note {
     pub(crate) name: u8,
     pub(crate) refuses_at: u8,
@@ -46,7 +46,7 @@ pub(crate) struct Note {
 }
 
 /// Makes notes. The name is the key too.
-#[derive(Clone, Copy, Debug, PartialEq, Eq)]
+#[derive(Clone, Copy)]
 pub(crate) struct Noting {
     pub(crate) order: i16,
     pub(crate) note: Note,
