@@ -1,11 +1,11 @@
 -- Scripts that are too long are judged by their front.
-use Rattle.std.proofs.Common.{◌≡◌, ℕ, ◌+◌, ◌<◌, ◌≤◌, min, Bool, true, false, cond, List, [], ◌∷◌, ◌++◌, length, take, drop, count_by, Option, Some, None, refl, sym, ap, ◌∙◌, subst, arith, leb, length-append}
+use Rattle.std.proofs.Common.{◌≡◌, ℕ, ◌+◌, ◌<◌, ◌≤◌, min, Bool, true, false, cond, not, ◌&&◌, List, [], ◌∷◌, ◌++◌, length, take, drop, count_by, Option, Some, None, refl, sym, ap, ◌∙◌, subst, arith, leb, length-append}
 use Rattle.std.specs.List.{slice_split, onto_first}
 use Rattle.std.proofs.lemmas.Bool.{lt-leb}
 use Rattle.std.proofs.lemmas.List.{take-append-le, take-append-drop}
 use Rattle.std.proofs.lemmas.List.Splits.{length-slice_split}
 use Rattle.std.proofs.lemmas.List.Sums.{sum_by-append}
-use Rattle.h1_words.specs.Script.{is_line_feed, Reading, at_line, stopped_at, faulty_at, may_follow, place_after, with_command, with_line, reading_behind, outcome_of, line_at, faulty_by, first_line, outcome_of_lines, script_of}
+use Rattle.h1_words.specs.Script.{is_line_feed, Reading, at_line, stopped_at, faulty_at, may_follow, is_repeated, place_after, with_command, with_line, reading_behind, outcome_of, line_at, faulty_by, first_line, outcome_of_lines, script_of}
 use Rattle.h1_words.specs.Command.{command_of}
 use Rattle.h1_words.proofs.LineLemmas.{stays_stopped}
 use Rattle.h1_words.specs.declared.script.TheConstants.{MAX_SCRIPT}
@@ -79,8 +79,8 @@ after_command : (n number : ℕ) (place : Place) (before : List Command) (comman
     n ≤ number → After (n + 1) (with_command place before number command)
 after_command n number place before None h = tt
 after_command n number place before (Some command) h =
-    after_choice (may_follow place command) n number (place_after place command)
-    (before ++ command ∷ []) h
+    after_choice (may_follow place command && not (is_repeated command before)) n number
+    (place_after place command) (before ++ command ∷ []) h
 
 after_line : (n : ℕ) (r : Reading) (line : List ℕ) → After n r → After (n + 1) (with_line r line)
 after_line n (stopped_at number) line h = tt
@@ -114,8 +114,8 @@ late_command : (n number : ℕ) (place : Place) (before : List Command) (command
     n ≤ number → Late n (with_command place before number command)
 late_command n number place before None h = h
 late_command n number place before (Some command) h =
-    late_choice (may_follow place command) n number (place_after place command)
-    (before ++ command ∷ []) h
+    late_choice (may_follow place command && not (is_repeated command before)) n number
+    (place_after place command) (before ++ command ∷ []) h
 
 late_line : (n : ℕ) (r : Reading) (line : List ℕ) → Late n r → Late n (with_line r line)
 late_line n (stopped_at number) line h = h

@@ -1,10 +1,10 @@
 -- Scripts: lines that end by LF, the last of which may lack it. Empty lines are passed over.
 use Rattle.std.specs.Prelude.{◌≡◌, ℕ, ◌+◌, min, Bool, true, false, not, ◌&&◌, ◌==◌, nat_le, if◌then◌else◌, List, [], ◌∷◌, ◌++◌, length, take, count_by, Option, Some, None, Result, Ok, Err}
-use Rattle.std.specs.List.{slice_split}
+use Rattle.std.specs.List.{slice_split, list_any}
 use Rattle.h1_words.specs.Command.{command_of}
 use Rattle.h1_words.specs.declared.script.TheConstants.{MAX_SCRIPT}
 use Rattle.h1_words.specs.declared.command.Command.{Command}
-use Rattle.h1_words.specs.declared.command.Command.TheVariants.{Give, End, Room, Block, FaultRead, FaultWrite, Shutdown, Limit, Poll}
+use Rattle.h1_words.specs.declared.command.Command.TheVariants.{Give, End, Room, Block, FaultRead, FaultWrite, Shutdown, Limit, Mark, Refuse, Poll}
 use Rattle.h1_words.specs.declared.place.Place.{Place}
 use Rattle.h1_words.specs.declared.script.ScriptFault.{ScriptFault}
 use Rattle.h1_words.specs.declared.script.ScriptFault.TheVariants as fault
@@ -27,7 +27,8 @@ pub data ScriptOutcome : Type 0 where
   faulty_at : ℕ → ScriptOutcome
 
 -- `give` doesn't stand after `end`, `end` stands once, `limit` once and only before the first poll,
--- and no poll is before an earlier one; every other line stands anywhere
+-- modules only before the first poll, and no poll is before an earlier one; every other line stands
+-- anywhere
 abbrev pub may_follow : Place → Command → Bool
 may_follow place (Give bytes) = not place.ended
 may_follow place End = not place.ended
@@ -37,6 +38,8 @@ may_follow place FaultRead = true
 may_follow place FaultWrite = true
 may_follow place Shutdown = true
 may_follow place (Limit count) = not place.polled && not place.limited
+may_follow place (Mark number) = not place.polled
+may_follow place (Refuse number) = not place.polled
 may_follow place (Poll moment) = nat_le place.last_poll moment
 
 -- what stands before the line after the command
@@ -49,7 +52,25 @@ place_after place FaultRead = place
 place_after place FaultWrite = place
 place_after place Shutdown = place
 place_after place (Limit count) = record place { limited = true }
+place_after place (Mark number) = place
+place_after place (Refuse number) = place
 place_after place (Poll moment) = record place { polled = true; last_poll = moment }
+
+-- `module mark` with this number
+abbrev pub is_mark : ℕ → Command → Bool
+is_mark number (Mark other) = other == number
+is_mark number command = false
+
+-- `module refuse` with this number
+abbrev pub is_refuse : ℕ → Command → Bool
+is_refuse number (Refuse other) = other == number
+is_refuse number command = false
+
+-- a module stands once; a line of another kind may stand again
+abbrev pub is_repeated : Command → List Command → Bool
+is_repeated (Mark number) before = list_any (is_mark number) before
+is_repeated (Refuse number) before = list_any (is_refuse number) before
+is_repeated command before = false
 
 -- the lines that are read: what stands before the next one, the commands, and the number of the
 -- next one, from 1; or the number of a faulty one
@@ -61,7 +82,7 @@ pub data Reading : Type 0 where
 abbrev pub with_command : Place → List Command → ℕ → Option Command → Reading
 with_command place before number None = stopped_at number
 with_command place before number (Some command) =
-    if may_follow place command
+    if may_follow place command && not (is_repeated command before)
     then at_line (place_after place command) (before ++ command ∷ []) (number + 1)
     else stopped_at number
 

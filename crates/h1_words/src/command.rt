@@ -1,7 +1,7 @@
 //! The lines of a script, each by itself.
 ghost use Rattle.std.specs.Prelude.{◌≡◌, IfOk};
 ghost use Rattle.std.specs.Option.{option_copied};
-ghost use Rattle.h1_words.specs.Command.{behind_words, give_command, poll_command, limit_command, room_command, room_line, limit_line, poll_line, give_line, fixed_command, text_command, command_of};
+ghost use Rattle.h1_words.specs.Command.{behind_words, give_command, poll_command, short_number, limit_command, mark_command, refuse_command, room_command, refuse_line, mark_line, module_command, room_line, limit_line, poll_line, give_line, fixed_command, text_command, command_of};
 
 use crate::unescape::bytes_of_text;
 use crate::{Text, number_up_to};
@@ -11,8 +11,8 @@ use std::alloc::Global;
 /// The last millisecond of the year 9999, counted from the first of 1970.
 pub const LAST_MOMENT: u64 = 253_402_300_799_999;
 
-/// The greatest limit that a script can set.
-pub const MAX_LIMIT: u32 = u32::MAX;
+/// The greatest limit that a script can set, and the greatest number of a module.
+pub const MAX_SHORT_NUMBER: u32 = u32::MAX;
 
 /// The greatest room that a script can set.
 pub const MAX_ROOM: u64 = u64::MAX;
@@ -36,6 +36,10 @@ pub enum Command {
     Shutdown,
     /// Connections have this `keepalive_request_limit`.
     Limit(u32),
+    /// The server gets a module that adds the line `x-mark: N` to each reply.
+    Mark(u32),
+    /// The server gets a module that refuses requests for `/refuse` with this number.
+    Refuse(u32),
     /// One poll at this moment, in milliseconds.
     Poll(u64),
 }
@@ -88,7 +92,20 @@ fn text_command(alloc: Global, line: &[u8]) -> Result<Option<Command>, Error>
     if let Some(digits) = behind_words(b"room ", line) {
         return Ok(room_command(digits));
     }
-    Ok(None)
+    Ok(module_command(line))
+}
+
+/// The command of a line that adds a module.
+fn module_command(line: &[u8]) -> Option<Command>
+    ensures { result ≡ module_command line.now }
+{
+    if let Some(digits) = behind_words(b"module mark ", line) {
+        return mark_command(digits);
+    }
+    if let Some(digits) = behind_words(b"module refuse ", line) {
+        return refuse_command(digits);
+    }
+    None
 }
 
 fn behind_words<'a>(words: &[u8], line: &'a [u8]) -> Option<&'a [u8]>
@@ -118,8 +135,36 @@ fn poll_command(digits: &[u8]) -> Option<Command>
 fn limit_command(digits: &[u8]) -> Option<Command>
     ensures { result ≡ limit_command digits.now }
 {
-    match number_up_to(u64::from(MAX_LIMIT), digits) {
-        Some(limit) => Some(Command::Limit(limit as u32)),
+    match short_number(digits) {
+        Some(limit) => Some(Command::Limit(limit)),
+        None => None,
+    }
+}
+
+fn mark_command(digits: &[u8]) -> Option<Command>
+    ensures { result ≡ mark_command digits.now }
+{
+    match short_number(digits) {
+        Some(number) => Some(Command::Mark(number)),
+        None => None,
+    }
+}
+
+fn refuse_command(digits: &[u8]) -> Option<Command>
+    ensures { result ≡ refuse_command digits.now }
+{
+    match short_number(digits) {
+        Some(number) => Some(Command::Refuse(number)),
+        None => None,
+    }
+}
+
+/// The number of a limit or of a module, which is below 2^32.
+fn short_number(digits: &[u8]) -> Option<u32>
+    ensures { result ≡ short_number digits.now }
+{
+    match number_up_to(u64::from(MAX_SHORT_NUMBER), digits) {
+        Some(number) => Some(number as u32),
         None => None,
     }
 }

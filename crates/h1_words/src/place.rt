@@ -1,10 +1,11 @@
 //! What stands before a line of a script.
 ghost use Rattle.std.specs.Prelude.{◌≡◌};
-ghost use Rattle.h1_words.specs.Script.{may_follow, place_after};
+ghost use Rattle.std.specs.List.{list_any};
+ghost use Rattle.h1_words.specs.Script.{may_follow, place_after, is_mark, is_refuse, is_repeated};
 
 use crate::Command;
 
-/// What stands before a line of a script, as far as it decides what the line may be.
+/// What stands before a line of a script, as far as it decides what the line may be, modules aside.
 #[derive(Clone, Copy, Debug)]
 pub struct Place {
     /// Whether `end` stands before.
@@ -26,6 +27,7 @@ impl Place {
             Command::Room(_) | Command::Block => true,
             Command::FaultRead | Command::FaultWrite | Command::Shutdown => true,
             Command::Limit(_) => !self.polled && !self.limited,
+            Command::Mark(_) | Command::Refuse(_) => !self.polled,
             Command::Poll(moment) => self.last_poll <= *moment,
         }
     }
@@ -36,6 +38,7 @@ impl Place {
         match command {
             Command::Give(_) | Command::Room(_) | Command::Block => self,
             Command::FaultRead | Command::FaultWrite | Command::Shutdown => self,
+            Command::Mark(_) | Command::Refuse(_) => self,
             Command::End => Place {
                 ended: true,
                 ..self
@@ -50,5 +53,46 @@ impl Place {
                 ..self
             },
         }
+    }
+}
+
+/// Whether the same module stands before.
+pub(crate) fn is_repeated(command: &Command, before: &[Command]) -> bool
+    ensures { result ≡ is_repeated command.now before.now }
+{
+    match command {
+        Command::Mark(number) => has_mark(*number, before),
+        Command::Refuse(number) => has_refuse(*number, before),
+        _ => false,
+    }
+}
+
+fn has_mark(number: u32, before: &[Command]) -> bool
+    ensures { result ≡ list_any (is_mark number) before.now }
+{
+    before.iter().any(|command| is_mark(number, command))
+}
+
+fn is_mark(number: u32, command: &Command) -> bool
+    ensures { result ≡ is_mark number command.now }
+{
+    match command {
+        Command::Mark(other) => *other == number,
+        _ => false,
+    }
+}
+
+fn has_refuse(number: u32, before: &[Command]) -> bool
+    ensures { result ≡ list_any (is_refuse number) before.now }
+{
+    before.iter().any(|command| is_refuse(number, command))
+}
+
+fn is_refuse(number: u32, command: &Command) -> bool
+    ensures { result ≡ is_refuse number command.now }
+{
+    match command {
+        Command::Refuse(other) => *other == number,
+        _ => false,
     }
 }

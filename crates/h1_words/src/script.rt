@@ -6,7 +6,7 @@ ghost use Rattle.h1_words.specs.Reader.{reading_of};
 
 use crate::Command;
 use crate::command::command_of;
-use crate::place::Place;
+use crate::place::{Place, is_repeated};
 use h1_error::Error;
 use std::alloc::Global;
 use std::marker::Model;
@@ -150,7 +150,8 @@ impl Reader {
             let Some(command) = command_of(alloc, line)? else {
                 return Err(ScriptFault::Line(self.number));
             };
-            if !self.place.may_come_before(&command) {
+            let before = self.commands.as_slice();
+            if !self.place.may_come_before(&command) || is_repeated(&command, before) {
                 return Err(ScriptFault::Line(self.number));
             }
             self.place = self.place.after(&command);

@@ -67,6 +67,68 @@ fn a_limit_and_a_shutdown_are_lines_of_the_grammar(rt: HostRuntime) {
 }
 
 #[test]
+fn modules_are_lines_of_the_grammar(rt: HostRuntime) {
+    let cases = [
+        (
+            "module mark 7\nmodule refuse 7\nmodule mark 8\nmodule refuse 8",
+            None,
+        ),
+        (
+            "end\nlimit 1\nmodule refuse 0\nshutdown\nmodule mark 0\npoll 0",
+            None,
+        ),
+        ("module mark 4294967295\nmodule refuse 4294967295", None),
+        ("module mark 4294967296", Some(1)),
+        ("module refuse 4294967296", Some(1)),
+        ("module mark 99999999999999999999", Some(1)),
+        ("module mark 00000000000000000007", None),
+        ("module mark 000000000000000000007", Some(1)),
+        ("module refuse 00000000000000000007", None),
+        ("module refuse 000000000000000000007", Some(1)),
+        ("module mark", Some(1)),
+        ("module refuse", Some(1)),
+        ("module mark ", Some(1)),
+        ("module refuse ", Some(1)),
+        ("module mark x", Some(1)),
+        ("module refuse x", Some(1)),
+        ("module mark -1", Some(1)),
+        ("module mark 1 ", Some(1)),
+        ("module mark  1", Some(1)),
+        ("module keep 1", Some(1)),
+        ("module 1", Some(1)),
+        ("module", Some(1)),
+        ("mark 1", Some(1)),
+    ];
+    for (script, expected) in cases {
+        assert_eq!(rt; line_of_fault(rt.alloc(), script), expected, "{script}");
+    }
+}
+
+#[test]
+fn a_module_stands_once_and_before_the_first_poll(rt: HostRuntime) {
+    let cases = [
+        ("module mark 7\nmodule mark 7", Some(2)),
+        ("module refuse 7\nmodule refuse 7", Some(2)),
+        ("module mark 7\nmodule mark 07", Some(2)),
+        ("module refuse 07\n\nmodule refuse 7", Some(3)),
+        (
+            "module mark 7\nmodule refuse 7\nend\nmodule mark 7",
+            Some(4),
+        ),
+        (
+            "module refuse 7\nmodule mark 7\ngive a\nmodule refuse 7",
+            Some(4),
+        ),
+        ("poll 0\nmodule mark 1", Some(2)),
+        ("poll 0\nmodule refuse 1", Some(2)),
+        ("module mark 1\npoll 0\nmodule mark 2", Some(3)),
+    ];
+    for (script, expected) in cases {
+        assert_eq!(rt; line_of_fault(rt.alloc(), script), expected, "{script}");
+    }
+}
+
+#[test]
 fn rooms_blocks_and_faults_are_lines_of_the_grammar(rt: HostRuntime) {
     let cases = [
         (
@@ -128,6 +190,22 @@ fn a_script_gives_its_limit_and_each_shutdown(rt: HostRuntime) -> Result<(), Fai
             Command::Limit(7),
             Command::Poll(5),
             Command::Shutdown,
+        ] => true,
+        _ => false,
+    };
+    assert!(rt; in_order);
+    Ok(())
+}
+
+#[test]
+fn a_script_gives_its_modules(rt: HostRuntime) -> Result<(), Fail> {
+    let text = b"module refuse 4294967295\nmodule mark 007\nmodule refuse 7";
+    let script = parse_script(rt.alloc(), text).ok().ok_or("a script")?;
+    let in_order = match script.commands() {
+        [
+            Command::Refuse(4_294_967_295),
+            Command::Mark(7),
+            Command::Refuse(7),
         ] => true,
         _ => false,
     };
