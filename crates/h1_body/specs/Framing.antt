@@ -24,11 +24,18 @@ by_fields otherwise fields =
 abbrev pub framing : RequestView → Framing
 framing head = by_fields (Counted 0) head.fields
 
--- a reply to HEAD, and one of status 204 or 304, has no body
-abbrev pub has_no_body : List ℕ → ℕ → Bool
-has_no_body method status = bytes_eq method (codes "HEAD") || status == 204 || status == 304
+-- a request of this method asks for the head of a reply alone (RFC 9110, section 9.3.2)
+abbrev pub is_head : List ℕ → Bool
+is_head method = bytes_eq method (codes "HEAD")
+
+-- a reply of which the head alone is asked for, and one of status 204 or 304, has no body
+abbrev pub has_no_body : Bool → ℕ → Bool
+has_no_body head_only status = head_only || status == 204 || status == 304
 
 -- a reply with neither ends where the link does
+abbrev pub out_to : Bool → ResponseView → Framing
+out_to head_only head =
+    if has_no_body head_only head.status then Counted 0 else by_fields UntilClose head.fields
+
 abbrev pub out : List ℕ → ResponseView → Framing
-out method head =
-    if has_no_body method head.status then Counted 0 else by_fields UntilClose head.fields
+out method head = out_to (is_head method) head

@@ -1,6 +1,6 @@
 //! How the end of a body is found (RFC 9112, section 6.3).
 ghost use Rattle.std.specs.Prelude.{◌≡◌};
-ghost use Rattle.h1_body.specs.Framing.{framing, out, by_fields, has_no_body};
+ghost use Rattle.h1_body.specs.Framing.{framing, out_to, is_head, by_fields, has_no_body};
 
 use h1_fields::{ContentLength, Fields};
 use h1_head::{RequestHeader, ResponseHeader};
@@ -25,13 +25,21 @@ pub fn framing_of(head: &RequestHeader) -> Framing
     framing_by(head.fields(), Framing::Counted(0))
 }
 
-/// How the body of the reply to a request of this method ends: at once for HEAD and for a status
-/// that has none, by chunks, by its length, or where the link does.
+/// Whether a request of this method asks for the head of a reply alone (RFC 9110, section 9.3.2).
 #[inline(always)]
-pub fn reply_framing(method: &Method, head: &ResponseHeader) -> Framing
-    ensures { result ≡ out method.now head.now }
+pub fn is_head_only(method: &Method) -> bool
+    ensures { result ≡ is_head method.now }
 {
-    if has_no_reply_body(method, head.status()) {
+    method.as_str() == "HEAD"
+}
+
+/// How the body of a reply ends: at once where the head alone is asked for and for a status that
+/// has none, by chunks, by its length, or where the link does.
+#[inline(always)]
+pub fn reply_framing(head_only: bool, head: &ResponseHeader) -> Framing
+    ensures { result ≡ out_to head_only head.now }
+{
+    if has_no_reply_body(head_only, head.status()) {
         Framing::Counted(0)
     } else {
         framing_by(head.fields(), Framing::UntilClose)
@@ -39,10 +47,10 @@ pub fn reply_framing(method: &Method, head: &ResponseHeader) -> Framing
 }
 
 #[inline(always)]
-fn has_no_reply_body(method: &Method, status: u16) -> bool
-    ensures { result ≡ has_no_body method.now status }
+fn has_no_reply_body(head_only: bool, status: u16) -> bool
+    ensures { result ≡ has_no_body head_only status }
 {
-    method.as_str() == "HEAD" || status == 204 || status == 304
+    head_only || status == 204 || status == 304
 }
 
 #[inline(always)]

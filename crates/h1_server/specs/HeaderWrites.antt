@@ -5,7 +5,7 @@ use Rattle.h1_error.specs.declared.error.ErrorType.TheVariants as kind
 use Rattle.h1_error.specs.declared.head_fault.HeadFault.TheVariants.{UnsupportedVersion}
 use Rattle.h1_body.specs.Writer.{begun}
 use Rattle.h1_server.specs.Persistence.{keep_flag}
-use Rattle.h1_body.specs.Framing.{out}
+use Rattle.h1_body.specs.Framing.{out_to}
 use Rattle.h1_server.specs.SessionView.{SessionView}
 use Rattle.h1_server.specs.Writes.{Writes}
 use Rattle.h1_transfer.specs.Writes.{IsSameMessage, IsFree, IsWaiting, IsRefused}
@@ -25,7 +25,7 @@ pub record TakesHeader (old new : Outgoing) (request : Request) (flag : Bool)
   pub is_date : IsDateAt (now / 1000) date
   pub bytes : taking ≡ head_bytes (reply_head header date flag)
   pub headed : new.headed ≡ true
-  pub writer : new.writer ≡ begun (out request.header.method header)
+  pub writer : new.writer ≡ begun (out_to request.head_only header)
   pub handed : new.handed ≡ old.handed
   pub write_since : new.write_since ≡ old.write_since
 

@@ -1,5 +1,6 @@
 -- Reading a request's head (RFC 9112, sections 2.2 and 3).
 use Rattle.std.specs.Prelude.{◌≡◌, ℕ, ◌+◌, ◌<◌, ◌≤◌, nat_lt, ◌⊎◌, Bool, List, [], length, take, drop, true, false, Option, Some, None, option_map, Result, Ok, Err}
+use Rattle.h1_body.specs.Framing.{is_head}
 use Rattle.h1_server.specs.Words.{Poll, Ready, Pending, Error, ErrorType, LinkState, HeadAt, RefusedAt, NotYetAt, IsReadAs, wish, body, reads, HeadStop, framing, Request, ReadRequest}
 use Rattle.h1_error.specs.declared.error.ErrorType.TheVariants as kind
 use Rattle.h1_link.specs.Counts.{Rose}
@@ -16,13 +17,14 @@ use Rattle.h1_server.specs.declared.request.ReadRequest.TheVariants as read
 use Rattle.h1_server.specs.declared.request_place.RequestPlace.{RequestPlace}
 use Rattle.h1_server.specs.declared.request.NoRequest.TheVariants.{Closed, IdleTimeout}
 
--- the head that was read, its bytes as they were parsed, and what follows from it: its wish, and the
--- framing of its body
+-- the head that was read, its bytes as they were parsed, and what follows from it: its wish, the
+-- framing of its body, and whether the head of the reply alone is asked for
 pub record IsRequestOf (bytes : List ℕ) (used : ℕ) (request : Request) : Type 0 where
   pub head : HeadAt bytes used request.header request.both
   pub raw : IsReadAs (take used bytes) request.raw
   pub framed : request.framing ≡ framing request.header
   pub wishes : request.wish ≡ wish request.header request.both
+  pub head_only : request.head_only ≡ is_head request.header.method
 
 -- the same of the request in a place
 abbrev pub IsPlaceOf : List ℕ → ℕ → RequestPlace → Type 0

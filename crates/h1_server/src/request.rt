@@ -2,16 +2,17 @@
 ghost use Rattle.std.specs.Prelude.{◌≡◌, IfOk, IfSome, IsOkUnless};
 ghost use Rattle.h1_error.specs.Memory.{no_memory};
 ghost use Rattle.h1_server.specs.RequestMade.{IsFrontRead, IsReadFrom};
+ghost use Rattle.h1_body.specs.Framing.{is_head};
 ghost use Rattle.h1_server.specs.Words.{framing, wish};
 
 use bytes::Bytes;
-use h1_body::{Framing, framing_of};
+use h1_body::{Framing, framing_of, is_head_only};
 use h1_error::{Error, HeadFault};
 use h1_head::{FEW_HEADERS, RequestHeader, Room, Verdict, judge_front, judge_head};
 use httparse::spans::HeaderSpan;
 use std::alloc::Global;
 
-/// A request as it was read. Its wish, framing and raw bytes don't change with its header.
+/// A request as it was read. A filter may change its header; all else tells of the head as it came.
 #[derive(Drop)]
 pub struct Request {
     pub header: RequestHeader,
@@ -22,6 +23,8 @@ pub struct Request {
     /// Whether the request wishes the connection kept (RFC 9112, section 9.3).
     pub wish: bool,
     pub framing: Framing,
+    /// Whether the head of the reply alone is asked for (RFC 9110, section 9.3.2).
+    pub head_only: bool,
 }
 
 /// What reading a head answers.
@@ -53,6 +56,7 @@ impl Request {
             raw: Bytes::new(),
             wish: false,
             framing: Framing::Counted(0),
+            head_only: false,
         }
     }
 
@@ -109,9 +113,11 @@ impl Request {
         ensures both { self.new.both ≡ both }
         ensures wish { self.new.wish ≡ wish self.old.header both }
         ensures framing { self.new.framing ≡ framing self.old.header }
+        ensures head_only { self.new.head_only ≡ is_head self.old.header.method }
     {
         self.both = both;
         self.wish = self.header.wishes_keep_alive(both);
         self.framing = framing_of(&self.header);
+        self.head_only = is_head_only(self.header.method());
     }
 }

@@ -59,6 +59,8 @@ impl<L: Link + Drop, C: Drop> Model for HttpSession<L, C> {
 }
 
 impl<L: Link + Drop, C: Drop> HttpSession<L, C> {
+    ghost use Rattle.std.specs.Borrow.{sem};
+    ghost use Rattle.h1_server.specs.Heads.{LendsHeader};
     ghost use Rattle.h1_server.specs.SessionView.{IsNewSession};
     ghost use Rattle.h1_transfer.specs.declared.outgoing.Step.TheVariants.{Free};
     ghost use Rattle.h1_server.specs.Persistence.{is_whole};
@@ -100,6 +102,16 @@ impl<L: Link + Drop, C: Drop> HttpSession<L, C> {
         ensures { IfSome self.now.request (λ request. result.now ≡ request.header) }
     {
         &self.asked.place.request.header
+    }
+
+    /// The head of the request, to be changed. What else was read of the request stays.
+    #[inline(always)]
+    pub fn req_header_mut(&mut self) -> &mut RequestHeader
+        requires { IsSome self.old.request }
+        ensures* lends { sem 𝓛 (LendsHeader L.row C.row L.Link self.entry result) }
+        ensures value { IfSome self.old.request (λ request. result.now ≡ request.header) }
+    {
+        &mut self.asked.place.request.header
     }
 
     /// Which write is in progress, and may be made again with nothing handed in.

@@ -51,7 +51,7 @@ pub(crate) fn take_header<L: Link + Drop>(
     };
     let mut bytes = transfer.head_buffer();
     print_head(head, keep, now, dates, &mut bytes)?;
-    let framing = reply_framing(request.header.method(), head);
+    let framing = reply_framing(request.head_only, head);
     transfer.take_up_head(bytes, framing);
     Ok(())
 }
