@@ -1,6 +1,6 @@
 -- A connection's transcript agrees with what its link gave and took.
 use Rattle.std.proofs.Common.{◌≡◌, ℕ, ◌+◌, ◌-◌, ◌^◌, min, drop, ap, append-nil, List, [], ◌∷◌, ◌++◌, length, false, option_to_list, Option, Some, None, IfSome, refl, sym, ◌∙◌, append_assoc}
-use Rattle.h1_app.specs.Words.{AllByRecursion, End, Error, ErrorType, LinkState, RequestView, Body, whole, unfinished, broken, ahead, body, reads, HasRead, framing, SessionView, Settings, Reply, Entry, Stage, StoodAs, ReadBehind, WroteBehind, AfterRead, AfterWrote, DoneBehind, FlushedBy, Given, render, IsAllowed}
+use Rattle.h1_app.specs.Words.{Rules, AllByRecursion, End, Error, ErrorType, LinkState, RequestView, Body, whole, unfinished, broken, ahead, body, reads, HasRead, framing, SessionView, Settings, Reply, Entry, Stage, StoodAs, ReadBehind, WroteBehind, AfterRead, AfterWrote, DoneBehind, FlushedBy, render, IsAllowed}
 use Rattle.h1_error.specs.declared.error.ErrorType.TheVariants as kind
 use Rattle.h1_body.specs.Body.{payload_of}
 use Rattle.h1_body.proofs.ReadLemmas.{read_is}
@@ -142,12 +142,12 @@ done_agrees flushed total (e ∷ []) None h = tt
 done_agrees flushed total (e ∷ []) (Some f) h = (h.0, tt)
 done_agrees flushed total (e ∷ f ∷ more) last h = (h.0, done_agrees flushed (total + e.written) (f ∷ more) last h.1)
 
-allowed_all : (gives : Given → Reply → Type 0) (done : List Entry) (last : Option Entry)
-    → AllByRecursion (IsAllowed gives) done
-    → IfSome last (IsAllowed gives) → AllByRecursion (IsAllowed gives) (done ++ option_to_list last)
-allowed_all gives [] None ended h = tt
-allowed_all gives [] (Some e) ended h = (h, tt)
-allowed_all gives (e ∷ more) last ended h = (ended.0, allowed_all gives more last ended.1 h)
+allowed_all : (rules : Rules) (done : List Entry) (last : Option Entry)
+    → AllByRecursion (IsAllowed rules) done
+    → IfSome last (IsAllowed rules) → AllByRecursion (IsAllowed rules) (done ++ option_to_list last)
+allowed_all rules [] None ended h = tt
+allowed_all rules [] (Some e) ended h = (h, tt)
+allowed_all rules (e ∷ more) last ended h = (ended.0, allowed_all rules more last ended.1 h)
 
 -- the last exchange agrees with what was read after the others
 last_read : {L C : Type 0} (state : L → LinkState) (rest : List ℕ) (session : SessionView L C)
@@ -166,18 +166,18 @@ last_wrote rest session None kept h sent = h.0
 last_wrote rest session (Some e) kept h sent = one_reply rest session e kept h sent
 
 -- a sound connection's transcript agrees
-pub agrees_sound : {L C J : Type 0} (gives : Given → Reply → Type 0)
+pub agrees_sound : {L C J : Type 0} (rules : Rules)
     (runs : J → RequestView → Settings → Settings → List ℕ → Type 0) (limit : Option ℕ)
     (state : L → LinkState)
     (session : SessionView L C) (done : List Entry) (last : Option Entry) (at : Stage J)
     (end : Option End) (before : LinkState)
-    → Sound gives runs limit session done last at end → Accounted state before session done last
-    → Agrees gives limit before (state session.link) (done ++ option_to_list last)
-agrees_sound gives runs limit state session done last at end before sound s = record {
+    → Sound rules runs limit session done last at end → Accounted state before session done last
+    → Agrees rules limit before (state session.link) (done ++ option_to_list last)
+agrees_sound rules runs limit state session done last at end before sound s = record {
   read = told_map before.given (state session.link).given (AfterRead done (λ rest. ReadSo rest session last)) _
       (λ since h. read_agrees (state session.link) done (option_to_list last) since h.0 h.1
       (last_read state h.0 session last s.stopped h.2)) s.read;
-  allowed = allowed_all gives done last sound.ended sound.allowed;
+  allowed = allowed_all rules done last sound.ended sound.allowed;
   begun = sound.begun;
   written = told_map before.written (state session.link).written
       (AfterWrote done (λ rest. WroteSo rest session last × (session.reply.sent ≡ min (length rest) (2 ^ 64 - 1)))) _

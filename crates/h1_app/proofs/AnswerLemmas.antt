@@ -1,14 +1,18 @@
 -- Steps in which the application goes on.
-use Rattle.std.proofs.Common.{◌≡◌, ℕ, ◌⊎◌, inl, List, [], ◌∷◌, ◌++◌, Bool, true, false, Option, Some, None, IfSome, unwrap_or, refl, sym, ◌∙◌, ap, subst, length, length-append, arith}
+use Rattle.std.proofs.Common.{◌≡◌, ℕ, ◌+◌, ◌-◌, ◌<◌, ◌≤◌, ◌⊎◌, inl, inr, List, [], ◌∷◌, ◌++◌, Bool, true, false, Option, Some, None, IfSome, option_map, unwrap_or, refl, sym, ◌∙◌, ap, subst, length, length-append, arith}
 use Rattle.std.proofs.lemmas.Option.{IfSome_then, same_Some}
-use Rattle.h1_app.specs.Words.{Error, ErrorType, no_memory, BodyRefusal, LinkState, Rose, RequestView, SessionView, Settings, Reply, Entry, Exchange, Outcome, Stage, Asked, Given, ReadsOnly, payload_of, LacksSo, IsAllowed, Grows, Stays}
+use Rattle.h1_app.specs.Words.{Given, Rules, Error, ErrorType, no_memory, BodyRefusal, LinkState, Rose, RequestView, SessionView, Settings, Request, Reply, Entry, Exchange, Outcome, Stage, Asked, ReadsOnly, given_to, how_of, payload_of, LacksSo, IsAllowed, Grows, Stays}
 use Rattle.h1_error.specs.declared.error.ErrorType.TheVariants as kind
 use Rattle.h1_error.specs.declared.progress.End.TheVariants as end
 use Rattle.h1_app.specs.declared.exchange.Outcome.TheVariants as outcome
 use Rattle.h1_app.specs.declared.exchange.Stage.TheVariants as stage
 use Rattle.h1_app.specs.declared.steps.answering.Asked.TheVariants as asked
-use Rattle.h1_application.specs.Application.{RefusedBy, RefusesWith, WaitsBy}
-use Rattle.h1_app.proofs.Words.{AsksAs, noted, Accounted, StopsBody, StopsWith, StoodSo, SoundStage, IsAnswering, IsKept, lent, StepReady, Stepped, MovesWithin, OutcomeCause, FewReadsNotReady}
+use Rattle.h1_error.specs.declared.progress.Waiting.TheVariants as waiting
+use Rattle.h1_application.specs.Application.{IsAskedFor, RefusedBy, RefusesWith, WaitsBy}
+use Rattle.h1_app.specs.Asking.{PendsAsked, RunsOn}
+use Rattle.h1_app.proofs.ReplyLemmas.{at_some}
+use Rattle.h1_app.proofs.Words.{AsksAs, GivesAsked, FiltersStay, StepReady, ahead, noted, Accounted, StopsBody, StopsWith, StoodSo, SoundStage, IsAnswering, IsKept, IsUnwritten, SameFiltered, lent, Stepped, MovesWithin, OutcomeCause, FewReadsNotReady}
+use Rattle.h1_app.specs.Answering.{IsAskedIn, bare}
 use Rattle.h1_transcript.specs.Growth.{RefusedIn, RoseFor}
 use Rattle.h1_transcript.proofs.GrowthLemmas.{stays_itself}
 use Rattle.h1_app.proofs.EndReplies.{stands_unfinished}
@@ -22,11 +26,18 @@ use Rattle.h1_app.proofs.AccountedLemmas.{accounted_read, entry_on, stops_on}
 pub at_answer : {L C J : Type 0} (runs : J → RequestView → Settings → Settings → List ℕ → Type 0)
     (session : SessionView L C) (last : Option Entry) (at : Stage J) (e : Entry) (job : J)
     → SoundStage runs session last at → at ≡ stage.Answer job → last ≡ Some e
-    → IsAnswering e session × runs job e.head e.began session.settings e.body
+    → (answering : IsAnswering e session)
+    × runs job answering.request.header e.began session.settings e.body
 at_answer runs session last at e job sound is some =
     let s = rw is at sound in
-    subst (λ (x : Entry). IsAnswering x session × runs job x.head x.began session.settings x.body)
+    subst (λ (x : Entry). (answering : IsAnswering x session)
+    × runs job answering.request.header x.began session.settings x.body)
     (same_Some s.0 e (sym s.1 ∙ some)) (s.2, s.3)
+
+-- the session's request has its head
+asked_for : {L C : Type 0} (session : SessionView L C) (request : Request)
+    → session.request ≡ Some request → IsAskedFor request.header session
+asked_for session request is = rw is refl
 
 -- what was handed out joins the payload
 payload_is : {L C : Type 0} (state : L → LinkState) (old behind : SessionView L C) (body : List ℕ)
@@ -81,38 +92,146 @@ asked_accounted {L} {C} state old behind e reply before done a r s =
     (subst (λ o. IfSome o (StopsWith state old)) a.asked.body_error s.stopped))
     (rw a.sent_head tt) s
 
--- the exchange still awaits its reply
-pub still_answers : {L C : Type 0} (state : L → LinkState) (old new : SessionView L C)
-    (e e2 : Entry) (answer : Asked)
-    → IsAnswering e old → AsksAs state old new e e2 answer → IsAnswering e2 new
-still_answers {L} {C} state old new e e2 answer a h =
+-- an exchange whose application was asked is what the session read for it, and a reply that may have
+-- joined it
+asked_is : {L C : Type 0} {state : L → LinkState} {old new : SessionView L C} {e e2 : Entry} (e3 : Entry)
+    {answer : Asked} → e3 ≡ record e2 { reply = e3.reply }
+    → (h : AsksAs state old new e e2 answer) → e3 ≡ record (noted e h.behind) { reply = e3.reply }
+asked_is e3 like h = like ∙ ap (λ (x : Entry). record x { reply = e3.reply }) h.entry
+
+-- it is still that of the session's request
+asked_still : {L C : Type 0} (state : L → LinkState) (old new : SessionView L C) (e e2 e3 : Entry)
+    (answer : Asked) (request : Request) → e3 ≡ record e2 { reply = e3.reply }
+    → IsAskedIn e (bare old) request → AsksAs state old new e e2 answer
+    → IsAskedIn e3 (bare new) request
+asked_still {L} {C} state old new e e2 e3 answer request like a h =
     let r = h.reads in
-    subst (λ (x : Entry). IsAnswering x new) (sym h.entry)
-    (subst (λ (x : SessionView L C). IsAnswering (noted e h.behind) x) (sym h.session) (record {
-      request = a.request;
-      asked = record {
-        is = r.request ∙ a.asked.is;
-        header = a.asked.header;
-        both = a.asked.both;
-        wish = a.asked.wish;
-        reuses = r.reuses ∙ a.asked.reuses;
-        body_error = refl;
-        handed = refl;
-        filtered = a.asked.filtered;
-        kept = refl;
-        waits = refl;
-        undrained = r.undrained a.asked.undrained;
-        written = rw r.reply a.asked.written;
-        limit = a.asked.limit;
-      };
-      unwritten = rw r.reply a.unwritten;
-      reply = a.reply;
-      sent_head = a.sent_head;
-      sent_body = a.sent_body;
+    subst (λ (x : Entry). IsAskedIn x (bare new) request) (sym (asked_is e3 like h))
+    (subst (λ (x : SessionView L C). IsAskedIn (record (noted e h.behind) { reply = e3.reply }) (bare x) request)
+    (sym h.session) (record {
+      is = r.request ∙ a.is;
+      filtered = a.filtered;
+      head_only = a.head_only;
+      both = a.both;
+      wish = a.wish;
+      reuses = r.reuses ∙ a.reuses;
+      body_error = refl;
+      handed = refl;
+      kept = refl;
+      waits = refl;
+      undrained = r.undrained a.undrained;
+      written = rw r.reply a.written;
+      limit = a.limit;
     }))
 
+-- nothing of a reply was taken up in the call
+unwritten_still : {L C : Type 0} (state : L → LinkState) (old new : SessionView L C) (e e2 : Entry)
+    (answer : Asked) → AsksAs state old new e e2 answer → IsUnwritten old.reply → IsUnwritten new.reply
+unwritten_still {L} {C} state old new e e2 answer h unwritten =
+    subst IsUnwritten (sym (ap (λ (x : SessionView L C). x.reply) h.session ∙ h.reads.reply)) unwritten
+
+-- a job that goes on runs for the exchange, which still awaits its reply
+still_answers : {L C J : Type 0} (state : L → LinkState)
+    (runs : J → RequestView → Settings → Settings → List ℕ → Type 0) (old new : SessionView L C)
+    (e e2 : Entry) (job : J) (answer : Asked) (a : IsAnswering e old)
+    → AsksAs state old new e e2 answer
+    → runs job a.request.header e.began new.settings e2.body
+    → SoundStage runs new (Some e2) (stage.Answer job)
+still_answers state runs old new e e2 job answer a h on = (
+  e2,
+  refl,
+  record {
+    request = a.request;
+    asked = asked_still state old new e e2 e2 answer a.request refl a.asked h;
+    unwritten = unwritten_still state old new e e2 answer h a.unwritten;
+    reply = ap (λ (x : Entry). x.reply) h.entry ∙ a.reply;
+    sent_head = ap (λ (x : Entry). x.sent_head) h.entry ∙ a.sent_head;
+    sent_body = ap (λ (x : Entry). x.sent_body) h.entry ∙ a.sent_body;
+  },
+  subst (λ began. runs job a.request.header began new.settings e2.body)
+      (sym (ap (λ (x : Entry). x.began) h.entry)) on,
+)
+
+-- nothing of a reply is there until the answer
+still_unreplied : {L C : Type 0} (state : L → LinkState) (old new : SessionView L C)
+    (e e2 : Entry) (answer : Asked) → IsAnswering e old → AsksAs state old new e e2 answer
+    → e2.reply ≡ None
+still_unreplied state old new e e2 answer a h = ap (λ (x : Entry). x.reply) h.entry ∙ a.reply
+
+-- the reply joins the exchange, and its header is taken up next
+now_replied : {L C J : Type 0} (state : L → LinkState)
+    (runs : J → RequestView → Settings → Settings → List ℕ → Type 0) (old new : SessionView L C)
+    (e e2 : Entry) (reply : Reply) (answer : Asked) → IsAnswering e old
+    → AsksAs state old new e e2 answer
+    → SoundStage runs new (Some (record e2 { reply = Some reply })) stage.TakeHeader
+now_replied {L} {C} state runs old new e e2 reply answer a h = (
+  record e2 { reply = Some reply },
+  refl,
+  a.request,
+  reply,
+  record {
+    asked = asked_still state old new e e2 (record e2 { reply = Some reply }) answer a.request refl a.asked h;
+    is = refl;
+    how = ap (λ (x : Entry). x.how) h.entry ∙ sym (ap (λ (x : SessionView L C). how_of x.body) h.session);
+    left = ap (λ (x : Entry). x.left) h.entry ∙ sym (ap (λ (x : SessionView L C). x.settings) h.session);
+  },
+  unwritten_still state old new e e2 answer h a.unwritten,
+  ap (λ (x : Entry). x.sent_head) h.entry ∙ a.sent_head,
+  ap (λ (x : Entry). x.sent_body) h.entry ∙ a.sent_body,
+)
+
+-- the exchange is allowed as before, where the reply that joined it is one that the application gives
+allowed_asked : {L C : Type 0} (state : L → LinkState) (rules : Rules) (old new : SessionView L C)
+    (e e2 e3 : Entry) (answer : Asked) → e3 ≡ record e2 { reply = e3.reply }
+    → (a : IsAnswering e old) → AsksAs state old new e e2 answer → IsAllowed rules e
+    → IfSome e3.reply (λ reply.
+    rules.gives (record (given_to e2 a.request.header) { began = e.began }) reply)
+    → IsAllowed rules e3
+allowed_asked {L} {C} state rules old new e e2 e3 answer like a h allowed gives =
+    subst (IsAllowed rules) (sym (asked_is e3 like h)) (record {
+      filtered = allowed.filtered;
+      reply = replied e3.reply gives;
+      sent_head = rw a.sent_head tt;
+      sent_body = rw a.sent_body tt;
+      handed = omega arith;
+      reuses = h.reads.reuses ∙ a.asked.reuses;
+      owed = allowed.owed;
+    })
+  where
+    replied : (reply : Option Reply)
+        → IfSome reply (λ reply. rules.gives (record (given_to e2 a.request.header) { began = e.began }) reply)
+        → IfSome reply (λ reply. (filtered : RequestView) × (e.filtered ≡ Some filtered)
+        × rules.gives (given_to (noted e h.behind) filtered) reply)
+    replied None gave = tt
+    replied (Some reply) gave = (
+      a.request.header,
+      a.asked.filtered,
+      subst (λ (x : Entry). rules.gives (record (given_to x a.request.header) { began = e.began }) reply)
+          h.entry gave,
+    )
+
+-- the exchange says how much of its reply the session wrote
+kept_asked : {L C : Type 0} (state : L → LinkState) (old new : SessionView L C) (e e2 e3 : Entry)
+    (answer : Asked) → e3 ≡ record e2 { reply = e3.reply } → IsAnswering e old
+    → AsksAs state old new e e2 answer → IsKept new e3
+kept_asked state old new e e2 e3 answer like a h =
+    (asked_still state old new e e2 e3 answer a.request like a.asked h).written
+
+-- no filter of the exchange ran
+same_filtered : {L C : Type 0} (state : L → LinkState) (old new : SessionView L C)
+    (e e2 e3 : Entry) (answer : Asked) → e3 ≡ record e2 { reply = e3.reply } → IsAnswering e old
+    → AsksAs state old new e e2 answer → SameFiltered e e3
+same_filtered state old new e e2 e3 answer like a h =
+    let is = asked_is e3 like h in record {
+      head = ap (λ (x : Entry). x.head) is;
+      filtered = ap (λ (x : Entry). x.filtered) is;
+      sent_head = ap (λ (x : Entry). x.sent_head) is;
+      sent_body = ap (λ (x : Entry). x.sent_body) is;
+      reply = inr a.sent_head;
+    }
+
 -- why an application that reads waits
-pub reads_why : {L C : Type 0} (state : L → LinkState) (old new : SessionView L C) (e e2 : Entry)
+reads_why : {L C : Type 0} (state : L → LinkState) (old new : SessionView L C) (e e2 : Entry)
     (answer : Asked)
     → IsAnswering e old → AsksAs state old new e e2 answer → answer ≡ asked.Reads
     → (Rose (state old.link).read_waits (state new.link).read_waits ⊎ (new.budget ≡ Some 0))
@@ -137,8 +256,7 @@ asked_on : {L C : Type 0} (state : L → LinkState) (old new : SessionView L C) 
     → AsksAs state old new e e2 answer → (before : LinkState) (done : List Entry)
     → Accounted state before old done (Some e) → Accounted state before new done (Some e3)
 asked_on {L} {C} state old new e e2 e3 answer like a h before done s =
-    let is : e3 ≡ record (noted e h.behind) { reply = e3.reply } =
-    like ∙ ap (λ (x : Entry). record x { reply = e3.reply }) h.entry in
+    let is = asked_is e3 like h in
     subst (λ (x : SessionView L C). Accounted state before x done (Some e3)) (sym h.session)
     (subst (λ (x : Entry). Accounted state before (given_back h.behind) done (Some x)) (sym is)
     (asked_accounted state old h.behind e e3.reply before done a h.reads s))
@@ -167,14 +285,13 @@ refusal_stays state old behind None h = tt
 refusal_stays state old behind (Some error) h = h.0
 
 -- the exchange grows by what the application read; a reply may join it
-pub asked_grows : {L C : Type 0} (state : L → LinkState) (now : ℕ) (old new : SessionView L C)
+asked_grows : {L C : Type 0} (state : L → LinkState) (now : ℕ) (old new : SessionView L C)
     (e e2 e3 : Entry) (answer : Asked)
     → e3 ≡ record e2 { reply = e3.reply } → IsAnswering e old → AsksAs state old new e e2 answer
     → Grows now (state old.link) (state new.link) e e3
 asked_grows {L} {C} state now old new e e2 e3 answer like a h =
     let r = h.reads in
-    let entry : e3 ≡ record (noted e h.behind) { reply = e3.reply } =
-    like ∙ ap (λ (x : Entry). record x { reply = e3.reply }) h.entry in
+    let entry = asked_is e3 like h in
     let read : payload_of h.behind ≡ e.body ++ r.payload = payload_is state old h.behind e.body r in
     let stays = refusal_stays state (lent old e.body) h.behind old.body.refused r.refused in
     let within = refused_in state (lent old e.body) h.behind old.body.refused r.refused in
@@ -198,6 +315,13 @@ asked_grows {L} {C} state now old new e e2 e3 answer like a h =
       began = refl;
     })
 
+asked_few : {L C : Type 0} (state : L → LinkState) (old new : SessionView L C) (e e2 : Entry)
+    (answer : Asked) → AsksAs state old new e e2 answer
+    → (state new.link).read_waits ≤ (state old.link).read_waits + 1
+asked_few {L} {C} state old new e e2 answer h =
+    subst (λ (x : SessionView L C). (state x.link).read_waits ≤ (state old.link).read_waits + 1)
+    (sym h.session) h.reads.few
+
 -- what was moved as the application read
 asked_moves : {L C : Type 0} (state : L → LinkState) (old new : SessionView L C) (e e2 : Entry)
     (answer : Asked) → AsksAs state old new e e2 answer → MovesWithin state old new
@@ -212,45 +336,150 @@ asked_moves {L} {C} state old new e e2 answer h =
       context = h.reads.context;
     })
 
--- where an exchange stands after its application was asked: it is asked again, its reply is taken up,
--- or memory ran out
-abbrev pub StandsAsked : {J : Type 0} → Stage J → Outcome → Type 0
-StandsAsked to outcome.Done = to ≡ stage.TakeHeader
-StandsAsked {J} to (outcome.Waits what) = (job : J) × (to ≡ stage.Answer job)
-StandsAsked {J} to (outcome.Ends reason) =
-    ((job : J) × (to ≡ stage.Answer job)) × (reason ≡ end.Failed no_memory)
+-- what the exchange is, where it stands and what the step comes to after each answer
+abbrev pub entry_after : Entry → Asked → Entry
+entry_after e (asked.Replied reply) = record e { reply = Some reply }
+entry_after e _ = e
+
+abbrev pub stage_after : {J : Type 0} → J → Asked → Stage J
+stage_after job (asked.Replied reply) = stage.TakeHeader
+stage_after job _ = stage.Answer job
+
+abbrev pub outcome_after : Asked → Outcome
+outcome_after asked.Reads = outcome.Waits waiting.Read
+outcome_after asked.Pends = outcome.Waits waiting.App
+outcome_after (asked.Replied reply) = outcome.Done
+outcome_after (asked.Failed error) = outcome.Ends (end.Failed error)
+
+after_like : (e : Entry) (answer : Asked)
+    → entry_after e answer ≡ record e { reply = (entry_after e answer).reply }
+after_like e (asked.Replied reply) = refl
+after_like e _ = refl
+
+gives_after : (gives : Given → Reply → Type 0) (given : Given) (e : Entry) (answer : Asked)
+    → e.reply ≡ None → GivesAsked gives given answer
+    → IfSome (entry_after e answer).reply (λ reply. gives given reply)
+gives_after gives given e (asked.Replied reply) none h = h
+gives_after gives given e _ none h = rw none tt
+
+-- a read was not ready at most once, and the reply makes up for it
+few_after : (old now : LinkState) (e e2 : Entry) (answer : Asked) → e.reply ≡ None → e2.reply ≡ None
+    → now.read_waits ≤ old.read_waits + 1
+    → FewReadsNotReady old now (e ∷ []) (entry_after e2 answer ∷ []) (outcome_after answer)
+few_after old now e e2 asked.Reads none still few = rw (none, still) (omega (arith, few))
+few_after old now e e2 asked.Pends none still few = rw (none, still) (omega (arith, few))
+few_after old now e e2 (asked.Replied reply) none still few = rw none (omega (arith, few))
+few_after old now e e2 (asked.Failed error) none still few = rw (none, still) (omega (arith, few))
+
+-- an application fails only where memory ran out
+abbrev IsMemoryOnly : Asked → Type 0
+IsMemoryOnly (asked.Failed error) = error ≡ no_memory
+IsMemoryOnly _ = Unit {0}
+
+only_memory : (gives : Given → Reply → Type 0) (given : Given) (answer : Asked)
+    → GivesAsked gives given answer → IsMemoryOnly answer
+only_memory gives given (asked.Failed error) gave = gave
+only_memory gives given _ gave = tt
 
 -- the connection has no limit for what the application does
 asked_in_time : {L C J : Type 0} (state : L → LinkState) (now : ℕ) (old new : SessionView L C)
-    (from to : Stage J) (job : J) (last : Option Entry) (result : Outcome) → from ≡ stage.Answer job
-    → MovesWithin state old new → StandsAsked to result
-    → StepsInTime state now from to old new last result
-asked_in_time state now old new from to job last outcome.Done at moves stands = rw stands tt
-asked_in_time state now old new from to job last (outcome.Waits what) at moves stands =
-    rw (at, stands.1) (untimed_waits state now (stage.Answer job) (stage.Answer stands.0) old new last moves
-    (omega arith) what refl)
-asked_in_time state now old new from to job last (outcome.Ends reason) at moves stands =
-    rw (at, stands.0.1, stands.1) (fails_anyhow state now (stage.Answer job) (stage.Answer stands.0.0) old new last
-    moves (omega arith) no_memory refl)
+    (job job2 : J) (last : Option Entry) (answer : Asked) → MovesWithin state old new
+    → IsMemoryOnly answer
+    → StepsInTime state now (stage.Answer job) (stage_after job2 answer) old new last (outcome_after answer)
+asked_in_time state now old new job job2 last asked.Reads moves failed =
+    untimed_waits state now (stage.Answer job) (stage.Answer job2) old new last moves (omega arith) waiting.Read refl
+asked_in_time state now old new job job2 last asked.Pends moves failed =
+    untimed_waits state now (stage.Answer job) (stage.Answer job2) old new last moves (omega arith) waiting.App refl
+asked_in_time state now old new job job2 last (asked.Replied reply) moves failed = tt
+asked_in_time state now old new job job2 last (asked.Failed error) moves failed =
+    rw failed (fails_anyhow state now (stage.Answer job) (stage.Answer job2) old new last moves (omega arith)
+    no_memory refl)
+
+nearer_asked : {J : Type 0} (job : J) (old new : Option ℕ) (spent : ℕ)
+    → new ≡ option_map (λ left. left - spent) old
+    → ahead {J = J} new stage.TakeHeader < ahead old (stage.Answer job)
+nearer_asked job None new spent is = rw is (omega arith)
+nearer_asked job (Some left) new spent is = rw is (omega arith)
+
+-- why the step goes on, waits or ends
+asked_why : {L C J : Type 0} (state : L → LinkState) (pends : J → ℕ)
+    (runs : J → RequestView → Settings → Settings → List ℕ → Type 0) (gives : Given → Reply → Type 0)
+    (given : Given) (old new : SessionView L C) (e e2 : Entry) (job job2 : J) (answer : Asked)
+    (a : IsAnswering e old) → AsksAs state old new e e2 answer
+    → RunsOn (runs job2 a.request.header e.began new.settings e2.body) answer
+    → GivesAsked gives given answer → PendsAsked (pends job) (pends job2) answer
+    → OutcomeCause state pends runs old new (Some (entry_after e2 answer)) (stage.Answer job)
+    (stage_after job2 answer) (outcome_after answer)
+asked_why state pends runs gives given old new e e2 job job2 asked.Reads a h on gave counted = (
+  still_answers state runs old new e e2 job2 asked.Reads a h on,
+  reads_why state old new e e2 asked.Reads a h refl,
+)
+asked_why {L} {C} state pends runs gives given old new e e2 job job2 asked.Pends a h on gave counted = (
+  still_answers state runs old new e e2 job2 asked.Pends a h on,
+  (
+    ap (λ (x : SessionView L C). (state x.link).read_waits) h.session
+        ∙ subst (λ b. WaitsBy state (lent old e.body) h.behind b) (h.pending refl) (h.reads.waits a.asked.waits),
+    counted,
+  ),
+)
+asked_why state pends runs gives given old new e e2 job job2 (asked.Replied reply) a h on gave counted = (
+  now_replied state runs old new e e2 reply (asked.Replied reply) a h,
+  omega arith,
+  nearer_asked job old.budget new.budget (asked_moves state old new e e2 (asked.Replied reply) h).spent
+      (asked_moves state old new e e2 (asked.Replied reply) h).budget,
+)
+asked_why state pends runs gives given old new e e2 job job2 (asked.Failed error) a h on gave counted =
+    λ before done s. rw gave (refl, tt)
 
 -- the application goes on: what it read joins the exchange, and its reply may
-pub asked_stepped : {L C J : Type 0} (state : L → LinkState) (pends : J → ℕ)
-    (gives : Given → Reply → Type 0)
+pub asked_stepped : {L C J : Type 0} (state : L → LinkState) (pends : J → ℕ) (rules : Rules)
     (runs : J → RequestView → Settings → Settings → List ℕ → Type 0)
-    (now : ℕ) (shutdown : Bool) (x y : Exchange L J C) (e e2 e3 : Entry) (job : J) (answer : Asked) (result : Outcome)
-    → StepReady gives runs now x → x.stage ≡ stage.Answer job → x.transcript.last ≡ Some e
-    → y.transcript.last ≡ Some e3 → e3 ≡ record e2 { reply = e3.reply }
-    → AsksAs state x.session y.session e e2 answer → IsAllowed gives e3 → IsKept y.session e3
-    → FewReadsNotReady (state x.session.link) (state y.session.link) (e ∷ []) (e3 ∷ []) result
-    → StandsAsked y.stage result
-    → OutcomeCause state pends runs x.session y.session (Some e3) x.stage y.stage result
-    → Stepped state pends gives runs now shutdown x y result
-asked_stepped {L} {C} state pends gives runs now shutdown x y e e2 e3 job answer result ready at
-    was is like asks allowed kept few stands outcome =
+    (now : ℕ) (shutdown : Bool) (x y : Exchange L J C) (e e2 : Entry) (job job2 : J) (answer : Asked)
+    → StepReady runs now x → IfSome x.transcript.last (IsAllowed rules)
+    → x.stage ≡ stage.Answer job → x.transcript.last ≡ Some e
+    → y.transcript.last ≡ Some (entry_after e2 answer) → y.stage ≡ stage_after job2 answer
+    → AsksAs state x.session y.session e e2 answer
+    → ((head : RequestView) (began : Settings) → IsAskedFor head x.session
+    → runs job head began x.session.settings e.body
+    → RunsOn (runs job2 head began y.session.settings e2.body) answer)
+    → ((head : RequestView) (began : Settings) → IsAskedFor head x.session
+    → runs job head began x.session.settings e.body
+    → GivesAsked rules.gives (record (given_to e2 head) { began = began }) answer)
+    → PendsAsked (pends job) (pends job2) answer
+    → Stepped state pends rules runs now shutdown x y (outcome_after answer)
+asked_stepped {L} {C} state pends rules runs now shutdown x y e e2 job job2 answer ready allowed at
+    was is to asks runs_on gives counted =
+    let old : SessionView L C = x.session in
+    let new : SessionView L C = y.session in
+    let e3 : Entry = entry_after e2 answer in
+    let s = at_answer runs old x.transcript.last x.stage e job ready.sound at was in
+    let a : IsAnswering e old = s.0 in
+    let given : Given = record (given_to e2 a.request.header) { began = e.began } in
+    let for : IsAskedFor a.request.header old = asked_for old a.request a.asked.is in
+    let gave = gives a.request.header e.began for s.1 in
+    let none : e2.reply ≡ None = still_unreplied state old new e e2 answer a asks in
+    let like : e3 ≡ record e2 { reply = e3.reply } = after_like e2 answer in
+    let moves : MovesWithin state old new = asked_moves state old new e e2 answer asks in
+    grown_stepped state pends rules runs now shutdown x y e e3 (outcome_after answer) was is moves
+    (asked_on state old new e e2 e3 answer like a asks)
+    (allowed_asked state rules old new e e2 e3 answer like a asks
+    (at_some (IsAllowed rules) x.transcript.last e was allowed)
+    (gives_after rules.gives given e2 answer none gave))
+    (kept_asked state old new e e2 e3 answer like a asks)
+    (asked_grows state now old new e e2 e3 answer like a asks)
+    (few_after (state old.link) (state new.link) e e2 answer a.reply none
+    (asked_few state old new e e2 answer asks))
+    (rw (at, to) (asked_in_time state now old new job job2 (Some e3) answer moves
+    (only_memory rules.gives given answer gave)))
+    (rw (at, to) (asked_why state pends runs rules.gives given old new e e2 job job2 answer a asks
+    (runs_on a.request.header e.began for s.1) gave counted))
+
+-- no filter of the exchange ran
+pub asked_filters : {L C J : Type 0} (state : L → LinkState)
+    (runs : J → RequestView → Settings → Settings → List ℕ → Type 0) (now : ℕ) (x : Exchange L J C)
+    (new : SessionView L C) (e e2 : Entry) (job : J) (answer : Asked) → StepReady runs now x
+    → x.stage ≡ stage.Answer job → x.transcript.last ≡ Some e → AsksAs state x.session new e e2 answer
+    → FiltersStay x.transcript.last (Some (entry_after e2 answer))
+asked_filters state runs now x new e e2 job answer ready at was asks =
     let s = at_answer runs x.session x.transcript.last x.stage e job ready.sound at was in
-    grown_stepped state pends gives runs now shutdown x y e e3 result was is
-    (asked_moves state x.session y.session e e2 answer asks)
-    (asked_on state x.session y.session e e2 e3 answer like s.0 asks)
-    allowed kept (asked_grows state now x.session y.session e e2 e3 answer like s.0 asks) few
-    (asked_in_time state now x.session y.session x.stage y.stage job (Some e3) result at
-    (asked_moves state x.session y.session e e2 answer asks) stands) outcome
+    rw was (same_filtered state x.session new e e2 (entry_after e2 answer) answer (after_like e2 answer) s.0 asks)

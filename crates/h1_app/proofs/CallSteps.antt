@@ -1,15 +1,15 @@
 -- The steps that make one call that writes a part of a reply.
 use Rattle.std.proofs.Common.{◌≢◌, ◌⊎◌, inr, Bool, Err, List, None, Ok, Option, Result, Some, [], ap, false, inl, refl, true, ℕ, ◌++◌, ◌+◌, ◌<◌, ◌∙◌, ◌≡◌, ◌≤◌}
-use Rattle.h1_app.specs.Words.{Called, Entry, Error, ErrorType, Exchange, FailureCause, Given, IsAllowed, IsRefused, LinkState, Outcome, Outgoing, Pending, Poll, Ready, Reply, Request, RequestView, Rose, RoseBy, Settings, Stage, Step, Writes, written_of}
+use Rattle.h1_app.specs.Words.{Rules, Called, Entry, Error, ErrorType, Exchange, FailureCause, IsAllowed, IsRefused, LinkState, Outcome, Outgoing, Pending, Poll, Ready, Reply, Request, RequestView, Rose, RoseBy, Settings, Stage, Step, Writes, written_of}
 use Rattle.h1_error.specs.declared.error.ErrorType.TheVariants as kind
 use Rattle.h1_transfer.specs.Calls.{CallsFew, OneOther, succeeds, write_fault_of}
 use Rattle.h1_transfer.specs.Writes.{IsFree, IsSameBody, IsWaiting}
 use Rattle.h1_app.proofs.LeavesLemmas.{write_fails}
 use Rattle.h1_app.proofs.PartLemmas.{Part, WritesPart, more_of, more_part, part_accounted, part_grows, part_replied, replying}
 use Rattle.h1_app.proofs.ReplyLemmas.{ahead_down, at_some, headed_on, moves_wrote, refused_cause, settled_owed, waits_why}
-use Rattle.h1_app.proofs.StepLemmas.{allowed_written, grown_stepped, unread_few}
+use Rattle.h1_app.proofs.StepLemmas.{AllowedReady, allowed_written, grown_stepped, unread_few}
 use Rattle.h1_app.specs.Timely.{StepsInTime}
-use Rattle.h1_app.proofs.Words.{IsHeaded, IsReplied, JobFrom, Leaves, MovesWithin, OutcomeCause, SettledSo, SoundStage, StepReady, Stepped, coming, outcome_end, rank, still, ahead, place, StandsAfter, Continues, OthersFew}
+use Rattle.h1_app.proofs.Words.{IsHeaded, IsReplied, JobFrom, Leaves, MovesWithin, OutcomeCause, SettledSo, SoundStage, Stepped, coming, outcome_end, rank, still, ahead, place, StandsAfter, Continues, OthersFew}
 
 -- a part that waited too long, which only one of a body does
 abbrev pub IsLatePart : LinkState → LinkState → Bool → ErrorType → Type 0
@@ -90,13 +90,13 @@ call_leaves before now last done (Ready (Ok value)) owed later from to result ca
 call_leaves before now last done (Ready (Err error)) owed later from to result calls stands =
     rw stands.1 (write_fails before now last done error calls)
 
-module _ {L C J : Type 0} (state : L → LinkState) (pends : J → ℕ) (gives : Given → Reply → Type 0)
+module _ {L C J : Type 0} (state : L → LinkState) (pends : J → ℕ) (rules : Rules)
     (runs : J → RequestView → Settings → Settings → List ℕ → Type 0) (now : ℕ) (shutdown : Bool)
-    (x y : Exchange L J C) (result : Outcome) (ready : StepReady gives runs now x) (e : Entry)
+    (x y : Exchange L J C) (result : Outcome) (ready : AllowedReady rules runs now x) (e : Entry)
     (was : x.transcript.last ≡ Some e) where
   -- the exchange stood so before
-  pub allowed_before : IsAllowed gives e
-  allowed_before = at_some (IsAllowed gives) x.transcript.last e was ready.allowed
+  pub allowed_before : IsAllowed rules e
+  allowed_before = at_some (IsAllowed rules) x.transcript.last e was ready.allowed
 
   -- the step with the part that was written, by why it goes on
   pub part_stepped : (p : Part) (taking : List ℕ) (left : ℕ)
@@ -106,15 +106,15 @@ module _ {L C J : Type 0} (state : L → LinkState) (pends : J → ℕ) (gives :
       → RoseBy (written_of done + y.session.reply.sent) before.bytes_out
       (state y.session.link).bytes_out
       → SettledSo before (state y.session.link) done (Some (replying e p)))
-      → IsAllowed gives (replying e p)
+      → IsAllowed rules (replying e p)
       → (MovesWithin state x.session y.session
       → StepsInTime state now x.stage y.stage x.session y.session (Some (replying e p)) result)
       → OutcomeCause state pends runs x.session y.session (Some (replying e p)) x.stage y.stage
       result
-      → Stepped state pends gives runs now shutdown x y result
+      → Stepped state pends rules runs now shutdown x y result
   part_stepped p taking left w is settled allowed timely outcome =
       let moves = moves_wrote state x.session y.session w.flag taking left w.writes in
-      grown_stepped state pends gives runs now shutdown x y e (replying e p) result was is moves
+      grown_stepped state pends rules runs now shutdown x y e (replying e p) result was is moves
       (λ before done s. part_accounted state now before done x.session y.session taking left e p w
       (settled before done) s)
       allowed w.counted (part_grows state now x.session y.session taking left e p w)
@@ -126,7 +126,7 @@ module _ {L C J : Type 0} (state : L → LinkState) (pends : J → ℕ) (gives :
   pub call_stepped : {T : Type 0} (body : Bool) (p : Part) (taking : List ℕ) (left : ℕ) (step : Step)
       (answer : Poll (Result T Error)) (owed later : Stage J)
       → WritesPart state now x.session y.session taking left e p
-      → y.transcript.last ≡ Some (replying e p) → p.owed ≡ true → IsAllowed gives (replying e p)
+      → y.transcript.last ≡ Some (replying e p) → p.owed ≡ true → IsAllowed rules (replying e p)
       → (body ≡ true → (replying e p).sent_body ≢ None)
       → AnswersCall (state x.session.link) (state y.session.link) y.session.reply step left body answer
       → (y.session.reply.refused ≡ None → y.session.reply.step ≡ step
@@ -137,7 +137,7 @@ module _ {L C J : Type 0} (state : L → LinkState) (pends : J → ℕ) (gives :
       → StandsAfter answer owed later x.stage y.stage result
       → (MovesWithin state x.session y.session
       → StepsInTime state now x.stage y.stage x.session y.session (Some (replying e p)) result)
-      → Stepped state pends gives runs now shutdown x y result
+      → Stepped state pends rules runs now shutdown x y result
   call_stepped {T} body p taking left step answer owed later w is unflushed allowed sends told waits
       done stands timely =
       part_stepped p taking left w is
@@ -178,30 +178,31 @@ module _ {L C J : Type 0} (state : L → LinkState) (pends : J → ℕ) (gives :
   )
 
   -- a call that goes on with a part takes nothing up
-  pub goes_on_stepped : {T : Type 0} (body : Bool) (request : Request) (reply : Reply) (taking : List ℕ)
-      (left written : ℕ) (step : Step) (answer : Poll (Result T Error)) (from later : Stage J)
+  pub goes_on_stepped : {T : Type 0} (body : Bool) (request : Request) (reply sent : Reply)
+      (taking : List ℕ) (left written : ℕ) (step : Step) (answer : Poll (Result T Error))
+      (from later : Stage J)
       → x.stage ≡ from → rank later < rank from → place later < place from
       → y.transcript.last ≡ Some (record e { written = written }) → written ≡ y.session.reply.sent
-      → IsReplied e x.session request reply → IsHeaded e x.session reply
+      → IsReplied e x.session request reply → IsHeaded e x.session sent
       → Writes state x.session y.session taking left
       → (taking ≡ []) × IsSameBody x.session.reply y.session.reply
       → (body ≡ true → e.sent_body ≢ None)
       → AnswersCall (state x.session.link) (state y.session.link) y.session.reply step left body answer
       → (IsReplied (record e { written = written }) y.session request reply
-      → IsHeaded (record e { written = written }) y.session reply
+      → IsHeaded (record e { written = written }) y.session sent
       → y.session.reply.step ≡ step
       → SoundStage runs y.session (Some (record e { written = written })) from)
       → (IsReplied (record e { written = written }) y.session request reply
-      → IsHeaded (record e { written = written }) y.session reply
+      → IsHeaded (record e { written = written }) y.session sent
       → IsFree y.session.reply
       → SoundStage runs y.session (Some (record e { written = written })) later)
       → StandsAfter answer from later x.stage y.stage result
       → (MovesWithin state x.session y.session
       → StepsInTime state now x.stage y.stage x.session y.session
       (Some (record e { written = written })) result)
-      → Stepped state pends gives runs now shutdown x y result
-  goes_on_stepped body request reply taking left written step answer from later stage less before is
-      count replied headed w takes sends told owed free stands timely =
+      → Stepped state pends rules runs now shutdown x y result
+  goes_on_stepped body request reply sent taking left written step answer from later stage less
+      before is count replied headed w takes sends told owed free stands timely =
       let p : Part = more_of e e.owed written in
       let part : WritesPart state now x.session y.session taking left e p =
       more_part state now x.session y.session e e.owed written request reply taking left replied w
@@ -210,11 +211,11 @@ module _ {L C J : Type 0} (state : L → LinkState) (pends : J → ℕ) (gives :
       let after : IsReplied (replying e p) y.session request reply =
       part_replied state now x.session y.session taking left e p request reply part replied in
       let headed_after = λ (refused : y.session.reply.refused ≡ None).
-      headed_on x.session y.session e (replying e p) reply refl refl refl takes.1.headed
+      headed_on x.session y.session e (replying e p) sent refl refl refl takes.1.headed
       (ap (λ s. s.keep) w.rest) refused headed in
       let below = lower p taking left from later part stage less before in
       call_stepped body p taking left step answer from later part is headed.owed
-      (allowed_written gives e e.sent_body e.owed written allowed_before
+      (allowed_written rules e e.sent_body e.owed written allowed_before
       allowed_before.sent_body (λ owed. owed))
       sends told (λ refused at_step. owed after (headed_after refused) at_step)
       (λ done. (free after (headed_after done.refused) done, below.0, below.1)) stands timely

@@ -1,9 +1,9 @@
 -- What a step that drains a request's body leaves, and why it waits or ends.
-use Rattle.std.proofs.Common.{◌≡◌, ℕ, ◌<◌, ◌⊎◌, inl, inr, List, [], ◌∷◌, ◌++◌, length, take, Bool, true, false, ◌&&◌, not, Option, Some, None, IfSome, Ok, is_none, refl, sym, ◌∙◌, ap, subst, length-append, arith}
+use Rattle.std.proofs.Common.{◌≡◌, ℕ, ◌<◌, ◌⊎◌, inl, inr, List, [], ◌∷◌, ◌++◌, length, take, Bool, true, false, ◌&&◌, not, Option, Some, None, Ok, is_none, refl, sym, ◌∙◌, ap, subst, length-append, arith}
 use Rattle.std.proofs.lemmas.Bool.{false≢true, and_parts, not-true, not-false}
 use Rattle.std.proofs.lemmas.Option.{IfSome_then, same_Some}
 use Rattle.std.proofs.lemmas.List.{take-append-le}
-use Rattle.h1_app.specs.Words.{Ready, Error, ErrorType, LinkState, RequestView, ResponseView, wish, whole, out, reads, end_bytes, Framing, Counted, Chunked, UntilClose, Lacks, BodyRefusal, has_reuses, keeps_alive, may_follow, SessionView, Outgoing, Settings, Reply, Stage, Entry, How, Open, Whole, Failed, Given, IsLawful, AfterRead, is_until_close, FailureCause, IsComplete, LacksSo, IsAllowed, IsDated, given_to, is_short, may_keep, Grows, IfTold}
+use Rattle.h1_app.specs.Words.{Rules, Ready, Error, ErrorType, LinkState, RequestView, ResponseView, wish, whole, out, reads, end_bytes, Framing, Counted, Chunked, UntilClose, Lacks, BodyRefusal, has_reuses, keeps_alive, may_follow, SessionView, Outgoing, Settings, Reply, Stage, Entry, How, Open, Whole, Failed, IsLawful, AfterRead, is_until_close, FailureCause, IsComplete, LacksSo, IsAllowed, IsDated, given_to, is_short, may_keep, Grows, IfTold}
 use Rattle.h1_error.specs.declared.error.ErrorType.TheVariants as kind
 use Rattle.h1_body.specs.Reader as reader
 use Rattle.h1_body.specs.Writer.{until_close}
@@ -17,6 +17,7 @@ use Rattle.h1_app.proofs.JoinLemmas.{read_past}
 use Rattle.h1_transcript.proofs.GrowthLemmas.{dated_same, refused_same, replied_same, stays_itself}
 use Rattle.h1_app.proofs.EndReplies.{complete, stands_broken, stands_unfinished}
 use Rattle.h1_app.proofs.DrainLemmas.{Reused, HasMore, Answered, stood_on}
+use Rattle.h1_app.proofs.ReplyLemmas.{at_some}
 
 -- the drain's stage, taken apart
 pub at_drain : {L C J : Type 0} (runs : J → RequestView → Settings → Settings → List ℕ → Type 0)
@@ -36,9 +37,9 @@ keep_same e payload = by_how e.how refl
     by_how Failed is = rw is refl
 
 -- what the application was given stays before the payload
-allowed_more : (gives : Given → Reply → Type 0) (e : Entry) (payload : List ℕ) → IsAllowed gives e
-    → IsAllowed gives (record e { body = e.body ++ payload })
-allowed_more gives e payload a =
+allowed_more : (rules : Rules) (e : Entry) (payload : List ℕ) → IsAllowed rules e
+    → IsAllowed rules (record e { body = e.body ++ payload })
+allowed_more rules e payload a =
     let front : take e.handed (e.body ++ payload) ≡ take e.handed e.body =
     take-append-le e.handed e.body payload a.handed in
     record {
@@ -46,8 +47,9 @@ allowed_more gives e payload a =
       reply = IfSome_then e.reply a.reply
           (λ reply h. (
             h.0,
-            subst (λ xs. gives (record (given_to e e.head) { handed = xs }) reply)
-                (sym front) h.1,
+            h.1,
+            subst (λ xs. rules.gives (record (given_to e h.0) { handed = xs }) reply)
+                (sym front) h.2,
           ));
       sent_head = IfSome_then e.sent_head a.sent_head (λ header h. (
         h.0,
@@ -94,7 +96,7 @@ open_is keep reply headed = rw headed refl
 
 until_close_is : {L C : Type 0} (e : Entry) (session : SessionView L C) → IsDraining e session
     → is_until_close e ≡ until_close session.reply.writer.framing
-until_close_is e session d = rw (d.sent_head, d.framing) (ends_is (out e.head.method d.reply.header))
+until_close_is e session d = rw (d.sent_head, d.framing) (ends_is (out e.head.method d.sent.header))
 
 -- a connection that is kept said so, and its reply doesn't end with the link
 kept_open : {L C : Type 0} (e : Entry) (session : SessionView L C)
@@ -110,18 +112,17 @@ kept_open e session d alive =
     )
 
 -- and one that isn't said that, or its reply does
-not_open : {L C : Type 0} (gives : Given → Reply → Type 0) (e : Entry)
-    (session : SessionView L C) → IsAllowed gives e → IsDraining e session
+not_open : {L C : Type 0} (rules : Rules) (e : Entry)
+    (session : SessionView L C) → IsAllowed rules e → IsDraining e session
     → keeps_alive session ≡ false → (e.keep ≡ false) ⊎ (is_until_close e ≡ true)
-not_open {L} {C} gives e session a d dead = by_keep e.keep refl
+not_open {L} {C} rules e session a d dead = by_keep e.keep refl
   where
     dated : IsDated e
     dated =
-        let all : IfSome (Some d.reply.header) (λ header. (reply : Reply) × (e.reply ≡ Some reply)
-        × (header ≡ reply.header) × IsLawful header × IsDated e) =
-        subst (λ o. IfSome o (λ header. (reply : Reply) × (e.reply ≡ Some reply)
-        × (header ≡ reply.header) × IsLawful header × IsDated e)) d.sent_head a.sent_head in
-        all.4
+        let sent = at_some (λ header. (reply : Reply) × (e.reply ≡ Some reply)
+        × (rules.filters.header e.head reply ≡ Ok header) × IsLawful header × IsDated e)
+        e.sent_head d.sent.header d.sent_head a.sent_head in
+        sent.4
 
     granted : wish e.head e.both ≡ true → grants session.request ≡ true
     granted wished = rw d.is (d.wish ∙ wished)
@@ -206,9 +207,9 @@ module _ {L C : Type 0} (state : L → LinkState) (old new : SessionView L C) (e
   drain_kept =
       ap (λ (x : Entry). x.written) r.entry ∙ d.written ∙ sym (ap (λ (x : Outgoing). x.sent) r.reply)
 
-  pub drain_allowed : (gives : Given → Reply → Type 0) → IsAllowed gives e → IsAllowed gives f
-  drain_allowed gives a =
-      subst (λ (x : Entry). IsAllowed gives x) (sym r.entry) (allowed_more gives e r.payload a)
+  pub drain_allowed : (rules : Rules) → IsAllowed rules e → IsAllowed rules f
+  drain_allowed rules a =
+      subst (λ (x : Entry). IsAllowed rules x) (sym r.entry) (allowed_more rules e r.payload a)
 
   -- the exchange may still be drained
   pub draining_on : new.body.refused ≡ None → IsDraining f new
@@ -219,6 +220,7 @@ module _ {L C : Type 0} (state : L → LinkState) (old new : SessionView L C) (e
     reply = d.reply;
     replied = d.replied;
     left = d.left ∙ sym r.settings;
+    sent = d.sent;
     sent_head = d.sent_head;
     sent_body = d.sent_body;
     headed = rw r.reply d.headed;
@@ -235,7 +237,8 @@ module _ {L C : Type 0} (state : L → LinkState) (old new : SessionView L C) (e
     waits = r.waits ∙ d.waits;
     written = rw r.reply d.written;
     limit = d.limit;
-    long = short_same e (e.body ++ r.payload) d.reply.header d.reply.body d.sent_head d.sent_body ∙ d.long;
+    long = short_same e (e.body ++ r.payload) d.sent.header d.sent_body.0 d.sent_head d.sent_body.1
+        ∙ d.long;
   })
 
   unrefused_still : f.body_error ≡ None
@@ -246,21 +249,22 @@ module _ {L C : Type 0} (state : L → LinkState) (old new : SessionView L C) (e
       → Accounted state before new done (Some f) → IsComplete before (state new.link) done f
   drain_complete before done s =
       let nothing : end_bytes old.reply.writer ≡ [] =
-      ap (λ sent. coming sent old.reply.writer) (sym d.sent_body) ∙ d.nothing in
-      complete state before done new f d.reply.header d.reply.body
+      ap (λ sent. coming sent old.reply.writer) (sym d.sent_body.1) ∙ d.nothing in
+      complete state before done new f d.sent.header d.sent_body.0
       (ap (λ (x : Entry). x.owed) r.entry ∙ d.owed) s
       (ap (λ (x : Outgoing). x.owed) r.reply ∙ d.reply_owed)
       (ap (λ (x : Outgoing). end_bytes x.writer) r.reply ∙ nothing)
       (ap (λ (x : Entry). x.sent_head) r.entry ∙ d.sent_head)
-      (ap (λ (x : Entry). x.sent_body) r.entry ∙ d.sent_body)
+      (ap (λ (x : Entry). x.sent_body) r.entry ∙ d.sent_body.1)
 
   drain_long : is_short f ≡ false
   drain_long = ap is_short r.entry
-      ∙ short_same e (e.body ++ r.payload) d.reply.header d.reply.body d.sent_head d.sent_body ∙ d.long
+      ∙ short_same e (e.body ++ r.payload) d.sent.header d.sent_body.0 d.sent_head d.sent_body.1
+      ∙ d.long
 
   drain_closes : is_until_close f ≡ is_until_close e
   drain_closes = ap is_until_close r.entry
-      ∙ closes_same e (e.body ++ r.payload) d.reply.header d.sent_head
+      ∙ closes_same e (e.body ++ r.payload) d.sent.header d.sent_head
 
   -- and where the link is kept, the connection is kept after it
   drain_done : (before : LinkState) (done : List Entry) → keeps_alive old ≡ true
@@ -320,15 +324,15 @@ module _ {L C : Type 0} (state : L → LinkState) (old new : SessionView L C) (e
       )
 
   -- why a link that isn't kept is shut
-  pub drain_shut : (before : LinkState) (done : List Entry) (gives : Given → Reply → Type 0)
-      → IsAllowed gives e → keeps_alive old ≡ false → Accounted state before new done (Some f)
+  pub drain_shut : (before : LinkState) (done : List Entry) (rules : Rules)
+      → IsAllowed rules e → keeps_alive old ≡ false → Accounted state before new done (Some f)
       → IsComplete before (state new.link) done f × (is_short f ≡ false) × (f.body_error ≡ None)
       × ((f.keep ≡ false) ⊎ (is_until_close f ≡ true))
-  drain_shut before done gives a dead s = (
+  drain_shut before done rules a dead s = (
     drain_complete before done s,
     drain_long,
     unrefused_still,
-    elim (not_open gives e old a d dead) [
+    elim (not_open rules e old a d dead) [
       | inl off ↦ inl (ap (λ (x : Entry). x.keep) r.entry ∙ off)
       | inr closes ↦ inr (drain_closes ∙ closes)
     ],

@@ -1,6 +1,6 @@
 -- The step that drains a request's body, whole.
-use Rattle.std.proofs.Common.{◌≡◌, ℕ, List, [], ◌∷◌, Bool, true, false, inl, Some, Result, Ok, Err, sym, ◌∙◌, ap, subst, ◌+◌, ◌≤◌, arith, ◌-◌, ◌<◌, Option, None, option_map, refl}
-use Rattle.h1_app.specs.Words.{Poll, Ready, Pending, Error, FaultsBy, LinkState, RequestView, keeps_alive, SessionView, Settings, Reply, Entry, Exchange, TranscriptView, Stage, Outcome, Given, IsAllowed, replies}
+use Rattle.std.proofs.Common.{◌≡◌, ℕ, List, [], ◌∷◌, Bool, true, false, inl, IfSome, Some, Result, Ok, Err, sym, ◌∙◌, ap, subst, ◌+◌, ◌≤◌, arith, ◌-◌, ◌<◌, Option, None, option_map, refl}
+use Rattle.h1_app.specs.Words.{Rules, Poll, Ready, Pending, Error, FaultsBy, LinkState, RequestView, keeps_alive, SessionView, Settings, Entry, Exchange, TranscriptView, Stage, Outcome, IsAllowed, replies}
 use Rattle.h1_app.proofs.Words.{ReusesAs, IsDraining, JobFrom, Leaves, MovesWithin, StepReady, Stepped, OutcomeCause, FewReadsNotReady, outcome_end, ahead, CalledForReuse, ShutUnless, StandsDrained, Continues, OthersFew}
 use Rattle.h1_app.proofs.DrainEnds.{at_drain, drain_moves, drain_accounted, drain_allowed, drain_kept, drain_grows, drain_waits, drain_fails, drain_overread, drain_more, drain_shut, draining_on, drain_over}
 use Rattle.h1_app.proofs.DrainLemmas.{Answered, Reused, answered, reused}
@@ -26,11 +26,11 @@ drain_ahead J old new spent step = rw step (by_budget old)
     by_budget None = omega arith
     by_budget (Some left) = omega arith
 
-module _ {L C J : Type 0} (state : L → LinkState) (gives : Given → Reply → Type 0)
+module _ {L C J : Type 0} (state : L → LinkState)
     (runs : J → RequestView → Settings → Settings → List ℕ → Type 0) (now : ℕ)
     (x : Exchange L J C) (new : SessionView L C) (to : Stage J) (e f : Entry)
     (answer : Poll (Result Bool Error)) (result : Outcome)
-    (ready : StepReady gives runs now x) (stage : x.stage ≡ at.Drain)
+    (ready : StepReady runs now x) (stage : x.stage ≡ at.Drain)
     (was : x.transcript.last ≡ Some e) (reuses : ReusesAs state now x.session new e f answer)
     (called : CalledForReuse (state x.session.link) (state new.link) (keeps_alive x.session)
     (is_reused answer) (read_fault_of answer))
@@ -66,9 +66,9 @@ module _ {L C J : Type 0} (state : L → LinkState) (gives : Given → Reply →
       by_answer (Ready (Ok false)) true a stands = rw stands.1 most
       by_answer (Ready (Ok false)) false a stands = rw stands.1 most
 
-  drained_outcome : (pends : J → ℕ)
+  drained_outcome : (rules : Rules) → IsAllowed rules e → (pends : J → ℕ)
       → OutcomeCause state pends runs x.session new (Some f) x.stage to result
-  drained_outcome pends = by_answer answer (keeps_alive new) refl told stands
+  drained_outcome rules allowed pends = by_answer answer (keeps_alive new) refl told stands
     where
       old : SessionView L C
       old = x.session
@@ -96,8 +96,7 @@ module _ {L C J : Type 0} (state : L → LinkState) (gives : Given → Reply →
           drain_overread state old new e f draining did before done (sym a.0 ∙ lives)
           (drain_more state old new e f a lives) s)
       by_answer (Ready (Ok false)) false lives a stands = rw stands.1 (λ before done s.
-          drain_shut state old new e f draining did before done gives
-          (at_some (IsAllowed gives) x.transcript.last e was ready.allowed) (sym a.0 ∙ lives) s)
+          drain_shut state old new e f draining did before done rules allowed (sym a.0 ∙ lives) s)
 
   -- how long it waits
   drained_timely : MovesWithin state x.session new
@@ -124,19 +123,19 @@ module _ {L C J : Type 0} (state : L → LinkState) (gives : Given → Reply →
           end.NotKept (λ moved. tt))
 
   -- the rest of the request's body is read
-  pub drain_stepped : (pends : J → ℕ) (shutdown : Bool) (transcript : TranscriptView)
-      → transcript.last ≡ Some f → Stepped state pends gives runs now shutdown x
+  pub drain_stepped : (rules : Rules) → IfSome x.transcript.last (IsAllowed rules)
+      → (pends : J → ℕ) (shutdown : Bool) (transcript : TranscriptView) → transcript.last ≡ Some f → Stepped state pends rules runs now shutdown x
       (record { session = new; transcript = transcript; stage = to }) result
-  drain_stepped pends shutdown transcript is =
-      grown_stepped state pends gives runs now shutdown x
+  drain_stepped rules allowed pends shutdown transcript is =
+      let a = at_some (IsAllowed rules) x.transcript.last e was allowed in
+      grown_stepped state pends rules runs now shutdown x
       (record { session = new; transcript = transcript; stage = to }) e f result was is
       (drain_moves state x.session new e f draining did)
       (drain_accounted state x.session new e f draining did)
-      (drain_allowed state x.session new e f draining did gives
-      (at_some (IsAllowed gives) x.transcript.last e was ready.allowed))
+      (drain_allowed state x.session new e f draining did rules a)
       (drain_kept state x.session new e f draining did)
       (drain_grows state x.session new e f draining did now) drained_few
-      (drained_timely (drain_moves state x.session new e f draining did)) (drained_outcome pends)
+      (drained_timely (drain_moves state x.session new e f draining did)) (drained_outcome rules a pends)
 
   -- what continues through the step
   pub drain_continues : (same_plan : L → L → Type 0) (begins : J → Type 0) (pends : J → ℕ)

@@ -2,7 +2,7 @@
 use Rattle.std.proofs.Common.{◌≡◌, ℕ, ◌+◌, ◌-◌, ◌^◌, ◌<◌, ◌⊎◌, inl, inr, min, List, [], ◌∷◌, ◌++◌, length, take, Bool, true, false, cond, nat_lt, nat_le, Some, refl, sym, ◌∙◌, ap, subst, append-nil, length-take, arith, codes}
 use Rattle.std.proofs.lemmas.Bool.{false≢true, ltb-true, lt-ltb}
 use Rattle.std.proofs.lemmas.Option.{none-some}
-use Rattle.h1_app.specs.Words.{AllByRecursion, Error, ErrorType, LinkState, ResponseView, Body, whole, unfinished, broken, ahead, chunked, body, reads, read_as, framing, out, begun, after_piece, end_bytes, Framing, Counted, Chunked, UntilClose, Chunking, Reading, Lacks, SessionView, Reply, Entry, WroteBehind, AfterWrote, FlushedBy, written_of, FailureCause, EndCause, IsComplete, IsWrittenShort, LastStands, render, is_short, shown, IfTold}
+use Rattle.h1_app.specs.Words.{AllByRecursion, Error, ErrorType, LinkState, ResponseView, Body, whole, unfinished, broken, ahead, chunked, body, reads, read_as, framing, out, begun, after_piece, end_bytes, is_head, Framing, Counted, Chunked, UntilClose, Chunking, Reading, Lacks, SessionView, Reply, Entry, WroteBehind, AfterWrote, FlushedBy, written_of, FailureCause, EndCause, IsComplete, IsWrittenShort, LastStands, render, is_short, shown, IfTold}
 use Rattle.h1_error.specs.declared.error.ErrorType.TheVariants as kind
 use Rattle.h1_error.specs.declared.progress.End.TheVariants as end
 use Rattle.h1_fields.specs.Lines.{Line}
@@ -17,7 +17,7 @@ use Rattle.h1_body.specs.Writer.{lacks}
 use Rattle.h1_body.specs.declared.chunking.Chunking.TheVariants as place
 use Rattle.h1_body.specs.declared.reader.Reading.TheVariants as reading
 use Rattle.h1_transcript.specs.Ends.{EndsBody, LastAfter}
-use Rattle.h1_app.proofs.Words.{Accounted, ReadEntry, WroteSo, coming, StopsBody, StopsWith}
+use Rattle.h1_app.proofs.Words.{Accounted, IsBodied, ReadEntry, WroteSo, coming, StopsBody, StopsWith}
 use Rattle.h1_app.proofs.ReplyLemmas.{at_some}
 use Rattle.h1_transcript.proofs.BehindLemmas.{told_map, read_map}
 
@@ -179,7 +179,7 @@ one_of false x y n a b h = b h
 pub out_limit : (method : List ℕ) (head : ResponseView) (n : ℕ) → out method head ≡ Counted n
     → n < 2 ^ 64
 out_limit method head n h =
-    one_of (has_no_body method head.status) (Counted 0) (by_fields UntilClose head.fields) n
+    one_of (has_no_body (is_head method) head.status) (Counted 0) (by_fields UntilClose head.fields) n
     (λ e. let none : 0 ≡ n = counted_same 0 n e in omega arith)
     (λ e. one_of (is_chunked_last head.fields) Chunked
     (by_length UntilClose (content_length head.fields)) n
@@ -188,12 +188,6 @@ out_limit method head n h =
   where
     chunked_is : Chunked ≡ Counted n → ⊥
     chunked_is x = cc
-
--- the whole body of a reply is shown
-pub shown_all : (header : ResponseView) (body : List ℕ)
-    → shown (Some (record { header = header; body = body })) body ≡ body
-shown_all header [] = refl
-shown_all header (b ∷ body) = refl
 
 -- two tests are one where each tells the other
 same_test : (a b n : ℕ) → (a < n → b < n) → (b < n → a < n) → nat_lt a n ≡ nat_lt b n
@@ -208,24 +202,22 @@ same_test a b n to from = by_tests (nat_lt a n) (nat_lt b n) refl refl
         absurd (false≢true (sym p ∙ lt-ltb a n (from (ltb-true b n q))))
 
 -- the exchange is short exactly where its writer is
-pub short_as : (e : Entry) (reply : Reply) → e.reply ≡ Some reply
-    → e.sent_head ≡ Some reply.header → e.sent_body ≡ Some reply.body
-    → is_short e ≡ lacks (Some (out e.head.method reply.header))
-    (after_piece (begun (out e.head.method reply.header)) reply.body).written
-short_as e reply is headed bodied = by_framing (out e.head.method reply.header) refl
+pub short_as : (e : Entry) (sent : Reply) → e.sent_head ≡ Some sent.header → IsBodied e sent
+    → is_short e ≡ lacks (Some (out e.head.method sent.header))
+    (after_piece (begun (out e.head.method sent.header)) sent.body).written
+short_as e sent headed bodied = by_framing (out e.head.method sent.header) refl
   where
-    same : length (shown e.reply reply.body) ≡ length reply.body
-    same = ap (λ r. length (shown r reply.body)) is
-        ∙ ap length (shown_all reply.header reply.body)
+    same : length (shown e.reply bodied.0) ≡ length sent.body
+    same = ap length (sym bodied.2)
 
-    by_framing : (f : Framing) → out e.head.method reply.header ≡ f
-        → is_short e ≡ lacks (Some f) (after_piece (begun f) reply.body).written
+    by_framing : (f : Framing) → out e.head.method sent.header ≡ f
+        → is_short e ≡ lacks (Some f) (after_piece (begun f) sent.body).written
     by_framing (Counted n) counted =
-        let limit = out_limit e.head.method reply.header n counted in
-        rw (headed, bodied, counted)
-        (same_test (length (shown e.reply reply.body))
-        (min (0 + length (take (n - 0) reply.body)) (2 ^ 64 - 1)) n
-        (λ less. omega (arith, length-take (n - 0) reply.body, less, same, limit))
-        (λ less. omega (arith, length-take (n - 0) reply.body, less, same, limit)))
-    by_framing Chunked framed = rw (headed, bodied, framed) refl
-    by_framing UntilClose framed = rw (headed, bodied, framed) refl
+        let limit = out_limit e.head.method sent.header n counted in
+        rw (headed, bodied.1, counted)
+        (same_test (length (shown e.reply bodied.0))
+        (min (0 + length (take (n - 0) sent.body)) (2 ^ 64 - 1)) n
+        (λ less. omega (arith, length-take (n - 0) sent.body, less, same, limit))
+        (λ less. omega (arith, length-take (n - 0) sent.body, less, same, limit)))
+    by_framing Chunked framed = rw (headed, bodied.1, framed) refl
+    by_framing UntilClose framed = rw (headed, bodied.1, framed) refl

@@ -1,7 +1,7 @@
 -- The step that ends a reply, whole.
 use Rattle.std.proofs.Common.{Bool, Err, IfNone, IfSome, List, None, Ok, Option, Result, Some, ap, arith, false, inl, inr, refl, subst, sym, ℕ, ◌∙◌, ◌≡◌, ◌⊎◌}
 use Rattle.std.proofs.lemmas.Bool.{false≢true}
-use Rattle.h1_app.specs.Words.{EndCall, Entry, Error, ErrorType, Exchange, Given, IsAllowed, LinkState, Outcome, Pending, Poll, Ready, Reply, RequestView, Settings, Stage, stage_of}
+use Rattle.h1_app.specs.Words.{Rules, EndCall, Entry, Error, ErrorType, Exchange, IsAllowed, LinkState, Outcome, Pending, Poll, Ready, RequestView, Settings, Stage, stage_of}
 use Rattle.h1_app.specs.Timely.{FailsInTime, StepsInTime}
 use Rattle.h1_app.specs.Work.{rest_waits}
 use Rattle.h1_error.specs.declared.error.ErrorType.TheVariants as kind
@@ -16,8 +16,8 @@ use Rattle.h1_app.proofs.EndReplies.{stopped_cause}
 use Rattle.h1_app.proofs.FinishReplies.{AtFinish, Ending, cut_off, done_settled, ending, end_fails, ending_part, finish_done, finish_drains, finish_waits, same_error}
 use Rattle.h1_app.proofs.PartLemmas.{more_of}
 use Rattle.h1_app.proofs.ReplyLemmas.{ahead_down, at_some, moves_wrote, settled_owed}
-use Rattle.h1_app.proofs.StepLemmas.{allowed_written}
-use Rattle.h1_app.proofs.Words.{MovesWithin, OutcomeCause, SoundStage, StepReady, Stepped, failure_of}
+use Rattle.h1_app.proofs.StepLemmas.{AllowedReady, allowed_written}
+use Rattle.h1_app.proofs.Words.{MovesWithin, OutcomeCause, SoundStage, Stepped, failure_of}
 use Rattle.h1_app.specs.declared.exchange.Stage.TheVariants as at
 use Rattle.h1_error.specs.declared.progress.End.TheVariants as end
 use Rattle.h1_app.specs.declared.exchange.Outcome.TheVariants as outcome
@@ -66,26 +66,27 @@ undrained_rest since none = rw none refl
 
 -- the end of the reply is written
 pub finish_stepped : {L C J : Type 0} (state : L → LinkState) (pends : J → ℕ)
-    (gives : Given → Reply → Type 0)
+    (rules : Rules)
     (runs : J → RequestView → Settings → Settings → List ℕ → Type 0)
     (now : ℕ) (shutdown : Bool) (x y : Exchange L J C)
     (answer : Poll (Result (Option ℕ) Error)) (written : ℕ) (result : Outcome)
-    → StepReady gives runs now x → SoundStage runs x.session x.transcript.last at.Finish
+    → AllowedReady rules runs now x → SoundStage runs x.session x.transcript.last at.Finish
     → x.stage ≡ at.Finish → IfNone x.session.reply.refused
     (EndCall state x.session y.session answer (stage_of x.session.reply))
     → written ≡ y.session.reply.sent → IfSome x.transcript.last
     (λ e. StandsEnded answer e written y.transcript.last x.stage y.stage result)
-    → Stepped state pends gives runs now shutdown x y result
-finish_stepped {L} {C} {J} state pends gives runs now shutdown x y answer written result ready s
+    → Stepped state pends rules runs now shutdown x y result
+finish_stepped {L} {C} {J} state pends rules runs now shutdown x y answer written result ready s
     stage call count stands =
     let h : AtFinish s.0 x.session =
     record {
       request = s.2;
       reply = s.3;
-      replied = s.4;
-      headed = s.5;
-      sent_body = s.6;
-      finishing = s.7;
+      sent = s.4;
+      replied = s.5;
+      headed = s.6;
+      sent_body = s.7;
+      finishing = s.8;
     } in
     by_answer s.0 s.1 h (ending state x.session y.session s.0 answer h call) answer refl
     (rw s.1 at stands)
@@ -96,25 +97,25 @@ finish_stepped {L} {C} {J} state pends gives runs now shutdown x y answer writte
     -- the end is still owed
     owed : (e : Entry) → x.transcript.last ≡ Some e
         → y.transcript.last ≡ Some (record e { written = written })
-        → (h : AtFinish e x.session) → Ending state x.session y.session e h.reply answer
+        → (h : AtFinish e x.session) → Ending state x.session y.session e h.sent answer
         → (MovesWithin state x.session y.session → StepsInTime state now x.stage y.stage x.session
         y.session (Some (record e { written = written })) result)
         → OutcomeCause state pends runs x.session y.session (Some (record e { written = written }))
         x.stage y.stage result
-        → Stepped state pends gives runs now shutdown x y result
+        → Stepped state pends rules runs now shutdown x y result
     owed e was is h w timely outcome =
-        let a = at_some (IsAllowed gives) x.transcript.last e was ready.allowed in
-        part_stepped state pends gives runs now shutdown x y result ready e was
+        let a = at_some (IsAllowed rules) x.transcript.last e was ready.allowed in
+        part_stepped state pends rules runs now shutdown x y result ready e was
         (more_of e e.owed written) w.taking w.left
         (ending_part state x.session y.session e answer written h w count now e.owed) is
         (λ before done rose. settled_owed before (state y.session.link) done
         (record e { written = written }) h.headed.owed)
-        (allowed_written gives e e.sent_body e.owed written a a.sent_body (λ owed. owed)) timely
+        (allowed_written rules e e.sent_body e.owed written a a.sent_body (λ owed. owed)) timely
         outcome
 
     -- the reply is whole
     by_error : (e : Entry) (h : AtFinish e x.session)
-        (w : Ending state x.session y.session e h.reply answer) (counted : Option ℕ)
+        (w : Ending state x.session y.session e h.sent answer) (counted : Option ℕ)
         → answer ≡ Ready (Ok counted) → (error : Option Error) → e.body_error ≡ error
         → StandsWhole error x.stage y.stage result
         → OutcomeCause state pends runs x.session y.session
@@ -138,7 +139,7 @@ finish_stepped {L} {C} {J} state pends gives runs now shutdown x y answer writte
 
     -- the drain of the body begins, or an error of it is told
     in_time : (e : Entry) (h : AtFinish e x.session)
-        → Ending state x.session y.session e h.reply answer
+        → Ending state x.session y.session e h.sent answer
         → MovesWithin state x.session y.session
         → (error : Option Error) → e.body_error ≡ error → StandsWhole error x.stage y.stage result
         → StepsInTime state now x.stage y.stage x.session y.session
@@ -153,7 +154,7 @@ finish_stepped {L} {C} {J} state pends gives runs now shutdown x y answer writte
 
     -- an error in writing the end tells of no time
     end_untimed : (e : Entry) (h : AtFinish e x.session)
-        → Ending state x.session y.session e h.reply answer
+        → Ending state x.session y.session e h.sent answer
         → (error : Error) → answer ≡ Ready (Err error) → is_timeout error.kind ≡ false
     end_untimed e h w error told = elim w.answer [
       | inl long ↦ let refused = rw told at long.1 in refused_untimed (state x.session.link)
@@ -163,10 +164,10 @@ finish_stepped {L} {C} {J} state pends gives runs now shutdown x y answer writte
     ]
 
     by_answer : (e : Entry) → x.transcript.last ≡ Some e → (h : AtFinish e x.session)
-        → Ending state x.session y.session e h.reply answer
+        → Ending state x.session y.session e h.sent answer
         → (told : Poll (Result (Option ℕ) Error)) → answer ≡ told
         → StandsEnded told e written y.transcript.last x.stage y.stage result
-        → Stepped state pends gives runs now shutdown x y result
+        → Stepped state pends rules runs now shutdown x y result
     by_answer e was h w Pending told stands = owed e was stands.0 h w
         (λ moves. rw (stands.1, stands.2, stage)
         (untimed_waits state now at_finish at_finish x.session y.session
@@ -183,13 +184,13 @@ finish_stepped {L} {C} {J} state pends gives runs now shutdown x y answer writte
         (rw stands.2 (λ before done s. end_fails state x.session y.session e answer written h w
         count before done error told s))
     by_answer e was h w (Ready (Ok counted)) told stands =
-        let a = at_some (IsAllowed gives) x.transcript.last e was ready.allowed in
-        part_stepped state pends gives runs now shutdown x y result ready e was
+        let a = at_some (IsAllowed rules) x.transcript.last e was ready.allowed in
+        part_stepped state pends rules runs now shutdown x y result ready e was
         (more_of e false written) w.taking w.left
         (ending_part state x.session y.session e answer written h w count now false) stands.0
         (λ before done rose. done_settled state x.session y.session e answer written h w count
         before done counted told rose)
-        (allowed_written gives e e.sent_body false written a a.sent_body
+        (allowed_written rules e e.sent_body false written a a.sent_body
         (λ owed. absurd (false≢true owed)))
         (λ moves. in_time e h w moves e.body_error refl stands.1)
         (by_error e h w counted told e.body_error refl stands.1)

@@ -10,7 +10,7 @@ use Rattle.h1_app.proofs.EndReplies.{complete, short_as, stopped_cause, told_who
 use Rattle.h1_app.proofs.LeavesLemmas.{short_told}
 use Rattle.h1_app.proofs.PartLemmas.{WritesPart, more_of, more_part, part_replied}
 use Rattle.h1_app.proofs.ReplyLemmas.{at_none, headed_on, waits_why}
-use Rattle.h1_app.proofs.Words.{Accounted, IsDraining, IsFinishing, IsHeaded, IsReplied, SettledSo, SoundStage, coming, failure_of, filled}
+use Rattle.h1_app.proofs.Words.{Accounted, IsBodied, IsDraining, IsFinishing, IsHeaded, IsReplied, SettledSo, SoundStage, coming, failure_of, filled}
 use Rattle.h1_app.specs.declared.exchange.Stage.TheVariants as at
 use Rattle.h1_error.specs.declared.error.ErrorType.TheVariants as kind
 use Rattle.h1_error.specs.declared.progress.End.TheVariants as end
@@ -21,34 +21,35 @@ use Rattle.h1_body.specs.Writer as writer
 pub record AtFinish {L C : Type 0} (e : Entry) (session : SessionView L C) : Type 0 where
   pub request : Request
   pub reply : Reply
+  pub sent : Reply
   pub replied : IsReplied e session request reply
-  pub headed : IsHeaded e session reply
-  pub sent_body : e.sent_body ≡ Some reply.body
-  pub finishing : IsFinishing e session reply session.reply.step
+  pub headed : IsHeaded e session sent
+  pub sent_body : IsBodied e sent
+  pub finishing : IsFinishing e session sent session.reply.step
 
 -- the error of a body that ends short of its length
 abbrev pub cut_off : Error
 cut_off = record { kind = kind.PrematureBodyEnd; retry = false }
 
 -- the body falls short of the length that its head states
-pub record FallsShort {L C : Type 0} (old new : SessionView L C) (e : Entry) (reply : Reply)
+pub record FallsShort {L C : Type 0} (old new : SessionView L C) (e : Entry) (sent : Reply)
     (outcome : Poll (Result (Option ℕ) Error)) : Type 0 where
-  pub short : writer.is_short (filled e reply) ≡ true
+  pub short : writer.is_short (filled e sent) ≡ true
   pub owed : new.reply.owed ≡ []
   pub answer : outcome ≡ Ready (Err cut_off)
 
 -- what a call that ends the body does: it writes the end, or the body falls short
 pub record Ending {L C : Type 0} (state : L → LinkState) (old new : SessionView L C) (e : Entry)
-    (reply : Reply) (outcome : Poll (Result (Option ℕ) Error)) : Type 0 where
+    (sent : Reply) (outcome : Poll (Result (Option ℕ) Error)) : Type 0 where
   pub taking : List ℕ
   pub left : ℕ
   pub writes : Writes state old new taking left
   pub headed : new.reply.headed ≡ old.reply.headed
-  pub ended : new.reply.writer ≡ record (filled e reply) { ended = true }
+  pub ended : new.reply.writer ≡ record (filled e sent) { ended = true }
   pub bytes : taking ++ end_bytes new.reply.writer ≡ end_bytes old.reply.writer
-  pub answer : ((writer.is_short (filled e reply) ≡ false)
+  pub answer : ((writer.is_short (filled e sent) ≡ false)
       × EndAnswer (state old.link) (state new.link) old.reply new.reply left outcome)
-      ⊎ FallsShort old new e reply outcome
+      ⊎ FallsShort old new e sent outcome
 
 -- a body that falls short has no bytes after its payload
 short_ends : (f : Framing) (payload : List ℕ)
@@ -59,11 +60,11 @@ short_ends Chunked payload h = absurd (false≢true h)
 short_ends UntilClose payload h = absurd (false≢true h)
 
 module _ {L C : Type 0} (state : L → LinkState) (old new : SessionView L C) (e : Entry)
-    (reply : Reply) (outcome : Poll (Result (Option ℕ) Error)) where
-  begins_ending : old.reply.writer ≡ filled e reply → writer.is_short (filled e reply) ≡ false
-      → WritesEnd state old new starts outcome → Ending state old new e reply outcome
+    (sent : Reply) (outcome : Poll (Result (Option ℕ) Error)) where
+  begins_ending : old.reply.writer ≡ filled e sent → writer.is_short (filled e sent) ≡ false
+      → WritesEnd state old new starts outcome → Ending state old new e sent outcome
   begins_ending is long w =
-      let ended : new.reply.writer ≡ record (filled e reply) { ended = true } =
+      let ended : new.reply.writer ≡ record (filled e sent) { ended = true } =
       w.takes.2 ∙ ap (λ (x : WriterView). record x { ended = true }) is in
       record {
         taking = w.taking;
@@ -75,9 +76,9 @@ module _ {L C : Type 0} (state : L → LinkState) (old new : SessionView L C) (e
         answer = inl (long, w.answer);
       }
 
-  goes_on_ending : old.reply.writer ≡ record (filled e reply) { ended = true }
-      → writer.is_short (filled e reply) ≡ false
-      → WritesEnd state old new goes_on outcome → Ending state old new e reply outcome
+  goes_on_ending : old.reply.writer ≡ record (filled e sent) { ended = true }
+      → writer.is_short (filled e sent) ≡ false
+      → WritesEnd state old new goes_on outcome → Ending state old new e sent outcome
   goes_on_ending is long w = record {
     taking = w.taking;
     left = w.left;
@@ -89,14 +90,14 @@ module _ {L C : Type 0} (state : L → LinkState) (old new : SessionView L C) (e
     answer = inl (long, w.answer);
   }
 
-  short_ending : old.reply.owed ≡ [] → old.reply.writer ≡ filled e reply
+  short_ending : old.reply.owed ≡ [] → old.reply.writer ≡ filled e sent
       → old.reply.sent < 2 ^ 64 → writer.is_short old.reply.writer ≡ true
-      → EndsShort old new outcome → Ending state old new e reply outcome
+      → EndsShort old new outcome → Ending state old new e sent outcome
   short_ending none is limit short w =
-      let short_is : writer.is_short (filled e reply) ≡ true =
+      let short_is : writer.is_short (filled e sent) ≡ true =
       ap (λ x. writer.is_short x) (sym is) ∙ short in
       let ended : Ending state old (record old
-      { reply = record old.reply { writer = record old.reply.writer { ended = true } } }) e reply
+      { reply = record old.reply { writer = record old.reply.writer { ended = true } } }) e sent
       outcome = record {
         taking = [];
         left = allowance old.budget;
@@ -104,23 +105,23 @@ module _ {L C : Type 0} (state : L → LinkState) (old new : SessionView L C) (e
         headed = refl;
         ended = ap (λ (x : WriterView). record x { ended = true }) is;
         bytes = sym (ap (λ x. end_bytes x) is
-            ∙ short_ends (out e.head.method reply.header) reply.body short_is);
+            ∙ short_ends (out e.head.method sent.header) sent.body short_is);
         answer = inr (record { short = short_is; owed = none; answer = w.answer });
       } in
-      subst (λ (x : SessionView L C). Ending state old x e reply outcome) (sym w.ends) ended
+      subst (λ (x : SessionView L C). Ending state old x e sent outcome) (sym w.ends) ended
 
   ending_free : (short : Bool) → writer.is_short old.reply.writer ≡ short
-      → old.reply.owed ≡ [] → old.reply.writer ≡ filled e reply → old.reply.sent < 2 ^ 64
+      → old.reply.owed ≡ [] → old.reply.writer ≡ filled e sent → old.reply.sent < 2 ^ 64
       → EndCall state old new outcome (end_stage step.Free true short)
-      → Ending state old new e reply outcome
+      → Ending state old new e sent outcome
   ending_free true short none is limit call = short_ending none is limit short call
   ending_free false short none is limit call =
       begins_ending is (ap (λ x. writer.is_short x) (sym is) ∙ short) call
 
-  ending_at : (s : Step) → old.reply.sent < 2 ^ 64 → IsFinishing e old reply s
+  ending_at : (s : Step) → old.reply.sent < 2 ^ 64 → IsFinishing e old sent s
       → EndCall state old new outcome
       (end_stage s (is_begun old.reply.writer) (writer.is_short old.reply.writer))
-      → Ending state old new e reply outcome
+      → Ending state old new e sent outcome
   ending_at step.Free limit h call =
       ending_free (writer.is_short old.reply.writer) refl h.0 h.1 limit
       (subst (λ (b : Bool). EndCall state old new outcome
@@ -132,9 +133,9 @@ module _ {L C : Type 0} (state : L → LinkState) (old new : SessionView L C) (e
 pub ending : {L C : Type 0} (state : L → LinkState) (old new : SessionView L C) (e : Entry)
     (outcome : Poll (Result (Option ℕ) Error)) (h : AtFinish e old)
     → IfNone old.reply.refused (EndCall state old new outcome (stage_of old.reply))
-    → Ending state old new e h.reply outcome
+    → Ending state old new e h.sent outcome
 ending state old new e outcome h call =
-    ending_at state old new e h.reply outcome old.reply.step
+    ending_at state old new e h.sent outcome old.reply.step
     (omega (arith, h.replied.asked.written, h.replied.asked.limit)) h.finishing
     (at_none _ old.reply.refused h.headed.refused call)
 
@@ -203,19 +204,19 @@ flushed_so P Q (Some head) q = λ p. q
 
 module _ {L C : Type 0} (state : L → LinkState) (old new : SessionView L C) (e : Entry)
     (outcome : Poll (Result (Option ℕ) Error)) (written : ℕ) (h : AtFinish e old)
-    (w : Ending state old new e h.reply outcome) (count : written ≡ new.reply.sent) where
+    (w : Ending state old new e h.sent outcome) (count : written ≡ new.reply.sent) where
   -- the end is the part that is written
   pub ending_part : (now : ℕ) (owed : Bool)
       → WritesPart state now old new w.taking w.left e (more_of e owed written)
   ending_part now owed =
       more_part state now old new e owed written h.request h.reply w.taking w.left h.replied
-      w.writes (ap (λ x. w.taking ++ coming x new.reply.writer) h.sent_body ∙ w.bytes
-      ∙ ap (λ x. coming x old.reply.writer) (sym h.sent_body)) count
+      w.writes (ap (λ x. w.taking ++ coming x new.reply.writer) h.sent_body.1 ∙ w.bytes
+      ∙ ap (λ x. coming x old.reply.writer) (sym h.sent_body.1)) count
 
   -- what the call answers where the body doesn't fall short
   ends_long : (told : Poll (Result (Option ℕ) Error)) → outcome ≡ told
       → (told ≡ Ready (Err cut_off) → ⊥)
-      → (writer.is_short (filled e h.reply) ≡ false)
+      → (writer.is_short (filled e h.sent) ≡ false)
       × EndAnswer (state old.link) (state new.link) old.reply new.reply w.left told
   ends_long told same other =
       elim w.answer [
@@ -239,11 +240,11 @@ module _ {L C : Type 0} (state : L → LinkState) (old new : SessionView L C) (e
       let told = ends_long Pending pending not_pending in
       let replied = part_replied state 0 old new w.taking w.left e (more_of e e.owed written)
       h.request h.reply (ending_part 0 e.owed) h.replied in
-      let headed = headed_on old new e f h.reply refl refl refl w.headed
+      let headed = headed_on old new e f h.sent refl refl refl w.headed
       (ap (λ s. s.keep) w.writes.rest) told.1.refused h.headed in
-      let finishing : IsFinishing f new h.reply new.reply.step =
+      let finishing : IsFinishing f new h.sent new.reply.step =
       rw told.1.at_step (w.ended, told.0) in (
-        (f, refl, h.request, h.reply, replied, headed, h.sent_body, finishing),
+        (f, refl, h.request, h.reply, h.sent, replied, headed, h.sent_body, finishing),
         (waits_why state old new old.keep w.taking w.left some w.writes told.1.why, h.headed.owed),
       )
 
@@ -265,9 +266,9 @@ module _ {L C : Type 0} (state : L → LinkState) (old new : SessionView L C) (e
       → IsComplete before (state new.link) done (record e { owed = false; written = written })
   finish_done before done told_count ready s =
       complete state before done new (record e { owed = false; written = written })
-      h.reply.header h.reply.body refl s
+      h.sent.header h.sent_body.0 refl s
       (ends_long (Ready (Ok told_count)) ready (not_done told_count)).1.0.owed nothing_comes
-      h.headed.sent_head h.sent_body
+      h.headed.sent_head h.sent_body.1
 
   -- what is left of the request's body may be read, where it wasn't refused
   pub finish_drains : (told_count : Option ℕ) → outcome ≡ Ready (Ok told_count)
@@ -283,14 +284,15 @@ module _ {L C : Type 0} (state : L → LinkState) (old new : SessionView L C) (e
         reply = h.reply;
         replied = h.replied.is;
         left = h.replied.left ∙ sym (ap (λ s. s.settings) w.writes.rest);
+        sent = h.sent;
         sent_head = h.headed.sent_head;
         sent_body = h.sent_body;
         headed = w.headed ∙ h.headed.headed;
         keep = h.headed.keep ∙ sym (ap (λ s. s.keep) w.writes.rest);
         framing = ap (λ (x : WriterView). x.framing) w.ended;
-        whole = replied_whole new.reply (filled e h.reply) (w.headed ∙ h.headed.headed)
+        whole = replied_whole new.reply (filled e h.sent) (w.headed ∙ h.headed.headed)
             told.1.0.refused w.ended told.0;
-        nothing = ap (λ x. coming x new.reply.writer) h.sent_body ∙ nothing_comes;
+        nothing = ap (λ x. coming x new.reply.writer) h.sent_body.1 ∙ nothing_comes;
         free = told.1.0.free;
         reply_owed = told.1.0.owed;
         owed = refl;
@@ -300,8 +302,8 @@ module _ {L C : Type 0} (state : L → LinkState) (old new : SessionView L C) (e
         waits = ap (λ s. s.body.waits) w.writes.rest ∙ asked.waits;
         written = count;
         limit = omega (arith, counted, count);
-        long = short_as (record e { owed = false; written = written }) h.reply h.replied.is
-            h.headed.sent_head h.sent_body ∙ told.0;
+        long = short_as (record e { owed = false; written = written }) h.sent h.headed.sent_head
+            h.sent_body ∙ told.0;
       }
 
   -- why a call that failed ends the connection
@@ -319,8 +321,8 @@ module _ {L C : Type 0} (state : L → LinkState) (old new : SessionView L C) (e
             e.body_error error error.kind refl told.1 told.0
         | inr short ↦ short_cause state before (state old.link) done new f e.body_error error
             (same_error error cut_off (sym failed ∙ short.answer)) refl s (record {
-              short = short_as f h.reply h.replied.is h.headed.sent_head h.sent_body ∙ short.short;
-              written = told_whole state before done new f h.reply.body s short.owed h.sent_body
+              short = short_as f h.sent h.headed.sent_head h.sent_body ∙ short.short;
+              written = told_whole state before done new f h.sent_body.0 s short.owed h.sent_body.1
                   nothing_comes;
             })
       ]

@@ -8,7 +8,7 @@ use Rattle.std.specs.Prelude.{◌==◌, if◌then◌else◌}
 use Rattle.std.proofs.lemmas.Bool.{false≢true}
 use Rattle.std.proofs.lemmas.Bool.Decides.{nat_tests}
 use Rattle.std.specs.Io.KnownBytes.{append_known}
-use Rattle.h1_app.specs.Words.{Error, ErrorType, End, Progress, Waiting, LinkState, Later, Rose, SessionView, Entry, Stage, FailureCause, EndCause, ToldGrowth}
+use Rattle.h1_app.specs.Words.{Error, ErrorType, End, Progress, Waiting, LinkState, Later, Rose, SessionView, Entry, Stage, FailureCause, EndCause, EndsBy, Filters, ToldGrowth}
 use Rattle.h1_error.specs.declared.error.ErrorType.TheVariants as kind
 use Rattle.h1_error.specs.declared.progress.End.TheVariants as end
 use Rattle.h1_error.specs.declared.progress.Progress.TheVariants as progress
@@ -43,7 +43,7 @@ pub turned_stays : {L C A J : Type 0} (state : L → LinkState) (same_plan : L �
     → Turned state same_plan now shutdown at (record at { end = end }) stop
 turned_stays state same_plan now shutdown at end stop plan more leaves = record {
   gone = record {
-    app = refl;
+    served = refl;
     limit = refl;
     plan = plan;
     moves = moves_none state at.session at.session refl refl refl;
@@ -64,7 +64,7 @@ gone_on : {L C A J : Type 0} {state : L → LinkState} {same_plan : L → L → 
     → same_plan a.session.link c.session.link) → Gone state same_plan now shutdown a b
     → Gone state same_plan now shutdown b c → Gone state same_plan now shutdown a c
 gone_on {state = state} {now = now} {shutdown = shutdown} a b c on x y = record {
-  app = y.app ∙ x.app;
+  served = y.served ∙ x.served;
   limit = y.limit ∙ x.limit;
   plan = on x.plan y.plan;
   moves = moves_on state a.session b.session c.session x.moves y.moves;
@@ -132,7 +132,7 @@ failure_back before older old now later done last error kind.WriteError h =
 failure_back before older old now later done last error _ h = h
 
 -- an end has its cause since an earlier state too
-pub end_back : (before older old now : LinkState) → Later older old
+end_back : (before older old now : LinkState) → Later older old
     → (done : List Entry) (last : Option Entry) (reason : End)
     → EndCause before old now done last reason → EndCause before older now done last reason
 end_back before older old now later done last (end.Failed error) h =
@@ -145,6 +145,14 @@ end_back before older old now later done last end.Finished h =
     finished_back (inl ended) = inl ended
     finished_back (inr rose) = inr (rose_read_waits 1 older old now now later rose (later_itself now))
 end_back before older old now later done last _ h = h
+
+-- and so has one for which a filter may have refused
+pub ends_back : (filters : Filters) (before older old now : LinkState) → Later older old
+    → (done : List Entry) (last : Option Entry) (reason : End)
+    → EndsBy filters before old now done last reason → EndsBy filters before older now done last reason
+ends_back filters before older old now later done last reason (inl cause) =
+    inl (end_back before older old now later done last reason cause)
+ends_back filters before older old now later done last reason (inr refused) = inr refused
 
 -- the job that was there waits
 pended_on : {J : Type 0} (begins : J → Type 0) (pends : J → ℕ) (b c : Stage J) → JobPends pends b c
@@ -347,13 +355,13 @@ poll_waits {L} {C} {A} {J} pends {state} {begins} before a b c x y start s still
     on (Some left) is some = by_left left is (left == 0) refl
 
 -- a cause doesn't see the budget of the view before it
-pub cause_same : {L C A J : Type 0} (state : L → LinkState) (begins : J → Type 0) (pends : J → ℕ)
-    (before : LinkState) (from to : View L C A J) (budget : Option ℕ) (result : Progress)
-    → Cause state begins pends before
+pub cause_same : {L C A J : Type 0} (filters : Filters) (state : L → LinkState) (begins : J → Type 0)
+    (pends : J → ℕ) (before : LinkState) (from to : View L C A J) (budget : Option ℕ) (result : Progress)
+    → Cause filters state begins pends before
     (record from { session = record from.session { budget = budget } }) to result
-    → Cause state begins pends before from to result
-cause_same state begins pends before from to budget (progress.Ready reason) h = h
-cause_same state begins pends before from to budget (progress.Pending waiting.Read) h = h
-cause_same state begins pends before from to budget (progress.Pending waiting.Write) h = h
-cause_same state begins pends before from to budget (progress.Pending waiting.App) h = h
-cause_same state begins pends before from to budget (progress.Pending waiting.Budget) h = h
+    → Cause filters state begins pends before from to result
+cause_same filters state begins pends before from to budget (progress.Ready reason) h = h
+cause_same filters state begins pends before from to budget (progress.Pending waiting.Read) h = h
+cause_same filters state begins pends before from to budget (progress.Pending waiting.Write) h = h
+cause_same filters state begins pends before from to budget (progress.Pending waiting.App) h = h
+cause_same filters state begins pends before from to budget (progress.Pending waiting.Budget) h = h

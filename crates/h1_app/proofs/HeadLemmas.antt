@@ -1,6 +1,6 @@
 -- Steps that read a head.
-use Rattle.std.proofs.Common.{◌≡◌, ◌⊎◌, ℕ, ◌+◌, ◌≤◌, inl, inr, List, [], Bool, true, Option, None, IfNone, IsSome, Result, Ok, Err, refl, sym, ◌∙◌, ap, subst, arith}
-use Rattle.h1_app.specs.Words.{Poll, Ready, Pending, Error, LinkState, Rose, RequestView, SessionView, BodyState, allowance, Settings, Reply, Entry, Exchange, Outcome, Stage, Given, AfterRead, EndCause, IfTold, IsSetAlike}
+use Rattle.std.proofs.Common.{◌≡◌, ◌⊎◌, ℕ, ◌+◌, ◌≤◌, inl, inr, List, [], Bool, true, Option, Some, None, IfNone, IsSome, Result, Ok, Err, refl, sym, ◌∙◌, ap, subst, arith}
+use Rattle.h1_app.specs.Words.{End, Given, Poll, Ready, Pending, Error, LinkState, Rose, RequestView, SessionView, BodyState, allowance, Settings, Reply, Entry, Exchange, Outcome, Stage, AfterRead, EndCause, IfTold, IsSetAlike}
 use Rattle.h1_error.specs.declared.progress.Waiting.TheVariants as waiting
 use Rattle.h1_error.specs.declared.progress.End.TheVariants as end
 use Rattle.h1_server.specs.Requests.{ReadsRequest, HeadAnswer, BeginsNone}
@@ -11,7 +11,7 @@ use Rattle.h1_server.specs.declared.request.NoRequest.TheVariants.{Closed, IdleT
 use Rattle.h1_app.specs.declared.exchange.Stage.TheVariants as stage
 use Rattle.h1_app.specs.declared.exchange.Outcome.TheVariants as outcome
 use Rattle.h1_app.specs.Timely.{StepsInTime}
-use Rattle.h1_app.proofs.Words.{Accounted, SoundStage, IsAwaiting, Stepped, OutcomeCause, FewReadsNotReady}
+use Rattle.h1_app.proofs.Words.{Accounted, Chain, SoundStage, IsAwaiting, Stepped, SteppedWith, OutcomeCause, FewReadsNotReady, outcome_end, rules_with}
 use Rattle.h1_transcript.proofs.BehindLemmas.{read_map}
 use Rattle.h1_application.proofs.ReadLemmas.{budget_none}
 use Rattle.h1_app.proofs.AccountedLemmas.{told_ahead, told_lacks, accounted_received, moves_received, head_failed, all_done}
@@ -153,19 +153,21 @@ pub none_few : {L C : Type 0} {now : ℕ} (state : L → LinkState) (old new : S
 none_few state old new last answer h = let few = h.reads.few in omega (arith, few)
 
 -- a step that begins no exchange, whole
-pub none_stepped : {L C J : Type 0} (state : L → LinkState) (pends : J → ℕ)
+pub none_stepped : {L C J M : Type 0} (state : L → LinkState) (pends : J → ℕ)
     (gives : Given → Reply → Type 0)
-    (runs : J → RequestView → Settings → Settings → List ℕ → Type 0)
-    (now : ℕ) (shutdown : Bool) (x y : Exchange L J C) (answer : Poll (Result ReadRequest Error))
-    (result : Outcome)
+    (runs : J → RequestView → Settings → Settings → List ℕ → Type 0) (chain : Chain M)
+    (now : ℕ) (shutdown : Bool) (modules : List M) (x y : Exchange L J C)
+    (answer : Poll (Result ReadRequest Error)) (result : Outcome)
     → (h : AtHead state now x.session y.session x.transcript.last answer)
     → BeginsNone x.session y.session h.reads.bytes → y.transcript.last ≡ x.transcript.last
     → FewReadsNotReady (state x.session.link) (state y.session.link) [] [] result
     → StepsInTime state now x.stage y.stage x.session y.session None result
     → OutcomeCause state pends runs x.session y.session None x.stage y.stage result
-    → Stepped state pends gives runs now shutdown x y result
-none_stepped state pends gives runs now shutdown x y answer result h none same few timely outcome =
+    → SteppedWith state pends gives runs chain now shutdown modules x y result
+none_stepped state pends gives runs chain now shutdown modules x y answer result h none same few
+    timely outcome =
     let r = h.reads in
+    let stepped : Stepped state pends (rules_with gives chain) runs now shutdown x y result =
     record {
       moves = moves_received state x.session y.session r.bytes r.left r.received r.budget
           (ap (λ s. s.context) r.rest);
@@ -180,5 +182,12 @@ none_stepped state pends gives runs now shutdown x y answer result h none same f
           (record { closing = refl; pipelining = refl; reuses = refl; times = refl });
       reads_not_ready = rw (same, h.alone) few;
       timely = rw (same, h.alone) timely;
-      outcome = rw (same, h.alone) outcome;
-    }
+      outcome = rw (same, h.alone) (inl outcome);
+    } in
+    record {
+      stepped = stepped;
+      stand = rw (same, h.alone) (unless_ended (outcome_end result));
+    } where
+      unless_ended : (reason : Option End) → IfNone reason (Unit {0})
+      unless_ended None = tt
+      unless_ended (Some reason) = tt

@@ -1,9 +1,10 @@
 -- The reply's header is taken up, with the date and the flag of the poll.
-use Rattle.std.proofs.Common.{Bool, IfNone, IfSome, IsSome, List, None, Option, Result, Some, [], ap, append-nil, arith, false, is_none, length, length-append, not, refl, subst, sym, true, ℕ, ◌&&◌, ◌++◌, ◌+◌, ◌/◌, ◌<◌, ◌||◌, ◌∙◌, ◌∷◌, ◌≡◌}
-use Rattle.h1_app.specs.Words.{Body, Entry, Error, Given, HeaderCall, HeaderWrite, IsAllowed, IsDateAt, LawfulReplies, LinkState, Poll, Reply, Request, RequestView, ResponseView, SessionView, Stage, WritesHeader, YEAR_10000, begun, broken, given_to, has_reuses, head_bytes, how_stands, is_passed_over, is_whole, may_keep, out, reads, render_parts, reply_head, unfinished, whole, wish}
+use Rattle.std.proofs.Common.{Bool, IfNone, IfSome, IsSome, List, None, Ok, Option, Result, Some, [], ap, append-nil, arith, false, is_none, length, length-append, not, refl, subst, sym, true, ℕ, ◌&&◌, ◌++◌, ◌+◌, ◌/◌, ◌<◌, ◌||◌, ◌∙◌, ◌∷◌, ◌≡◌}
+use Rattle.h1_app.specs.Words.{Rules, Body, Entry, Error, HeaderCall, HeaderWrite, IsAllowed, IsDateAt, IsLawful, LinkState, Poll, Reply, Request, ResponseView, SessionView, Stage, WritesHeader, YEAR_10000, begun, broken, has_reuses, head_bytes, how_stands, is_passed_over, is_whole, may_keep, reads, render_parts, reply_head, unfinished, whole, wish}
 use Rattle.h1_fields.specs.Lines.{print_lines}
 use Rattle.h1_head.specs.Wire.{print_status_line}
 use Rattle.h1_server.specs.Persistence.{keep_flag}
+use Rattle.h1_body.specs.Framing.{out_to}
 use Rattle.httpdate.proofs.Theorems.{unix_secs_injective}
 use Rattle.h1_app.proofs.PartLemmas.{Part, WritesPart, replying}
 use Rattle.h1_app.proofs.ReplyLemmas.{ahead_wrote, at_none, at_some}
@@ -26,19 +27,19 @@ taken_up e header now text session =
 
 -- the call with the header handed in
 pub taking_header : {L C : Type 0} (state : L → LinkState) (old new : SessionView L C)
-    (request : Request) (reply : Reply) (header kept : Option ResponseView) (now : ℕ)
+    (request : Request) (sent : ResponseView) (kept : Option ResponseView) (now : ℕ)
     (outcome : Poll (Result (Unit {0}) Error))
-    → old.request ≡ Some request → IsUnwritten old.reply → header ≡ Some reply.header
+    → old.request ≡ Some request → IsUnwritten old.reply
     → IfNone old.reply.refused (IfSome old.request
-    (λ request. HeaderCall state old new request header kept now outcome
-    (is_passed_over header old.reply.headed)))
-    → HeaderWrite state old new request (Some reply.header) kept now outcome
-taking_header state old new request reply header kept now outcome asked unwritten is call =
-    subst (λ (passed : Bool). HeaderCall state old new request (Some reply.header) kept now outcome
-    passed) unwritten.headed
-    (rw is at (at_some (λ request. HeaderCall state old new request header kept now outcome
-    (is_passed_over header old.reply.headed)) old.request request asked
-    (at_none _ old.reply.refused unwritten.refused call)))
+    (λ request. HeaderCall state old new request (Some sent) kept now outcome
+    (is_passed_over (Some sent) old.reply.headed)))
+    → HeaderWrite state old new request (Some sent) kept now outcome
+taking_header state old new request sent kept now outcome asked unwritten call =
+    subst (λ (passed : Bool). HeaderCall state old new request (Some sent) kept now outcome passed)
+    unwritten.headed
+    (at_some (λ request. HeaderCall state old new request (Some sent) kept now outcome
+    (is_passed_over (Some sent) old.reply.headed)) old.request request asked
+    (at_none _ old.reply.refused unwritten.refused call))
 
 -- a second has one text
 same_date : (secs : ℕ) (text other : List ℕ) → IsDateAt secs text → IsDateAt secs other
@@ -101,21 +102,21 @@ all_written owed taking piece next bytes none some =
     omega (arith, all, no, some, length-append owed taking, length-append piece next)
 
 module _ {L C : Type 0} (state : L → LinkState) (now : ℕ) (old new : SessionView L C) (e : Entry)
-    (request : Request) (reply : Reply) (outcome : Poll (Result (Unit {0}) Error))
+    (request : Request) (reply sent : Reply) (outcome : Poll (Result (Unit {0}) Error))
     (text : List ℕ)
     (replied : IsReplied e old request reply)
-    (w : WritesHeader state old new request (Some reply.header) now outcome) where
+    (w : WritesHeader state old new request (Some sent.header) now outcome) where
   -- the header is the part that is written
   pub header_part : IsDateAt (now / 1000) text → e.sent_head ≡ None → e.sent_body ≡ None
       → WritesPart state now old new w.taking w.left e
-      (taken_up e reply.header now text new)
+      (taken_up e sent.header now text new)
   header_part dated no_head no_body =
-      let bytes : w.taking ≡ head_bytes (reply_head reply.header text new.keep) =
+      let bytes : w.taking ≡ head_bytes (reply_head sent.header text new.keep) =
       w.takes.bytes
-      ∙ ap (λ x. head_bytes (reply_head reply.header x
+      ∙ ap (λ x. head_bytes (reply_head sent.header x
       (keep_flag request.wish old.settings old.body)))
       (same_date (now / 1000) w.takes.date text w.takes.is_date dated)
-      ∙ ap (λ x. head_bytes (reply_head reply.header text x))
+      ∙ ap (λ x. head_bytes (reply_head sent.header text x))
       (sym (ap (λ s. s.keep) w.writes.rest)) in
       record {
         request = request;
@@ -124,48 +125,45 @@ module _ {L C : Type 0} (state : L → LinkState) (now : ℕ) (old new : Session
         flag = keep_flag request.wish old.settings old.body;
         writes = w.writes;
         counted = refl;
-        extra = head_bytes (reply_head reply.header text new.keep);
+        extra = head_bytes (reply_head sent.header text new.keep);
         bytes = ap (λ x. w.taking ++ coming x new.reply.writer) no_body ∙ append-nil w.taking
             ∙ bytes ∙ ap (λ x. coming x old.reply.writer
-            ++ head_bytes (reply_head reply.header text new.keep)) (sym no_body);
+            ++ head_bytes (reply_head sent.header text new.keep)) (sym no_body);
         renders = parts_headed e.head.method e.reply e.sent_body text e.date_text new.keep
-            e.keep e.sent_head reply.header no_body no_head;
+            e.keep e.sent_head sent.header no_body no_head;
         head = rw no_head tt;
         body = stays_itself e.sent_body;
         dated = rw no_head refl;
       }
 
-  -- the exchange is allowed with the header that the application's relation gives
-  pub header_allowed : (gives : Given → Reply → Type 0)
-      → IsDateAt (now / 1000) text → now < YEAR_10000 → LawfulReplies gives → IsAllowed gives e
-      → IsAllowed gives (replying e (taken_up e reply.header now text new))
-  header_allowed gives dated moment lawful a =
-      let given : (e.filtered ≡ Some e.head) × gives (given_to e e.head) reply =
-      at_some (λ reply. (e.filtered ≡ Some e.head) × gives (given_to e e.head) reply) e.reply
-      reply replied.is a.reply in
+  -- the exchange is allowed with the header that the filters make of the application's
+  pub header_allowed : (rules : Rules)
+      → IsDateAt (now / 1000) text → now < YEAR_10000 → IsAllowed rules e
+      → rules.filters.header e.head reply ≡ Ok sent.header → IsLawful sent.header
+      → IsAllowed rules (replying e (taken_up e sent.header now text new))
+  header_allowed rules dated moment a made lawful = record {
+    filtered = a.filtered;
+    reply = a.reply;
+    sent_head = (
+      reply,
+      replied.is,
+      made,
+      lawful,
       record {
-        filtered = a.filtered;
-        reply = a.reply;
-        sent_head = (
-          reply,
-          replied.is,
-          refl,
-          lawful (given_to e e.head) reply given.1,
-          record {
-            date = dated;
-            limit = omega arith;
-            keep = ap (λ s. s.keep) w.writes.rest ∙ keep_flag_is e old request reply replied;
-          },
-        );
-        sent_body = a.sent_body;
-        handed = a.handed;
-        reuses = a.reuses;
-        owed = λ owed. refl;
-      }
+        date = dated;
+        limit = omega arith;
+        keep = ap (λ s. s.keep) w.writes.rest ∙ keep_flag_is e old request reply replied;
+      },
+    );
+    sent_body = a.sent_body;
+    handed = a.handed;
+    reuses = a.reuses;
+    owed = λ owed. refl;
+  }
 
   -- the header is noted where no write was refused
   pub headed_noted : new.reply.refused ≡ None
-      → IsHeaded (replying e (taken_up e reply.header now text new)) new reply
+      → IsHeaded (replying e (taken_up e sent.header now text new)) new sent
   headed_noted refused = record {
     sent_head = refl;
     headed = w.takes.headed;
@@ -175,9 +173,9 @@ module _ {L C : Type 0} (state : L → LinkState) (now : ℕ) (old new : Session
   }
 
   -- the body's writer begins
-  pub header_begins : new.reply.writer ≡ fresh e reply
+  pub header_begins : new.reply.writer ≡ fresh e sent
   header_begins = w.takes.writer
-      ∙ ap (λ (x : RequestView). begun (out x.method reply.header)) replied.asked.header
+      ∙ ap (λ head_only. begun (out_to head_only sent.header)) replied.asked.head_only
 
   -- a header that is written spends of the budget
   pub header_ahead : {J : Type 0} (from : Stage J) → IsSome old.budget → new.reply.owed ≡ []
@@ -188,7 +186,7 @@ module _ {L C : Type 0} (state : L → LinkState) (now : ℕ) (old new : Session
       all_written old.reply.owed w.taking w.writes.sent.piece new.reply.owed w.writes.sent.bytes
       none
       (subst (λ xs. 0 < length xs) (sym w.takes.bytes)
-      (some_head (reply_head reply.header w.takes.date
+      (some_head (reply_head sent.header w.takes.date
       (keep_flag request.wish old.settings old.body)))) in
       subst (λ s. ahead {J = J} new.budget at.TakeBody < ahead old.budget s) (sym is)
       (ahead_wrote {J = J} state old new (keep_flag request.wish old.settings old.body) w.taking

@@ -1,10 +1,14 @@
 pub mod AgreesLemmas
+pub mod PlainCauses
 pub mod AnswerLemmas
 pub mod AskLemmas
 pub mod BeginLemmas
+pub mod StartLemmas
 pub mod SetLemmas
 pub mod TimelyLemmas
 pub mod BodyReplies
+pub mod BodySteps
+pub mod FilteredBody
 pub mod DrainEnds
 pub mod DrainLemmas
 pub mod DrainSteps
@@ -16,6 +20,7 @@ pub mod GoneLemmas
 pub mod HeadLemmas
 pub mod HeaderTaken
 pub mod LinkedLemmas
+pub mod ModulesLemmas
 pub mod ReplyLemmas
 pub mod ReplySteps
 pub mod CallSteps
@@ -28,6 +33,8 @@ pub mod WaitingLemmas
 pub mod NextLemmas
 pub mod SoundLemmas
 pub mod StepLemmas
+pub mod RefusedSteps
+pub mod FilterLemmas
 pub mod StoodLemmas
 pub mod TurnLemmas
 pub mod OthersLemmas

@@ -1,10 +1,10 @@
 -- What becomes of a connection where its last exchange is over and the next head is awaited.
 use Rattle.std.proofs.Common.{◌≡◌, ℕ, ◌+◌, ◌<◌, List, [], ◌∷◌, ◌++◌, length, Bool, true, false, Option, Some, None, refl, sym, ◌∙◌, ap, subst, append-nil, length-append, arith}
 use Rattle.std.proofs.lemmas.Bool.{false≢true}
-use Rattle.h1_app.specs.Words.{End, LinkState, RequestView, AwaitsNext, AfterRead, WithinRead, may_follow, one_less, BodyState, SessionView, Settings, Reply, Entry, Exchange, Stage, Given, AreBegun, IfTold, IsNextSet, reuses_at, IsAllowed, Extends}
+use Rattle.h1_app.specs.Words.{Filters, Given, Rules, End, LinkState, RequestView, AwaitsNext, AfterRead, WithinRead, may_follow, one_less, BodyState, SessionView, Settings, Reply, Entry, Exchange, Stage, AreBegun, IfTold, IsNextSet, reuses_at, IsAllowed, Extends}
 use Rattle.h1_app.specs.declared.exchange.Stage.TheVariants as stage
 use Rattle.h1_app.specs.declared.exchange.Outcome.TheVariants as outcome
-use Rattle.h1_app.proofs.Words.{Accounted, LastMayGoOn, JoinsNext, ReadSo, Turned, TurnCause, IsDoneIn, IsRestarted, Sound, SoundStage, IsDraining, MayGoOn, IsUnwritten, View, view_of, ahead}
+use Rattle.h1_app.proofs.Words.{Accounted, LastMayGoOn, JoinsNext, ReadSo, Turned, TurnCause, IsDoneIn, IsRestarted, Chain, Sound, SoundStage, SoundWith, rules_with, IsDraining, MayGoOn, IsUnwritten, View, view_of, ahead}
 use Rattle.h1_app.specs.Timely.{StepsInTime}
 use Rattle.h1_app.proofs.LeavesLemmas.{leaves_itself, never_noted}
 use Rattle.h1_app.proofs.ReplyLemmas.{moves_none}
@@ -25,7 +25,7 @@ ended_is session e d o = record {
   written = d.written;
   flushed = d.owed;
   sent_head = rw d.sent_head refl;
-  sent_body = rw d.sent_body refl;
+  sent_body = rw d.sent_body.1 refl;
   long = d.long;
   keep = o.keep;
   closes = o.closes;
@@ -65,14 +65,14 @@ next_set limit old new done e d a reuses begun =
     }
 
 -- the next head is awaited, and the connection is sound
-sound_joined : {L C J : Type 0} (gives : Given → Reply → Type 0)
+sound_joined : {L C J : Type 0} (rules : Rules)
     (runs : J → RequestView → Settings → Settings → List ℕ → Type 0) (limit : Option ℕ)
     (old new : SessionView L C) (done : List Entry) (e : Entry)
-    → Sound gives runs limit old done (Some e) stage.Next None
+    → Sound rules runs limit old done (Some e) stage.Next None
     → IsDraining e old → AwaitsNext old new
-    → Sound gives runs limit new (done ++ e ∷ []) None stage.Head None
-sound_joined gives runs limit old new done e s d a = record {
-  ended = all_join (IsAllowed gives) done e s.ended s.allowed;
+    → Sound rules runs limit new (done ++ e ∷ []) None stage.Head None
+sound_joined rules runs limit old new done e s d a = record {
+  ended = all_join (IsAllowed rules) done e s.ended s.allowed;
   allowed = tt;
   kept = tt;
   begun = subst (λ xs. AreBegun limit 0 false xs) (sym (append-nil (done ++ e ∷ []))) s.begun;
@@ -138,7 +138,7 @@ turned_joined state same_plan now shutdown from new e plan d o a =
     (ended_is from.session e d o) again s in
     record {
       gone = record {
-        app = refl;
+        served = refl;
         limit = refl;
         plan = rw again.link plan;
         moves = moves_none state from.session new again.link (ap (λ s. s.budget) a.rest)
@@ -170,44 +170,55 @@ turned_joined state same_plan now shutdown from new e plan d o a =
     }
 
 -- the last exchange is over where the next one begins
-pub over_next : {L C J : Type 0} (gives : Given → Reply → Type 0)
+pub over_next : {L C J : Type 0} (rules : Rules)
     (runs : J → RequestView → Settings → Settings → List ℕ → Type 0) (limit : Option ℕ)
     (session : SessionView L C) (done : List Entry) (last : Option Entry) (at : Stage J)
-    → Sound gives runs limit session done last at None → at ≡ stage.Next → LastMayGoOn session last
-over_next gives runs limit session done last at sound is = over_at sound.stage where
+    → Sound rules runs limit session done last at None → at ≡ stage.Next → LastMayGoOn session last
+over_next rules runs limit session done last at sound is = over_at sound.stage where
   over_at : SoundStage runs session last at → LastMayGoOn session last
   over_at h = rw is at h
 
-pub sound_next : {L C J : Type 0} (gives : Given → Reply → Type 0)
+sound_next : {L C J : Type 0} (rules : Rules)
     (runs : J → RequestView → Settings → Settings → List ℕ → Type 0) (limit : Option ℕ)
     (x y : Exchange L J C)
-    → Sound gives runs limit x.session x.transcript.done x.transcript.last x.stage None
+    → Sound rules runs limit x.session x.transcript.done x.transcript.last x.stage None
     → x.stage ≡ stage.Next → JoinsNext x y
-    → Sound gives runs limit y.session y.transcript.done y.transcript.last y.stage None
-sound_next gives runs limit x y s is h =
-    let over = over_next gives runs limit x.session x.transcript.done x.transcript.last x.stage s is in
-    rw (h.done, over.1, h.last, h.stage) (sound_joined gives runs limit x.session y.session
+    → Sound rules runs limit y.session y.transcript.done y.transcript.last y.stage None
+sound_next rules runs limit x y s is h =
+    let over = over_next rules runs limit x.session x.transcript.done x.transcript.last x.stage s is in
+    rw (h.done, over.1, h.last, h.stage) (sound_joined rules runs limit x.session y.session
     x.transcript.done over.0 (rw (is, over.1) at s) over.2 h.awaits)
+
+-- where no exchange is last, any modules may stand
+pub sound_next_with : {L C J M : Type 0} (gives : Given → Reply → Type 0)
+    (runs : J → RequestView → Settings → Settings → List ℕ → Type 0) (chain : Chain M) (limit : Option ℕ)
+    (x y : Exchange L J C) (modules : List M) → SoundWith gives runs chain limit x modules None
+    → x.stage ≡ stage.Next → JoinsNext x y → SoundWith gives runs chain limit y modules None
+sound_next_with gives runs chain limit x y modules s is h = record {
+  sound = sound_next (rules_with gives chain) runs limit x y s.sound is h;
+  stand = rw h.last tt;
+}
 
 -- what the step to the next exchange leaves
 pub turned_next : {L C A J : Type 0} (state : L → LinkState) (same_plan : L → L → Type 0)
-    (now : ℕ) (shutdown : Bool) (app : A) (limit : Option ℕ)
+    (now : ℕ) (shutdown : Bool) (served : A) (limit : Option ℕ)
     (x y : Exchange L J C) (first : Option End)
     → same_plan x.session.link x.session.link → LastMayGoOn x.session x.transcript.last
     → x.stage ≡ stage.Next → JoinsNext x y
-    → Turned state same_plan now shutdown (view_of app limit x first) (view_of app limit y None)
+    → Turned state same_plan now shutdown (view_of served limit x first) (view_of served limit y None)
     false
-turned_next state same_plan now shutdown app limit x y first plan over is h =
+turned_next state same_plan now shutdown served limit x y first plan over is h =
     rw (h.done, over.1, h.last, h.stage, is) (turned_joined state same_plan now shutdown
-    (view_of app limit x first) y.session over.0 plan over.2 over.3 h.awaits)
+    (view_of served limit x first) y.session over.0 plan over.2 over.3 h.awaits)
 
 -- and why it goes on
-pub caused_next : {L C A J : Type 0} (state : L → LinkState) (begins : J → Type 0) (pends : J → ℕ)
-    (app : A) (limit : Option ℕ) (x y : Exchange L J C) (first second : Option End)
+pub caused_next : {L C A J : Type 0} (filters : Filters) (state : L → LinkState)
+    (begins : J → Type 0) (pends : J → ℕ)
+    (served : A) (limit : Option ℕ) (x y : Exchange L J C) (first second : Option End)
     → LastMayGoOn x.session x.transcript.last → x.stage ≡ stage.Next → JoinsNext x y
-    → TurnCause state begins pends (view_of app limit x first) (view_of app limit y second)
+    → TurnCause filters state begins pends (view_of served limit x first) (view_of served limit y second)
     outcome.Done
-caused_next {J = J} state begins pends app limit x y first second over is h =
+caused_next {J = J} filters state begins pends served limit x y first second over is h =
     rw (h.done, over.1, h.stage, is) (
       nearer x.session.budget y.session.budget J (ap (λ s. s.budget) h.awaits.rest),
       (λ same. absurd (omega (arith, same, length-append x.transcript.done (over.0 ∷ [])))),

@@ -182,13 +182,13 @@ part_replied state now old new taking left e p request reply w r =
     record {
       asked = record {
         is = (ap (λ s. s.request) rest) ∙ r.asked.is;
-        header = r.asked.header;
+        filtered = r.asked.filtered;
+        head_only = r.asked.head_only;
         both = r.asked.both;
         wish = r.asked.wish;
         reuses = rw (ap (λ s. s.settings) rest) r.asked.reuses;
         body_error = rw (ap (λ s. s.body) rest) r.asked.body_error;
         handed = r.asked.handed;
-        filtered = r.asked.filtered;
         kept = rw (ap (λ s. s.body) rest) r.asked.kept;
         waits = rw (ap (λ s. s.body) rest) r.asked.waits;
         undrained = rw (ap (λ s. s.body) rest) r.asked.undrained;

@@ -95,11 +95,11 @@ settled_owed before now done e owed = by_head e.sent_head where
   by_head (Some head) = λ free. absurd (false≢true (sym free ∙ owed))
 
 -- the header goes on where the session keeps what was taken up
-pub headed_on : {L C : Type 0} (old new : SessionView L C) (e f : Entry) (reply : Reply)
+pub headed_on : {L C : Type 0} (old new : SessionView L C) (e f : Entry) (sent : Reply)
     → f.sent_head ≡ e.sent_head → f.keep ≡ e.keep → f.owed ≡ e.owed
     → new.reply.headed ≡ old.reply.headed → new.keep ≡ old.keep → new.reply.refused ≡ None
-    → IsHeaded e old reply → IsHeaded f new reply
-headed_on old new e f reply head keep owed headed kept refused h = record {
+    → IsHeaded e old sent → IsHeaded f new sent
+headed_on old new e f sent head keep owed headed kept refused h = record {
   sent_head = head ∙ h.sent_head;
   headed = headed ∙ h.headed;
   keep = keep ∙ h.keep ∙ sym kept;

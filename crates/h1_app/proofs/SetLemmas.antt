@@ -1,6 +1,6 @@
 -- What is set before a head is read is no matter to the step.
-use Rattle.std.proofs.Common.{◌≡◌, ℕ, List, Bool, Option, Some, None, refl}
-use Rattle.h1_app.specs.Words.{LinkState, RequestView, SessionView, Settings, Reply, Entry, Exchange, Outcome, Stage, Waiting, Given, BeginsWith, IsSetAlike}
+use Rattle.std.proofs.Common.{◌≡◌, inl, inr, ℕ, List, Bool, Option, Some, None, refl}
+use Rattle.h1_app.specs.Words.{Given, LinkState, RequestView, SessionView, Settings, Reply, Entry, Exchange, Outcome, Stage, Waiting, BeginsWith, IsSetAlike}
 use Rattle.h1_error.specs.declared.progress.Waiting.TheVariants as waiting
 use Rattle.h1_link.proofs.Laters.{keeps_itself}
 use Rattle.h1_app.specs.Outcome.{WaitsOn}
@@ -9,7 +9,7 @@ use Rattle.h1_app.specs.declared.exchange.Stage.TheVariants as stage
 use Rattle.h1_app.specs.declared.exchange.Outcome.TheVariants as outcome
 use Rattle.h1_app.proofs.BeginLemmas.{alike_on}
 use Rattle.h1_app.proofs.LinkedLemmas.{accounted_linked}
-use Rattle.h1_app.proofs.Words.{OutcomeCause, Stepped}
+use Rattle.h1_app.proofs.Words.{Chain, OutcomeCause, Stepped, SteppedWith, rules_with}
 
 begins_set : (a b c : Settings) (last behind : Option Entry) → IsSetAlike a b → BeginsWith b c last behind
     → BeginsWith a c last behind
@@ -42,15 +42,19 @@ module _ {L C J : Type 0} (state : L → LinkState) (pends : J → ℕ)
   outcome_set (outcome.Ends reason) h = h
 
 -- a step behind which these settings were set before it
-pub set_stepped : {L C J : Type 0} (state : L → LinkState) (pends : J → ℕ) (gives : Given → Reply → Type 0)
-    (runs : J → RequestView → Settings → Settings → List ℕ → Type 0) (now : ℕ) (shutdown : Bool)
-    (x y : Exchange L J C) (settings : Settings) (result : Outcome) → x.stage ≡ stage.Head
-    → IsSetAlike x.session.settings settings
-    → Stepped state pends gives runs now shutdown
+pub set_stepped : {L C J M : Type 0} (state : L → LinkState) (pends : J → ℕ)
+    (gives : Given → Reply → Type 0)
+    (runs : J → RequestView → Settings → Settings → List ℕ → Type 0) (chain : Chain M) (now : ℕ)
+    (shutdown : Bool) (modules : List M) (x y : Exchange L J C) (settings : Settings)
+    (result : Outcome) → x.stage ≡ stage.Head → IsSetAlike x.session.settings settings
+    → SteppedWith state pends gives runs chain now shutdown modules
     (record x { session = record x.session { settings = settings } }) y result
-    → Stepped state pends gives runs now shutdown x y result
-set_stepped {L} {C} state pends gives runs now shutdown x y settings result at alike s =
+    → SteppedWith state pends gives runs chain now shutdown modules x y result
+set_stepped {L} {C} state pends gives runs chain now shutdown modules x y settings result at alike
+    w =
     let set : SessionView L C = record x.session { settings = settings } in
+    let s = w.stepped in
+    let stepped : Stepped state pends (rules_with gives chain) runs now shutdown x y result =
     record {
       moves = record {
         read = s.moves.read;
@@ -70,8 +74,12 @@ set_stepped {L} {C} state pends gives runs now shutdown x y settings result at a
       begins_with = begins_set x.session.settings settings y.session.settings x.transcript.last
           y.transcript.last alike s.begins_with;
       reads_not_ready = s.reads_not_ready;
-      timely = timely_set state pends runs x.session y.session settings y.transcript.last x.stage y.stage now
-          result at s.timely;
-      outcome = outcome_set state pends runs x.session y.session settings y.transcript.last x.stage y.stage
-          result s.outcome;
-    }
+      timely = timely_set state pends runs x.session y.session settings y.transcript.last x.stage
+          y.stage now result at s.timely;
+      outcome = elim s.outcome [
+        | inl cause ↦ inl (outcome_set state pends runs x.session y.session settings
+            y.transcript.last x.stage y.stage result cause)
+        | inr refused ↦ inr refused
+      ];
+    } in
+    record { stepped = stepped; stand = w.stand }

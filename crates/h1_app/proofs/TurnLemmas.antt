@@ -1,10 +1,10 @@
 -- What one step makes of a connection: the exchange that is last goes on, or the next one is awaited.
-use Rattle.std.proofs.Common.{◌≡◌, ℕ, ◌+◌, ◌<◌, ◌≤◌, inl, inr, List, [], ◌∷◌, ◌++◌, length, Bool, false, Option, Some, None, IfNone, option_to_list, refl, sym, ◌∙◌, subst, append-nil, arith}
-use Rattle.h1_app.specs.Words.{AllByRecursion, End, LinkState, RequestView, SessionView, Settings, Reply, Entry, Exchange, Stage, Outcome, Given, AreBegun, BeginsWith, IsNextSet, IsSetAlike, ExtendsLast, replies}
+use Rattle.std.proofs.Common.{◌≡◌, ℕ, ◌+◌, ◌<◌, ◌≤◌, ◌⊎◌, inl, inr, List, [], ◌∷◌, ◌++◌, length, Bool, false, Option, Some, None, IfNone, option_to_list, refl, sym, ◌∙◌, subst, append-nil, arith}
+use Rattle.h1_app.specs.Words.{AllByRecursion, End, LinkState, RequestView, SessionView, Settings, Reply, Entry, Exchange, Stage, Outcome, Filters, Given, Rules, AreBegun, BeginsWith, IsNextSet, IsSetAlike, ExtendsLast, replies}
 use Rattle.h1_app.specs.declared.exchange.Stage.TheVariants as stage
 use Rattle.h1_app.specs.declared.exchange.Outcome.TheVariants as outcome
 use Rattle.h1_transcript.specs.Begun.{IsSetFor, pipelining_behind}
-use Rattle.h1_app.proofs.Words.{JobFrom, rank, Turned, TurnCause, outcome_end, stops, Sound, SoundStage, Stepped, OutcomeCause, FewReadsNotReady, view_of, IfAwaiting, Continues, JobNew, LeavesBy, one_where}
+use Rattle.h1_app.proofs.Words.{JobFrom, rank, Turned, TurnCause, outcome_end, stops, Chain, Sound, SoundStage, SoundWith, Stepped, SteppedWith, StepRefuses, OutcomeCause, rules_with, FewReadsNotReady, view_of, IfAwaiting, Continues, JobNew, LeavesBy, one_where}
 use Rattle.h1_app.proofs.LeavesLemmas.{noted_grows}
 use Rattle.h1_app.proofs.OthersLemmas.{awaits_head, still_last, others_stepped}
 use Rattle.h1_transcript.proofs.AloneLemmas.{join_none}
@@ -81,29 +81,32 @@ next_stepped runs limit now shutdown first second old session done last (Some b)
     let clash = h.0 in cc
 next_stepped runs limit now shutdown first second old session done last behind _ h extends begins next = tt
 
-if_none : {T : Type 0} (end : Option T) (P Q : Type 0) → (P → Q) → IfNone end P → IfNone end Q
+pub if_none : {T : Type 0} (end : Option T) (P Q : Type 0) → (P → Q) → IfNone end P → IfNone end Q
 if_none None P Q on p = on p
 if_none (Some reason) P Q on p = tt
 
 stage_stepped : {L C J : Type 0} (state : L → LinkState) (pends : J → ℕ)
-    (runs : J → RequestView → Settings → Settings → List ℕ → Type 0) (old new : SessionView L C)
-    (behind : Option Entry) (from to : Stage J) (result : Outcome)
+    (runs : J → RequestView → Settings → Settings → List ℕ → Type 0) (filters : Filters)
+    (old new : SessionView L C) (behind : Option Entry) (from to : Stage J) (result : Outcome)
     → OutcomeCause state pends runs old new behind from to result
+    ⊎ StepRefuses filters behind result
     → IfNone (outcome_end result) (SoundStage runs new behind to)
-stage_stepped state pends runs old new behind from to outcome.Done h = h.0
-stage_stepped state pends runs old new behind from to (outcome.Waits what) h = h.0
-stage_stepped state pends runs old new behind from to (outcome.Ends reason) h = tt
+stage_stepped state pends runs filters old new behind from to outcome.Done (inl h) = h.0
+stage_stepped state pends runs filters old new behind from to outcome.Done (inr h) = absurd h
+stage_stepped state pends runs filters old new behind from to (outcome.Waits what) (inl h) = h.0
+stage_stepped state pends runs filters old new behind from to (outcome.Waits what) (inr h) = absurd h
+stage_stepped state pends runs filters old new behind from to (outcome.Ends reason) h = tt
 
 -- a step of the exchange that is last leaves a sound connection
-pub sound_stepped : {L C J : Type 0} (gives : Given → Reply → Type 0)
+pub sound_stepped : {L C J : Type 0} (rules : Rules)
     (runs : J → RequestView → Settings → Settings → List ℕ → Type 0) (limit : Option ℕ)
     (state : L → LinkState) (pends : J → ℕ) (now : ℕ) (shutdown : Bool) (x y : Exchange L J C)
     (result : Outcome)
-    → Sound gives runs limit x.session x.transcript.done x.transcript.last x.stage None
-    → Stepped state pends gives runs now shutdown x y result → y.transcript.done ≡ x.transcript.done
-    → Sound gives runs limit y.session y.transcript.done y.transcript.last y.stage
+    → Sound rules runs limit x.session x.transcript.done x.transcript.last x.stage None
+    → Stepped state pends rules runs now shutdown x y result → y.transcript.done ≡ x.transcript.done
+    → Sound rules runs limit y.session y.transcript.done y.transcript.last y.stage
     (outcome_end result)
-sound_stepped gives runs limit state pends now shutdown x y result s made same = rw same (record {
+sound_stepped rules runs limit state pends now shutdown x y result s made same = rw same (record {
   ended = s.ended;
   allowed = made.allowed;
   kept = made.kept;
@@ -123,8 +126,22 @@ sound_stepped gives runs limit state pends now shutdown x y result s made same =
       rw (awaits_head runs x.session x.transcript.last x.stage s.stage none) at s.next
 
   staged : IfNone (outcome_end result) (SoundStage runs y.session y.transcript.last y.stage)
-  staged = stage_stepped state pends runs x.session y.session y.transcript.last x.stage y.stage
-      result made.outcome
+  staged = stage_stepped state pends runs rules.filters x.session y.session y.transcript.last x.stage
+      y.stage result made.outcome
+
+-- and one with modules
+pub sound_stepped_with : {L C J M : Type 0} (gives : Given → Reply → Type 0)
+    (runs : J → RequestView → Settings → Settings → List ℕ → Type 0) (chain : Chain M) (limit : Option ℕ)
+    (state : L → LinkState) (pends : J → ℕ) (now : ℕ) (shutdown : Bool) (x y : Exchange L J C)
+    (first second : List M) (result : Outcome) → SoundWith gives runs chain limit x first None
+    → SteppedWith state pends gives runs chain now shutdown second x y result
+    → y.transcript.done ≡ x.transcript.done
+    → SoundWith gives runs chain limit y second (outcome_end result)
+sound_stepped_with gives runs chain limit state pends now shutdown x y first second result s made same = record {
+  sound = sound_stepped (rules_with gives chain) runs limit state pends now shutdown x y result s.sound
+      made.stepped same;
+  stand = made.stand;
+}
 
 few_stepped : (old now : LinkState) (done : List Entry) (last behind : Option Entry)
     (result : Outcome)
@@ -139,23 +156,23 @@ few_stepped old now done last behind _ h =
     let after = replies_append done (option_to_list behind) in omega (arith, h, before, after)
 
 -- and what it leaves, whole
-pub turned_stepped : {L C A J : Type 0} {gives : Given → Reply → Type 0}
+pub turned_stepped : {L C A J : Type 0} {rules : Rules}
     {runs : J → RequestView → Settings → Settings → List ℕ → Type 0} (state : L → LinkState)
     (begins : J → Type 0) (pends : J → ℕ) (same_plan : L → L → Type 0) (now : ℕ) (shutdown : Bool)
-    (app : A) (limit : Option ℕ) (x y : Exchange L J C) (first : Option End) (result : Outcome)
+    (served : A) (limit : Option ℕ) (x y : Exchange L J C) (first : Option End) (result : Outcome)
     → SoundStage runs x.session x.transcript.last x.stage
-    → Stepped state pends gives runs now shutdown x y result
+    → Stepped state pends rules runs now shutdown x y result
     → Continues state same_plan begins pends x y result → LeavesBy state x y result
-    → Turned state same_plan now shutdown (view_of app limit x first)
-    (view_of app limit y (outcome_end result)) (stops result)
-turned_stepped {runs = runs} state begins pends same_plan now shutdown app limit x y first result
+    → Turned state same_plan now shutdown (view_of served limit x first)
+    (view_of served limit y (outcome_end result)) (stops result)
+turned_stepped {runs = runs} state begins pends same_plan now shutdown served limit x y first result
     sound s c leaves =
-    let from = view_of app limit x first in
-    let to = record (view_of app limit y (outcome_end result))
+    let from = view_of served limit x first in
+    let to = record (view_of served limit y (outcome_end result))
     { done = x.transcript.done } in
     let made : Turned state same_plan now shutdown from to (stops result) = record {
       gone = record {
-        app = refl;
+        served = refl;
         limit = refl;
         plan = c.plan;
         moves = s.moves;
@@ -188,16 +205,25 @@ new_job begins pends from (stage.Answer job) less (inr new) = new
 new_job begins pends from _ less h = tt
 
 -- and why it goes on, waits or ends
-pub caused_stepped : {L C A J : Type 0} (state : L → LinkState) (begins : J → Type 0)
+pub caused_stepped : {L C A J : Type 0} (filters : Filters) (state : L → LinkState)
+    (begins : J → Type 0)
     (pends : J → ℕ) (runs : J → RequestView → Settings → Settings → List ℕ → Type 0)
-    (same_plan : L → L → Type 0) (app : A) (limit : Option ℕ) (x y : Exchange L J C)
+    (same_plan : L → L → Type 0) (served : A) (limit : Option ℕ) (x y : Exchange L J C)
     (first second : Option End) (result : Outcome)
     → Continues state same_plan begins pends x y result
     → OutcomeCause state pends runs x.session y.session y.transcript.last x.stage y.stage result
-    → TurnCause state begins pends (view_of app limit x first) (view_of app limit y second) result
-caused_stepped state begins pends runs same_plan app limit x y first second outcome.Done c h =
-    (h.2, (λ _. h.1), new_job begins pends x.stage y.stage h.1 c.job)
-caused_stepped state begins pends runs same_plan app limit x y first second (outcome.Waits what) c
-    h = (c.done, h.1)
-caused_stepped state begins pends runs same_plan app limit x y first second (outcome.Ends reason) c
-    h = (c.done, λ since s. h since y.transcript.done s)
+    ⊎ StepRefuses filters y.transcript.last result
+    → TurnCause filters state begins pends (view_of served limit x first)
+    (view_of served limit y second) result
+caused_stepped filters state begins pends runs same_plan served limit x y first second outcome.Done c
+    (inl h) = (h.2, (λ _. h.1), new_job begins pends x.stage y.stage h.1 c.job)
+caused_stepped filters state begins pends runs same_plan served limit x y first second outcome.Done c
+    (inr h) = absurd h
+caused_stepped filters state begins pends runs same_plan served limit x y first second
+    (outcome.Waits what) c (inl h) = (c.done, h.1)
+caused_stepped filters state begins pends runs same_plan served limit x y first second
+    (outcome.Waits what) c (inr h) = absurd h
+caused_stepped filters state begins pends runs same_plan served limit x y first second
+    (outcome.Ends reason) c (inl h) = (c.done, λ since s. inl (h since y.transcript.done s))
+caused_stepped filters state begins pends runs same_plan served limit x y first second
+    (outcome.Ends reason) c (inr h) = (c.done, λ since s. inr h)

@@ -1,6 +1,6 @@
 -- How a session and the exchange that is last stand to each other until the application replies.
 use Rattle.std.specs.Prelude.{◌≡◌, ℕ, ◌^◌, ◌<◌, List, [], length, false, Some, None}
-use Rattle.h1_app.specs.Words.{wish, SessionView, Request, Outgoing, Entry}
+use Rattle.h1_app.specs.Words.{is_head, wish, SessionView, Request, Outgoing, Entry}
 use Rattle.h1_server.specs.Times.{new_times}
 use Rattle.h1_transfer.specs.declared.outgoing.Step.TheVariants as step
 
@@ -51,16 +51,17 @@ pub record IsAwaitingIn (session : Bare) : Type 0 where
 abbrev pub IsAwaiting : {L C : Type 0} → SessionView L C → Type 0
 IsAwaiting session = IsAwaitingIn (bare session)
 
--- the exchange is that of the session's request, and all payload that was read was handed in
+-- The exchange is that of the session's request, whose head the filters made, and all payload that
+-- was read was handed in.
 pub record IsAskedIn (e : Entry) (session : Bare) (request : Request) : Type 0 where
   pub is : session.request ≡ Some request
-  pub header : request.header ≡ e.head
+  pub filtered : e.filtered ≡ Some request.header
+  pub head_only : request.head_only ≡ is_head e.head.method
   pub both : request.both ≡ e.both
   pub wish : request.wish ≡ wish e.head e.both
   pub reuses : session.settings.reuses ≡ e.began.reuses
   pub body_error : e.body_error ≡ session.body.refused
   pub handed : e.handed ≡ length e.body
-  pub filtered : e.filtered ≡ Some e.head
   pub kept : session.body.kept ≡ None
   pub waits : session.body.waits ≡ false
   pub undrained : session.body.since.drain ≡ None

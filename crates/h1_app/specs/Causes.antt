@@ -1,6 +1,6 @@
 -- When each answer of a poll comes.
 use Rattle.std.specs.Prelude.{◌≡◌, ℕ, ◌+◌, ◌<◌, ◌≤◌, List, length, true, Some, None}
-use Rattle.h1_app.specs.Words.{Waiting, Progress, LinkState, Rose, RoseBy, raised, Entry, Stage, ToldGrowth, replies, LacksSo, OfLast, EndCause}
+use Rattle.h1_app.specs.Words.{Waiting, Progress, LinkState, Rose, RoseBy, raised, Entry, Stage, ToldGrowth, replies, LacksSo, OfLast, EndsBy, Filters}
 use Rattle.h1_error.specs.declared.progress.Waiting.TheVariants as waiting
 use Rattle.h1_error.specs.declared.progress.Progress.TheVariants as progress
 use Rattle.h1_app.specs.declared.exchange.Stage.TheVariants as stage
@@ -43,11 +43,11 @@ WaitCause begins pends before old now from to waiting.Budget = RoseBy CALL_BUDGE
     × ToldGrowth old.given now.given old.written now.written CALL_BUDGET
 
 -- when each answer of a poll comes; `before` is the link's state since which bytes count
-abbrev pub Cause : {L C A J : Type 0} → (L → LinkState) → (J → Type 0) → (J → ℕ) → LinkState
-    → View L C A J → View L C A J → Progress → Type 0
-Cause state begins pends before from to (progress.Pending what) =
+abbrev pub Cause : {L C A J : Type 0} → Filters → (L → LinkState) → (J → Type 0) → (J → ℕ)
+    → LinkState → View L C A J → View L C A J → Progress → Type 0
+Cause filters state begins pends before from to (progress.Pending what) =
     (to.end ≡ None)
     × WaitCause begins pends before (state from.session.link) (state to.session.link) from to what
-Cause state begins pends before from to (progress.Ready reason) =
+Cause filters state begins pends before from to (progress.Ready reason) =
     (to.end ≡ Some reason)
-    × EndCause before (state from.session.link) (state to.session.link) to.done to.last reason
+    × EndsBy filters before (state from.session.link) (state to.session.link) to.done to.last reason

@@ -1,6 +1,7 @@
 pub mod View
 pub mod Accounted
 pub mod Answering
+pub mod Filtering
 pub mod Replied
 pub mod Beginning
 pub mod Sound
@@ -17,5 +18,8 @@ pub mod Draining
 pub mod Work
 pub mod Timely
 pub mod Step
+pub mod FilterSteps
+pub mod NoModulesLaw
+pub mod LawfulModules
 pub mod Replying
 pub mod Words

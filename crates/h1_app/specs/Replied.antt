@@ -1,6 +1,6 @@
 -- How a session and the exchange that is last stand to each other once the application replied.
-use Rattle.std.specs.Prelude.{◌≡◌, ◌^◌, ◌<◌, [], true, false, Some, None}
-use Rattle.h1_app.specs.Words.{wish, WriterView, begun, after_piece, is_replied, may_follow, SessionView, out, whole, reads, is_until_close, Request, Step, Reply, Entry, how_of, is_short}
+use Rattle.std.specs.Prelude.{◌≡◌, ℕ, ◌^◌, ◌<◌, List, [], true, false, Some, None}
+use Rattle.h1_app.specs.Words.{wish, WriterView, begun, after_piece, is_replied, may_follow, SessionView, out, whole, reads, is_until_close, Request, Step, Reply, Entry, how_of, is_short, shown}
 use Rattle.h1_body.specs.Writer as writer
 use Rattle.h1_app.specs.Accounted.{coming}
 use Rattle.h1_transfer.specs.declared.outgoing.Step.TheVariants as step
@@ -17,34 +17,38 @@ pub record IsRepliedIn (e : Entry) (session : Bare) (request : Request)
 abbrev pub IsReplied : {L C : Type 0} → Entry → SessionView L C → Request → Reply → Type 0
 IsReplied e session request reply = IsRepliedIn e (bare session) request reply
 
--- the reply's header was taken up
-pub record IsHeadedIn (e : Entry) (session : Bare) (reply : Reply) : Type 0 where
-  pub sent_head : e.sent_head ≡ Some reply.header
+-- the header of what the filters made of the reply was taken up
+pub record IsHeadedIn (e : Entry) (session : Bare) (sent : Reply) : Type 0 where
+  pub sent_head : e.sent_head ≡ Some sent.header
   pub headed : session.reply.headed ≡ true
   pub keep : e.keep ≡ session.keep
   pub refused : session.reply.refused ≡ None
   pub owed : e.owed ≡ true
 
 abbrev pub IsHeaded : {L C : Type 0} → Entry → SessionView L C → Reply → Type 0
-IsHeaded e session reply = IsHeadedIn e (bare session) reply
+IsHeaded e session sent = IsHeadedIn e (bare session) sent
+
+-- the body of it is what goes out: nothing where that of the reply was empty
+abbrev pub IsBodied : Entry → Reply → Type 0
+IsBodied e sent = (bytes : List ℕ) × (e.sent_body ≡ Some bytes) × (sent.body ≡ shown e.reply bytes)
 
 -- the writer of the reply's body, with nothing taken up yet
 abbrev pub fresh : Entry → Reply → WriterView
-fresh e reply = begun (out e.head.method reply.header)
+fresh e sent = begun (out e.head.method sent.header)
 
 -- the same with the payload taken up
 abbrev pub filled : Entry → Reply → WriterView
-filled e reply = after_piece (fresh e reply) reply.body
+filled e sent = after_piece (fresh e sent) sent.body
 
 -- the end is not taken up yet, or it is owed, as of a reply that isn't short
 abbrev pub IsFinishing : {L C : Type 0} → Entry → SessionView L C → Reply → Step → Type 0
-IsFinishing e session reply step.Free =
-    (session.reply.owed ≡ []) × (session.reply.writer ≡ filled e reply)
-IsFinishing e session reply step.Finish =
-    (session.reply.writer ≡ record (filled e reply) { ended = true })
-    × (writer.is_short (filled e reply) ≡ false)
-IsFinishing e session reply step.Head = ⊥
-IsFinishing e session reply (step.Piece count) = ⊥
+IsFinishing e session sent step.Free =
+    (session.reply.owed ≡ []) × (session.reply.writer ≡ filled e sent)
+IsFinishing e session sent step.Finish =
+    (session.reply.writer ≡ record (filled e sent) { ended = true })
+    × (writer.is_short (filled e sent) ≡ false)
+IsFinishing e session sent step.Head = ⊥
+IsFinishing e session sent (step.Piece count) = ⊥
 
 -- The reply was written whole and flushed, and the request's body was not refused: what is left of
 -- the body may still be read.
@@ -55,11 +59,12 @@ pub record IsDrainingIn (e : Entry) (session : Bare) : Type 0 where
   pub reply : Reply
   pub replied : e.reply ≡ Some reply
   pub left : e.left ≡ session.settings
-  pub sent_head : e.sent_head ≡ Some reply.header
-  pub sent_body : e.sent_body ≡ Some reply.body
+  pub sent : Reply
+  pub sent_head : e.sent_head ≡ Some sent.header
+  pub sent_body : IsBodied e sent
   pub headed : session.reply.headed ≡ true
   pub keep : e.keep ≡ session.keep
-  pub framing : session.reply.writer.framing ≡ Some (out e.head.method reply.header)
+  pub framing : session.reply.writer.framing ≡ Some (out e.head.method sent.header)
   pub whole : is_replied session.reply ≡ true
   pub nothing : coming e.sent_body session.reply.writer ≡ []
   pub free : session.reply.step ≡ step.Free

@@ -1,6 +1,7 @@
 -- What a step that writes a part of a reply notes, and where its exchange stands then.
-use Rattle.std.specs.Prelude.{◌≡◌, ℕ, ◌/◌, Bool, true, Option, Some, None, Result, Ok, Err}
-use Rattle.h1_app.specs.Words.{Poll, Ready, Pending, Error, ResponseView, IsDateAt, Entry, Stage, Outcome}
+use Rattle.std.specs.Prelude.{◌≡◌, ℕ, ◌/◌, Bool, true, List, Option, Some, None, Result, Ok, Err}
+use Rattle.h1_app.specs.Words.{Poll, Ready, Pending, Error, ResponseView, IsDateAt, Entry, Reply, Stage, Outcome, shown}
+use Rattle.h1_app.specs.Beginning.{IsPieceOf}
 use Rattle.h1_error.specs.declared.progress.Waiting.TheVariants as waiting
 use Rattle.h1_error.specs.declared.progress.End.TheVariants as end
 use Rattle.h1_app.specs.declared.exchange.Outcome.TheVariants as outcome
@@ -26,3 +27,13 @@ NotesHeader None sent now keep written old new = IsDateAt (now / 1000) new.date_
       written = written;
     })
 NotesHeader (Some back) sent now keep written old new = new ≡ old
+
+-- what goes of a reply's body: nothing where its own is empty
+abbrev pub going : Reply → List ℕ → List ℕ
+going reply sent = shown (Some reply) sent
+
+-- what the filters made of the body is noted, and what goes of it is handed out, where it has bytes
+pub record NotesBody (reply : Reply) (sent : List ℕ) (piece : Option (List ℕ))
+    (old new : Entry) : Type 0 where
+  pub entry : new ≡ record old { sent_body = Some sent }
+  pub goes : IsPieceOf (going reply sent) piece

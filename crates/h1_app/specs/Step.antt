@@ -1,12 +1,13 @@
 -- What each step of an exchange asks for, and what it leaves.
-use Rattle.std.specs.Prelude.{◌≡◌, ℕ, ◌<◌, List, Bool, IsSome, IfSome, option_to_list, ◌-◌, ◌≤◌, ◌⊎◌, option_map}
-use Rattle.h1_app.specs.Words.{YEAR_10000, LinkState, RequestView, Settings, Reply, Entry, Exchange, Outcome, Given, LawfulReplies, BeginsWith, IsAllowed, ExtendsLast, Moved, SessionView, Stage}
+use Rattle.std.specs.Prelude.{◌≡◌, ℕ, ◌<◌, List, Bool, IsSome, IfSome, option_to_list, Option, ◌-◌, ◌≤◌, ◌⊎◌, option_map}
+use Rattle.h1_app.specs.Words.{YEAR_10000, LinkState, RequestView, Settings, Reply, Entry, Exchange, Outcome, Given, Filters, Rules, RefusesLast, BeginsWith, IsAllowed, ExtendsLast, Moved, SessionView, Stage}
 use Rattle.h1_app.specs.Accounted.{Accounted}
 use Rattle.h1_app.specs.Sound.{SoundStage, IsKept}
 use Rattle.h1_app.specs.Outcome.{OutcomeCause}
 use Rattle.h1_app.specs.Timely.{StepsInTime}
 use Rattle.h1_app.specs.Waits.{FewReadsNotReady, OthersFew}
 use Rattle.h1_app.specs.declared.exchange.Stage.TheVariants as stage
+use Rattle.h1_app.specs.declared.exchange.Outcome.TheVariants as outcome
 
 -- what was moved over the link, within the budget
 pub record MovesWithin {L C : Type 0} (state : L → LinkState)
@@ -27,24 +28,27 @@ JobFrom {J} begins pends from (stage.Answer job) =
 JobFrom begins pends from _ = Unit {0}
 
 -- what holds before each step
-pub record StepReady {L C J : Type 0} (gives : Given → Reply → Type 0)
+pub record StepReady {L C J : Type 0}
     (runs : J → RequestView → Settings → Settings → List ℕ → Type 0)
     (now : ℕ) (x : Exchange L J C) : Type 0 where
   -- the stage stands where the session and the last exchange do
   pub sound : SoundStage runs x.session x.transcript.last x.stage
-  -- the reply of the last exchange is one that the application gives
-  pub allowed : IfSome x.transcript.last (IsAllowed gives)
   -- the exchange says how much of its reply the session wrote
   pub kept : IfSome x.transcript.last (IsKept x.session)
-  pub lawful : LawfulReplies gives
   -- the poll has a budget
   pub budget : IsSome x.session.budget
   -- the moment can be written as a date
   pub moment : now < YEAR_10000
 
+-- a filter refused in a step, which ends the connection
+abbrev pub StepRefuses : Filters → Option Entry → Outcome → Type 0
+StepRefuses filters last outcome.Done = ⊥
+StepRefuses filters last (outcome.Waits what) = ⊥
+StepRefuses filters last (outcome.Ends reason) = RefusesLast filters last reason
+
 -- what each step leaves of the exchange that is last, and why it goes on, waits or ends
 pub record Stepped {L C J : Type 0} (state : L → LinkState) (pends : J → ℕ)
-    (gives : Given → Reply → Type 0)
+    (rules : Rules)
     (runs : J → RequestView → Settings → Settings → List ℕ → Type 0) (now : ℕ) (shutdown : Bool)
     (old new : Exchange L J C) (result : Outcome) : Type 0 where
   -- bytes moved only within the budget, and what the caller keeps stayed
@@ -53,7 +57,7 @@ pub record Stepped {L C J : Type 0} (state : L → LinkState) (pends : J → ℕ
   pub accounted : (before : LinkState) (done : List Entry)
       → Accounted state before old.session done old.transcript.last
       → Accounted state before new.session done new.transcript.last
-  pub allowed : IfSome new.transcript.last (IsAllowed gives)
+  pub allowed : IfSome new.transcript.last (IsAllowed rules)
   pub kept : IfSome new.transcript.last (IsKept new.session)
   -- the exchange that is last grew, or began
   pub extends : ExtendsLast now shutdown (state old.session.link)
@@ -67,9 +71,18 @@ pub record Stepped {L C J : Type 0} (state : L → LinkState) (pends : J → ℕ
   -- what it leaves of the waits for the link
   pub timely : StepsInTime state now old.stage new.stage old.session new.session
       new.transcript.last result
-  -- why it goes on, waits or ends
+  -- why it goes on, waits or ends; a filter may have refused
   pub outcome : OutcomeCause state pends runs old.session new.session new.transcript.last old.stage
-      new.stage result
+      new.stage result ⊎ StepRefuses rules.filters new.transcript.last result
+
+-- the same of a step in which no filter runs, whatever the filters are
+abbrev pub SteppedBy : {L C J : Type 0} → (L → LinkState) → (J → ℕ) → (Given → Reply → Type 0)
+    → (J → RequestView → Settings → Settings → List ℕ → Type 0) → ℕ → Exchange L J C
+    → Exchange L J C → Outcome → Type 0
+SteppedBy state pends gives runs now old new result = (filters : Filters) (shutdown : Bool)
+    → IfSome old.transcript.last (IsAllowed (record { gives = gives; filters = filters }))
+    → Stepped state pends (record { gives = gives; filters = filters }) runs now shutdown old new
+    result
 
 -- what continues through each step: the exchanges that ended, the link's plan and the job
 pub record Continues {L C J : Type 0} (state : L → LinkState) (same_plan : L → L → Type 0)

@@ -1,6 +1,6 @@
 -- What steps of a connection leave, one after the other.
 use Rattle.std.specs.Prelude.{◌≡◌, ℕ, ◌+◌, ◌*◌, ◌<◌, ◌≤◌, ◌==◌, length, Bool, true, false, Option, Some, None, if◌then◌else◌}
-use Rattle.h1_app.specs.Words.{End, Waiting, LinkState, Stage, Outcome, Exchange, EndCause, Extends, JoinAlone, replies}
+use Rattle.h1_app.specs.Words.{End, Waiting, LinkState, Stage, Outcome, Exchange, EndsBy, Filters, Extends, JoinAlone, replies}
 use Rattle.h1_error.specs.declared.progress.Waiting.TheVariants.{Budget}
 use Rattle.h1_app.specs.declared.exchange.Stage.TheVariants as stage
 use Rattle.h1_app.specs.declared.exchange.Outcome.TheVariants as outcome
@@ -37,7 +37,7 @@ AccountedFrom state at P =
 -- the connection went on from one view to the other
 pub record Gone {L C A J : Type 0} (state : L → LinkState) (same_plan : L → L → Type 0) (now : ℕ)
     (shutdown : Bool) (from to : View L C A J) : Type 0 where
-  pub app : to.app ≡ from.app
+  pub served : to.served ≡ from.served
   pub limit : to.limit ≡ from.limit
   pub plan : same_plan from.session.link to.session.link
   pub moves : MovesWithin state from.session to.session
@@ -83,15 +83,16 @@ JobNew begins (stage.Answer job) = begins job
 JobNew begins _ = Unit {0}
 
 -- why a step goes on, waits or ends
-abbrev pub TurnCause : {L C A J : Type 0} → (L → LinkState) → (J → Type 0) → (J → ℕ)
+abbrev pub TurnCause : {L C A J : Type 0} → Filters → (L → LinkState) → (J → Type 0) → (J → ℕ)
     → View L C A J → View L C A J → Outcome → Type 0
-TurnCause state begins pends from to outcome.Done =
+TurnCause filters state begins pends from to outcome.Done =
     (ahead to.session.budget to.stage < ahead from.session.budget from.stage)
     × (length to.done ≡ length from.done → rank to.stage < rank from.stage)
     × JobNew begins to.stage
-TurnCause state begins pends from to (outcome.Waits what) =
+TurnCause filters state begins pends from to (outcome.Waits what) =
     (to.done ≡ from.done)
     × WaitsOn state pends from.session to.session to.last from.stage to.stage what
-TurnCause state begins pends from to (outcome.Ends reason) =
+TurnCause filters state begins pends from to (outcome.Ends reason) =
     (to.done ≡ from.done) × AccountedFrom state to (λ before.
-    EndCause before (state from.session.link) (state to.session.link) to.done to.last reason)
+    EndsBy filters before (state from.session.link) (state to.session.link) to.done to.last
+    reason)

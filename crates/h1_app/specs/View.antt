@@ -5,9 +5,18 @@ use Rattle.h1_app.specs.Words.{End, SessionView, Entry, Exchange, Stage}
 use Rattle.h1_app.specs.Work.{Work, reads_head, work_at}
 use Rattle.h1_app.specs.declared.options.HttpServerOptions.{HttpServerOptions}
 
+-- an application with the builders of its modules
+pub record Served (A B : Type 0) : Type 0 where
+  pub app : A
+  pub builders : List B
+
+abbrev pub served_by : {A B : Type 0} → A → List B → Served A B
+served_by app builders = record { app = app; builders = builders }
+
+-- `A` is what is served: the application with its modules
 pub record View (L C A J : Type 0) : Type 0 where
   pub session : SessionView L C
-  pub app : A
+  pub served : A
   -- how many requests more than the first may be served; none is no limit
   pub limit : Option ℕ
   -- every exchange but the last
@@ -22,10 +31,10 @@ entries view = view.done ++ option_to_list view.last
 
 -- the view of a connection with this exchange
 abbrev pub view_of : {L C A J : Type 0} → A → Option ℕ → Exchange L J C → Option End → View L C A J
-view_of app limit x end =
+view_of served limit x end =
     record {
       session = x.session;
-      app = app;
+      served = served;
       limit = limit;
       done = x.transcript.done;
       last = x.transcript.last;
@@ -43,11 +52,11 @@ abbrev pub work_of : {L C A J : Type 0} → View L C A J → Work
 work_of view = work_at view.stage view.session
 
 -- a connection that read and wrote nothing yet
-pub record IsNewConnection {L C A J : Type 0} (application : A) (options : Option HttpServerOptions)
+pub record IsNewConnection {L C A J : Type 0} (server : A) (options : Option HttpServerOptions)
     (start : L) (made : View L C A J) : Type 0 where
   pub link : made.session.link ≡ start
   pub settings : made.session.settings ≡ record new_settings { reuses = limit_of options }
-  pub app : made.app ≡ application
+  pub served : made.served ≡ server
   pub limit : made.limit ≡ limit_of options
   pub done : made.done ≡ []
   pub last : made.last ≡ None

@@ -8,7 +8,7 @@ pub use Rattle.h1_app.specs.declared.steps.answering.Asked.{Asked}
 pub use Rattle.h1_application.specs.Application.{ReadsOnly, given_by, how_of, how_stands, payload_of}
 pub use Rattle.h1_body.specs.Body.{Body, ahead, broken, unfinished, whole}
 pub use Rattle.h1_body.specs.Chunks.{chunked}
-pub use Rattle.h1_body.specs.Framing.{framing, out}
+pub use Rattle.h1_body.specs.Framing.{framing, is_head, out}
 pub use Rattle.h1_body.specs.Laws.{GrowsTo}
 pub use Rattle.h1_body.specs.Read.{HasRead}
 pub use Rattle.h1_body.specs.Reader.{body, read_as, reads}
@@ -51,6 +51,8 @@ pub use Rattle.h1_transcript.specs.Exchange.{IsAllowed, IsDated, given_to, is_sh
 pub use Rattle.h1_transcript.specs.Given.{Given}
 pub use Rattle.h1_transcript.specs.Growth.{Extends, ExtendsLast, Grows, Stays}
 pub use Rattle.h1_transcript.specs.Lawful.{IsLawful, LawfulReplies}
+pub use Rattle.h1_transcript.specs.Refusals.{EndsBy, IsRefusedBy, RefusesLast}
+pub use Rattle.h1_transcript.specs.Rules.{ArePlain, Filters, LawfulRules, Rules}
 pub use Rattle.h1_transcript.specs.Told.{IfTold, ToldGrowth}
 pub use Rattle.h1_transcript.specs.declared.reply.Reply.{Reply}
 pub use Rattle.h1_transcript.specs.declared.transcript.Entry.{Entry}

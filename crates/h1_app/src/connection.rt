@@ -7,35 +7,50 @@ ghost use Rattle.h1_app.specs.Turn.{outcome_end};
 
 use crate::exchange::{Exchange, Outcome, Stage};
 use crate::steps::{next_exchange, step};
-use crate::{HttpServer, ServeHttp, Transcript};
+use crate::{HttpServer, LawfulFor, ServeHttp, Transcript};
 use h1_error::{End, Error, Progress, Waiting};
 use h1_link::Link;
+use h1_modules::HttpModuleCtx;
 use h1_server::{CALL_BUDGET, HttpSession};
 use std::alloc::Global;
 use std::marker::Model;
 use std::sync::Arc;
 
-/// A connection: a link, the application behind it, and what was read and written so far.
+/// A connection: a link, the application and the modules behind it, and what was read and written so
+/// far.
 #[derive(Drop)]
-pub struct Connection<L: Link + Drop, SV: ServeHttp<L, C> + Drop, B: Drop, C: Drop> {
+pub struct Connection<L, SV, B, C>
+where
+    L: Link + Drop,
+    SV: ServeHttp<L, C> + Drop,
+    B: LawfulFor<L, C, SV> + Drop,
+    C: Drop,
+{
     alloc: Global,
     server: Arc<HttpServer<SV, B>>,
+    /// The modules of the exchange that is last.
+    modules: HttpModuleCtx<B::Module>,
     exchange: Exchange<L, SV::Job, C>,
     end: Option<End>,
 }
 
-impl<L: Link + Drop, SV: ServeHttp<L, C> + Drop, B: Drop, C: Drop> Model
-    for Connection<L, SV, B, C> {
+impl<L, SV, B, C> Model for Connection<L, SV, B, C>
+where
+    L: Link + Drop,
+    SV: ServeHttp<L, C> + Drop,
+    B: LawfulFor<L, C, SV> + Drop,
+    C: Drop,
+{
     ghost use Rattle.std.specs.Arc.{arc_value};
-    ghost use Rattle.h1_app.specs.View.{View, limit_of};
+    ghost use Rattle.h1_app.specs.Filtering.{chain_of};
+    ghost use Rattle.h1_app.specs.FilterSteps.{SoundWith};
+    ghost use Rattle.h1_app.specs.View.{Served, View, limit_of, served_by};
 
-    ghost Value = { View L C SV SV.Job };
-
-    ghost use Rattle.h1_app.specs.Sound.{Sound};
+    ghost Value = { View L C (Served SV B) SV.Job };
 
     ghost view = { λ c. record {
       session = c.exchange.session;
-      app = (arc_value c.server).app;
+      served = served_by (arc_value c.server).app (arc_value c.server).modules;
       limit = limit_of (arc_value c.server).server_options;
       done = c.exchange.transcript.done;
       last = c.exchange.transcript.last;
@@ -43,17 +58,24 @@ impl<L: Link + Drop, SV: ServeHttp<L, C> + Drop, B: Drop, C: Drop> Model
       end = c.end;
     } };
 
-    ghost invariant = { λ c. Sound (SV.gives (arc_value c.server).app)
+    ghost invariant = { λ c. SoundWith (SV.gives (arc_value c.server).app)
         (SV.runs (arc_value c.server).app)
-        (limit_of (arc_value c.server).server_options) c.exchange.session
-        c.exchange.transcript.done c.exchange.transcript.last c.exchange.stage c.end };
+        (chain_of B.HttpModuleBuilder B.Module.HttpModule (arc_value c.server).modules)
+        (limit_of (arc_value c.server).server_options) c.exchange c.modules.modules c.end };
 }
 
-impl<L: Link + Drop, SV: ServeHttp<L, C> + Drop, B: Drop, C: Drop> Connection<L, SV, B, C> {
+impl<L, SV, B, C> Connection<L, SV, B, C>
+where
+    L: Link + Drop,
+    SV: ServeHttp<L, C> + Drop,
+    B: LawfulFor<L, C, SV> + Drop,
+    C: Drop,
+{
     ghost use Rattle.std.specs.Arc.{arc_value};
     ghost use Rattle.std.specs.Fn.{FnOnceTakesAtMut, FnOnceReturnsAtMut};
     ghost use Rattle.h1_link.specs.Later.{Later, KeepsBytes};
-    ghost use Rattle.h1_app.specs.View.{View, entries, IsNewConnection};
+    ghost use Rattle.h1_app.specs.Filtering.{rules_of};
+    ghost use Rattle.h1_app.specs.View.{View, entries, served_by, IsNewConnection};
     ghost use Rattle.h1_transcript.specs.Entries.{transcript_entries, replies};
     ghost use Rattle.h1_app.specs.Accounted.{Accounted};
     ghost use Rattle.h1_transcript.specs.Agrees.{Agrees};
@@ -68,7 +90,8 @@ impl<L: Link + Drop, SV: ServeHttp<L, C> + Drop, B: Drop, C: Drop> Connection<L,
     /// A connection of this server over a link.
     pub fn new(alloc: Global, server: Arc<HttpServer<SV, B>>, link: L) -> Result<Self, Error>
         ensures fresh { IsOkAnd result
-            (IsNewConnection (arc_value server).app (arc_value server).server_options link) }
+            (IsNewConnection (served_by (arc_value server).app (arc_value server).modules)
+            (arc_value server).server_options link) }
         ensures accounted { IfOk result
             (λ made. Accounted L.state (L.state link) made.session made.done made.last) }
     {
@@ -77,6 +100,7 @@ impl<L: Link + Drop, SV: ServeHttp<L, C> + Drop, B: Drop, C: Drop> Connection<L,
         Ok(Connection {
             alloc,
             server,
+            modules: HttpModuleCtx::empty(alloc),
             exchange: Exchange {
                 session,
                 transcript: Transcript::new(alloc),
@@ -91,13 +115,14 @@ impl<L: Link + Drop, SV: ServeHttp<L, C> + Drop, B: Drop, C: Drop> Connection<L,
     /// with keep-alive off, and is the last unless the application turns it on.
     pub fn poll(&mut self, now: u64, shutdown: bool) -> Progress
         requires { now < YEAR_10000 }
-        ensures app { (self.new.app ≡ self.old.app) × (self.new.limit ≡ self.old.limit) }
+        ensures served { (self.new.served ≡ self.old.served) × (self.new.limit ≡ self.old.limit) }
         ensures later { Later (L.state self.old.session.link) (L.state self.new.session.link) }
         ensures plan { L.same_plan self.old.session.link self.new.session.link }
         ensures context { self.new.session.context ≡ self.old.session.context }
         ensures accounted { AccountedFrom L.state self.old (λ before.
             Accounted L.state before self.new.session self.new.done self.new.last) }
-        ensures agrees { AccountedFrom L.state self.old (λ before. Agrees (SV.gives self.new.app)
+        ensures agrees { AccountedFrom L.state self.old (λ before.
+            Agrees (rules_of SV.gives B.HttpModuleBuilder B.Module.HttpModule self.new.served)
             self.new.limit before (L.state self.new.session.link) (entries self.new)) }
         ensures extends { Extends now shutdown (L.state self.old.session.link)
             (L.state self.new.session.link) (entries self.old) (entries self.new) }
@@ -117,9 +142,14 @@ impl<L: Link + Drop, SV: ServeHttp<L, C> + Drop, B: Drop, C: Drop> Connection<L,
         ensures leaves { IfNone self.old.end
             (Leaves (L.state self.old.session.link)
             (L.state self.new.session.link) self.new.last self.new.end) }
+        // An exchange whose head a filter refused, or that has no memory for its application, is
+        // the last of a connection that ended.
+        ensures given { IfNone self.new.end
+            (IfSome self.new.last (λ e. IsSome e.filtered)) }
         ensures timely { IfNone self.old.end (IsTimely L.state now self.old self.new result) }
         ensures cause { IfNone self.old.end (AccountedFrom L.state self.old (λ before.
-            Cause L.state SV.begins SV.pends before self.old self.new result)) }
+            Cause (rules_of SV.gives B.HttpModuleBuilder B.Module.HttpModule self.new.served).filters
+            L.state SV.begins SV.pends before self.old self.new result)) }
     {
         if let Some(end) = self.end {
             return Progress::Ready(end);
@@ -135,12 +165,14 @@ impl<L: Link + Drop, SV: ServeHttp<L, C> + Drop, B: Drop, C: Drop> Connection<L,
         requires budget { self.old.session.budget ≡ Some CALL_BUDGET }
         requires moment { now < YEAR_10000 }
         ensures turned { Turned L.state L.same_plan now shutdown self.old self.new true }
-        ensures sound { Sound (SV.gives self.new.app)
-            (SV.runs self.new.app) self.new.limit self.new.session self.new.done self.new.last
-            self.new.stage self.new.end }
+        ensures sound { Sound
+            (rules_of SV.gives B.HttpModuleBuilder B.Module.HttpModule self.new.served)
+            (SV.runs self.new.served.app) self.new.limit self.new.session self.new.done
+            self.new.last self.new.stage self.new.end }
         ensures timely { IsTimely L.state now self.old self.new result }
         ensures cause { AccountedFrom L.state self.old (λ before.
-            Cause L.state SV.begins SV.pends before self.old self.new result) }
+            Cause (rules_of SV.gives B.HttpModuleBuilder B.Module.HttpModule self.new.served).filters
+            L.state SV.begins SV.pends before self.old self.new result) }
     {
         loop {
             match self.turn(now, shutdown) {
@@ -160,19 +192,29 @@ impl<L: Link + Drop, SV: ServeHttp<L, C> + Drop, B: Drop, C: Drop> Connection<L,
         requires moment { now < YEAR_10000 }
         ensures turned { Turned L.state L.same_plan now shutdown self.old self.new
             (stops result) }
-        ensures sound { Sound (SV.gives self.new.app)
-            (SV.runs self.new.app) self.new.limit self.new.session self.new.done self.new.last
-            self.new.stage self.new.end }
+        ensures sound { Sound
+            (rules_of SV.gives B.HttpModuleBuilder B.Module.HttpModule self.new.served)
+            (SV.runs self.new.served.app) self.new.limit self.new.session self.new.done
+            self.new.last self.new.stage self.new.end }
         ensures end { self.new.end ≡ outcome_end result }
         ensures timely { TurnsInTime L.state now self.old self.new result }
-        ensures outcome { TurnCause L.state SV.begins SV.pends self.old self.new result }
+        ensures outcome { TurnCause
+            (rules_of SV.gives B.HttpModuleBuilder B.Module.HttpModule self.new.served).filters
+            L.state SV.begins SV.pends self.old self.new result }
     {
         let outcome = match self.exchange.stage {
             Stage::Next => {
                 next_exchange(&mut self.exchange);
                 Outcome::Done
             }
-            _ => step(self.alloc, &self.server, &mut self.exchange, now, shutdown),
+            _ => step(
+                self.alloc,
+                &self.server,
+                &mut self.modules,
+                &mut self.exchange,
+                now,
+                shutdown,
+            ),
         };
         keep_end(&mut self.end, outcome);
         outcome
@@ -233,6 +275,7 @@ impl<L: Link + Drop, SV: ServeHttp<L, C> + Drop, B: Drop, C: Drop> Connection<L,
         let Connection {
             alloc: _,
             server,
+            modules,
             exchange,
             end: _,
         } = self;

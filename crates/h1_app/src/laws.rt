@@ -21,10 +21,12 @@ ghost use Rattle.h1_app.specs.Causes.{Cause, PendedBy};
 ghost use Rattle.h1_transcript.specs.Ends.{EndCause};
 ghost use Rattle.h1_transcript.specs.Complete.{IsValid, GaveOf, AreWithin, NoFault, IsInTime, KeepsOn, ServesAll};
 ghost use Rattle.h1_transcript.specs.Stream.{Message};
-ghost use Rattle.h1_app.specs.View.{View};
+ghost use Rattle.h1_transcript.specs.Rules.{Filters};
+ghost use Rattle.h1_app.specs.View.{Served, View};
 
 use crate::ServeHttp;
 use h1_link::Link;
+use h1_modules::HttpModuleBuilder;
 
 /// After an exchange whose request was read whole and whose reply was written whole, the bytes that
 /// were received and not used are the input of the next one, and nothing is owed any more.
@@ -46,16 +48,18 @@ pub fn a_link_that_is_handed_on_goes_on<L: Link, C>()
         → IsRestarted old (applied (with_prefix settings prefix) fresh) }
 {}
 
-/// Valid input is served: where the application keeps the connection, the limit allows so many
-/// requests, no call of the link failed and no limit of time was reached, every end is that of a
-/// connection whose requests were all served, or out of memory.
+/// Valid input is served: where the application keeps the connection, whatever the filters make of
+/// its replies, the limit allows so many requests, no call of the link failed and no limit of time
+/// was reached, every end that is no refusal of a filter is that of a connection whose requests were
+/// all served, or out of memory.
 pub fn valid_input_is_served<L: Link + Drop, SV: ServeHttp<L, C> + Drop, C: Drop>()
-    ensures { (app : SV) (limit : Option ℕ) (before old now : LinkState) (input : List ℕ)
-        (requests : List Message)
+    ensures { (app : SV) (filters : Filters) (limit : Option ℕ) (before old now : LinkState)
+        (input : List ℕ) (requests : List Message)
         → (done : List Entry) (last : Option Entry) (reason : End)
         → IsValid input requests → GaveOf input before now → AreWithin limit (length requests)
         → NoFault old now → IsInTime now reason
-        → Agrees (SV.gives app) limit before now (done ++ option_to_list last)
+        → Agrees (record { gives = SV.gives app; filters = filters }) limit before now
+        (done ++ option_to_list last)
         → AllByRecursion KeepsOn (done ++ option_to_list last)
         → EndCause before old now done last reason
         → ServesAll before now requests done last reason }
@@ -63,9 +67,15 @@ pub fn valid_input_is_served<L: Link + Drop, SV: ServeHttp<L, C> + Drop, C: Drop
 
 /// A poll that met nothing that wasn't ready, in the link or in the application, waits for its budget
 /// alone: each of its calls moved bytes until it was spent.
-pub fn only_the_budget_is_awaited<L: Link + Drop, SV: ServeHttp<L, C> + Drop, C: Drop>()
-    ensures { (before : LinkState) (from to : View L C SV SV.Job) (what : Waiting)
-        → Cause L.state SV.begins SV.pends before from to (progress.Pending what)
+pub fn only_the_budget_is_awaited<L, SV, B, C>()
+where
+    L: Link + Drop,
+    SV: ServeHttp<L, C> + Drop,
+    B: HttpModuleBuilder + Drop,
+    C: Drop,
+    ensures { (filters : Filters) (before : LinkState) (from to : View L C (Served SV B) SV.Job)
+        (what : Waiting)
+        → Cause filters L.state SV.begins SV.pends before from to (progress.Pending what)
         → (Rose (L.state from.session.link).read_waits (L.state to.session.link).read_waits → ⊥)
         → (Rose (L.state from.session.link).write_waits (L.state to.session.link).write_waits → ⊥)
         → (PendedBy SV.begins SV.pends from.done to.done from.stage to.stage → ⊥)

@@ -1,34 +1,50 @@
 //! The server: an application with its modules.
-ghost use Rattle.std.specs.Prelude.{◌≡◌, None};
+ghost use Rattle.std.specs.Prelude.{◌≡◌, [], Err, IsOkUnless, None, OnErr, OnOk};
+ghost use Rattle.std.specs.Bool.{MatchBool};
+ghost use Rattle.h1_error.specs.Memory.{no_memory};
+ghost use Rattle.h1_modules.specs.Builders.{has_key, placed};
+ghost use Rattle.h1_modules.specs.Outcome.{duplicate};
 ghost use Rattle.std.specs.Option.{option_copied};
 ghost use Rattle.h1_app.specs.View.{limit_of};
 
 use crate::{HttpServerOptions, ServeHttp};
+use h1_error::Error;
 use h1_link::Link;
-
-/// A list of modules that stays empty.
-#[derive(Clone, Copy, Debug, PartialEq, Eq)]
-pub struct NoModules;
+use h1_modules::{HttpModuleBuilder, HttpModules, NoModules};
+use std::alloc::Global;
 
 /// An application with its modules.
 #[derive(Drop)]
-pub struct HttpServer<SV: Drop, B: Drop> {
+pub struct HttpServer<SV: Drop, B: HttpModuleBuilder + Drop> {
     pub(crate) app: SV,
-    modules: Option<B>,
+    pub(crate) modules: HttpModules<B>,
     pub server_options: Option<HttpServerOptions>,
 }
 
-impl<SV: Drop, B: Drop> HttpServer<SV, B> {
-    /// A server of this application, with no module and nothing set.
-    pub fn new_app(app: SV) -> Self
+impl<SV: Drop, B: HttpModuleBuilder + Drop> HttpServer<SV, B> {
+    /// A server of this application, with no module and nothing set. Takes no memory.
+    pub fn new_app(alloc: Global, app: SV) -> Self
         ensures app { result.app ≡ app }
+        ensures modules { result.modules ≡ [] }
         ensures options { result.server_options ≡ None }
     {
         HttpServer {
             app,
-            modules: None,
+            modules: HttpModules::new(alloc),
             server_options: None,
         }
+    }
+
+    /// Adds a module for the exchanges of this server. A second one of its key is refused with
+    /// `Duplicate`, and dropped; an error leaves the server as it was.
+    pub fn add_module(&mut self, builder: B) -> Result<(), Error>
+        ensures ok { OnOk result (self.new
+            ≡ record self.old { modules = placed B.order builder self.old.modules }) }
+        ensures refused { MatchBool (has_key B.key (B.key builder) self.old.modules)
+            (result ≡ Err duplicate) (IsOkUnless result no_memory) }
+        ensures same { OnErr result (self.new ≡ self.old) }
+    {
+        self.modules.add_module(builder)
     }
 
     /// How many requests more than the first a connection may serve; None is no limit.
@@ -46,12 +62,12 @@ impl<SV: Drop, B: Drop> HttpServer<SV, B> {
 pub trait HttpServerApp<L: Link + Drop, C: Drop> {
     type App: ServeHttp<L, C> + Drop;
 
-    type Builder: Drop;
+    type Builder: HttpModuleBuilder + Drop;
 
     ghost use Rattle.h1_app.specs.declared.server.HttpServer.{HttpServer};
 
     /// The server behind this value.
-    ghost served: { Self → HttpServer Self.App Self.Builder };
+    ghost served: { Self → HttpServer Self.App Self.Builder Self.Builder.Module };
 
     fn server(&self) -> &HttpServer<Self::App, Self::Builder>
         ensures { result.now ≡ served self.now };
@@ -63,8 +79,13 @@ pub trait HttpServerApp<L: Link + Drop, C: Drop> {
     fn http_cleanup(&self) {}
 }
 
-impl<L: Link + Drop, C: Drop, SV: ServeHttp<L, C> + Drop, B: Drop> HttpServerApp<L, C>
-    for HttpServer<SV, B> {
+impl<L, C, SV, B> HttpServerApp<L, C> for HttpServer<SV, B>
+where
+    L: Link + Drop,
+    C: Drop,
+    SV: ServeHttp<L, C> + Drop,
+    B: HttpModuleBuilder + Drop,
+{
     type App = SV;
 
     type Builder = B;
@@ -87,12 +108,13 @@ pub struct Plain<SV: Drop> {
 }
 
 impl<SV: Drop> Plain<SV> {
-    pub fn new(app: SV) -> Self
+    pub fn new(alloc: Global, app: SV) -> Self
         ensures app { result.server.app ≡ app }
+        ensures modules { result.server.modules ≡ [] }
         ensures options { result.server.server_options ≡ None }
     {
         Plain {
-            server: HttpServer::new_app(app),
+            server: HttpServer::new_app(alloc, app),
         }
     }
 

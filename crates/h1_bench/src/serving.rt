@@ -31,7 +31,7 @@ pub(crate) struct Served {
 pub(crate) fn serve(alloc: Global, bytes: &[u8], piece: usize, work: Work) -> Result<Served, Error>
     requires { 0 < piece }
 {
-    let server = Arc::new(alloc, HttpServer::new_app(EchoApp))?;
+    let server = Arc::new(alloc, HttpServer::new_app(alloc, EchoApp))?;
     let mut connection: Connection<MemLink, EchoApp, NoModules, ()> = Connection::new(
         alloc,
         server,

@@ -2,9 +2,11 @@
 ghost use Rattle.std.specs.Prelude.{◌<◌};
 ghost use Rattle.h1_error.specs.declared.moment.TheConstants.{YEAR_10000};
 
+mod acts;
 mod applications;
 mod failing;
 mod generated;
+mod modules;
 mod play;
 mod reuse;
 mod servers;
@@ -59,7 +61,7 @@ fn connect<L: Link + Drop, SV: ServeHttp<L, ()> + Drop>(
     limit: Option<u32>,
     link: L,
 ) -> Result<Served<L, SV>, Error> {
-    let mut server = HttpServer::new_app(app);
+    let mut server = HttpServer::new_app(alloc, app);
     server.server_options = Some(HttpServerOptions {
         keepalive_request_limit: limit,
         allow_connect_method_proxying: false,

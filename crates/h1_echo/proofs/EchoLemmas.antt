@@ -40,7 +40,7 @@ digit_is_text b small =
     let nul : (b == 0) ≡ false = ne_eqb b 0 (λ e. absurd (omega arith)) in
     rw (cr, lf, nul) refl
 
-digits_are_text : (bytes : List ℕ) → AllDigits 10 bytes → is_text bytes ≡ true
+pub digits_are_text : (bytes : List ℕ) → AllDigits 10 bytes → is_text bytes ≡ true
 digits_are_text [] h = refl
 digits_are_text (b ∷ bytes) h = rw (digit_is_text b h.0, digits_are_text bytes h.1) refl
 

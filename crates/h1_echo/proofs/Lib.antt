@@ -1,3 +1,3 @@
-mod EchoLemmas
+pub mod EchoLemmas
 pub mod RefusalLemmas
 pub mod Words

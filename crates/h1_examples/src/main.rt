@@ -137,6 +137,50 @@ const DEADLINE_EXAMPLES: [(&str, u8); 27] = [
     ("reply_has_no_deadline", 0),
 ];
 
+/// The examples whose server has modules, each with its exit status as above.
+const MODULE_EXAMPLES: [(&str, u8); 37] = [
+    ("mark", 0),
+    ("refusal", 0),
+    ("mark_byte_by_byte", 0),
+    ("refusal_byte_by_byte", 0),
+    ("refuse_without_modules", 0),
+    ("refuse_behind_a_mark", 0),
+    ("two_marks", 0),
+    ("two_marks_in_the_other_order", 0),
+    ("the_least_and_the_greatest_mark", 0),
+    ("the_greatest_refusal", 0),
+    ("a_mark_and_a_refusal_of_one_number", 0),
+    ("modules_among_other_lines", 0),
+    ("mark_of_two_replies", 0),
+    ("mark_of_a_reply_in_parts", 0),
+    ("mark_of_chunks", 0),
+    ("mark_until_close", 0),
+    ("mark_of_head", 0),
+    ("mark_of_a_short_reply", 0),
+    ("mark_of_a_broken_body", 0),
+    ("mark_and_a_fault_of_a_write", 0),
+    ("refusal_stays", 0),
+    ("refusal_behind_a_reply", 0),
+    ("refusal_leaves_the_body", 0),
+    ("refusal_of_head", 0),
+    ("refusal_of_the_whole_target", 0),
+    ("refused_head_is_no_refusal", 0),
+    ("refusal_by_the_first", 0),
+    ("refusal_by_the_second", 0),
+    ("refusal_by_the_last", 0),
+    ("first_of_three_refusals", 0),
+    ("first_of_two_refusals_behind_a_mark", 0),
+    ("mark_twice", 3),
+    ("refuse_twice", 3),
+    ("mark_without_a_number", 3),
+    ("module_of_no_kind", 3),
+    ("mark_of_33_bits", 3),
+    ("module_behind_a_poll", 3),
+];
+
+/// The lines of two modules that change nothing where no request is for `/refuse`.
+const IDLE_MODULES: &[u8] = b"module refuse 1\nmodule refuse 2\n";
+
 /// The command lines that read no script, each with its words and its exit status: `NAME.report` is
 /// expected.
 const COMMANDS: [(&str, &str, u8); 5] = [
@@ -149,17 +193,19 @@ const COMMANDS: [(&str, &str, u8); 5] = [
 
 fn main(rt: HostRuntime) -> io::Result<()> {
     for (name, status) in EXAMPLES {
-        let script = fs::read(&rt, format!(in rt.alloc(); "{name}.script")?)?;
-        let verdict = verdict(is_as_expected(&rt, name, "script", &script, status)?);
+        let verdict = verdict(is_example(&rt, name, status)?);
         println!(rt; "{name} {verdict}")?;
     }
     for (name, status) in LINK_EXAMPLES {
-        let script = fs::read(&rt, format!(in rt.alloc(); "{name}.script")?)?;
-        let verdict = verdict(is_as_expected(&rt, name, "script", &script, status)?);
+        let verdict = verdict(is_example(&rt, name, status)?);
         println!(rt; "{name} {verdict}")?;
     }
     for (name, status) in DEADLINE_EXAMPLES {
-        let script = fs::read(&rt, format!(in rt.alloc(); "{name}.script")?)?;
+        let verdict = verdict(is_example(&rt, name, status)?);
+        println!(rt; "{name} {verdict}")?;
+    }
+    for (name, status) in MODULE_EXAMPLES {
+        let script = script_of(&rt, name)?;
         let verdict = verdict(is_as_expected(&rt, name, "script", &script, status)?);
         println!(rt; "{name} {verdict}")?;
     }
@@ -172,6 +218,31 @@ fn main(rt: HostRuntime) -> io::Result<()> {
 
 fn verdict(as_expected: bool) -> &'static str {
     if as_expected { "ok" } else { "differs" }
+}
+
+/// The script of this name.
+fn script_of<R: Files + AllocGlobal>(rt: &R, name: &str) -> io::Result<Vec<u8>> {
+    fs::read(rt, format!(in rt.alloc(); "{name}.script")?)
+}
+
+/// Whether the script of this name is as expected, and so where the lines of two modules stand in
+/// front of it that change nothing. A line outside of the grammar is another one behind them.
+fn is_example<R: Files + AllocGlobal + Wait + Threads + Sync + Send + Clone + Drop>(
+    rt: &R,
+    name: &str,
+    status: u8,
+) -> io::Result<bool> {
+    let script = script_of(rt, name)?;
+    if !is_as_expected(rt, name, "script", &script, status)? {
+        return Ok(false);
+    }
+    if status != 0 {
+        return Ok(true);
+    }
+    let mut behind = Vec::new(rt.alloc());
+    behind.extend_from_slice(IDLE_MODULES)?;
+    behind.extend_from_slice(&script)?;
+    is_as_expected(rt, name, "script", &behind, status)
 }
 
 /// Whether the words of a line, over this script, end with this status and the report of this name.

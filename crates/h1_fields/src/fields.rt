@@ -70,7 +70,9 @@ impl Fields {
         }
     }
 
-    /// No lines, with room for that many, and for a first part of their text.
+    /// No lines, with room for that many, and for a first part of their text. It stands apart from
+    /// what reads each head.
+    #[inline(never)]
     pub fn with_capacity(alloc: Global, lines: usize) -> Result<Self, Error>
         ensures ok { IfOk result (λ fields. fields ≡ []) }
         ensures err { IsOkUnless result no_memory }

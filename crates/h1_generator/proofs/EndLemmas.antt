@@ -11,6 +11,7 @@ use Rattle.h1_error.specs.declared.progress.End.TheVariants as end
 use Rattle.h1_link.specs.Counts.{Rose}
 use Rattle.h1_link.specs.LinkState.{LinkState}
 use Rattle.h1_body.specs.Body.{unfinished, broken}
+use Rattle.h1_transcript.specs.Rules.{plain}
 use Rattle.h1_transcript.specs.declared.reply.Reply.{Reply}
 use Rattle.h1_transcript.specs.declared.transcript.Entry.{Entry}
 use Rattle.h1_transcript.specs.declared.transcript.How.{How}
@@ -19,7 +20,7 @@ use Rattle.h1_transcript.specs.Agrees.{Agrees, AreOf}
 use Rattle.h1_transcript.specs.Behind.{ReadBehind, AfterRead, is_until_close}
 use Rattle.h1_transcript.specs.Complete.{GaveOf, NoFault, IsInTime, KeepsOn, ServesAll}
 use Rattle.h1_transcript.specs.Ends.{EndCause, FailureCause, StopsLast, LastAfter, LastStands, AreAllDone, OfLast, ReadAll}
-use Rattle.h1_transcript.specs.Exchange.{IsAllowed, IsDated, given_to, is_short}
+use Rattle.h1_transcript.specs.Exchange.{IsDated, given_to, is_short}
 use Rattle.h1_transcript.specs.Lawful.{IsLawful}
 use Rattle.h1_head.specs.Views.{ResponseView}
 use Rattle.h1_body.specs.Framing.{out}
@@ -27,6 +28,7 @@ use Rattle.h1_body.specs.declared.framing.Framing.TheVariants as as_framing
 use Rattle.h1_transcript.specs.Stream.{Message, Begins, Parses, empty, begun}
 use Rattle.h1_transcript.specs.Told.{IfTold}
 use Rattle.h1_transcript.proofs.CompleteLemmas.{told_of, left_of, not_cut, not_broken}
+use Rattle.h1_transcript.proofs.PlainLemmas.{IsUnfiltered, all_plain}
 use Rattle.h1_transcript.proofs.ServedLemmas.{served}
 use Rattle.h1_echo.specs.Echo.{EchoGives, echo_reply}
 use Rattle.h1_generator.specs.Generated.{asked, generated}
@@ -41,7 +43,7 @@ use Rattle.h1_generator.proofs.ValidLemmas.{valid}
 pub record IsKnown (number : ℕ) (e : Entry) : Type 0 where
   pub small : number < 2 ^ 64
   pub asked_by : IsAskedBy number e
-  pub allowed : IsAllowed EchoGives e
+  pub allowed : IsUnfiltered EchoGives e
   pub kept : IsKeptOn e
 
 -- the reply of the echo application to such a request
@@ -143,7 +145,7 @@ keeps_all (e ∷ more) k none = (keeps k.0.0 e k.0.1 none.0, keeps_all more k.1 
 
 known_all : (number count : ℕ) (es : List Entry) → number + count < 2 ^ 64
     → AreAskedFrom number count es
-    → AllByRecursion (IsAllowed EchoGives) es → AllByRecursion IsKeptOn es → AllByRecursion Known es
+    → AllByRecursion (IsUnfiltered EchoGives) es → AllByRecursion IsKeptOn es → AllByRecursion Known es
 known_all number count [] small asked allowed kept = tt
 known_all number zero (e ∷ more) small asked allowed kept = absurd asked
 known_all number (suc count) (e ∷ more) small asked allowed kept = (
@@ -187,7 +189,7 @@ pub record Over (count : ℕ) (before old now : LinkState) (done : List Entry)
   pub gave : GaveOf (generated count) before now
   pub faultless : NoFault old now
   pub ready : IsReady old now
-  pub agrees : Agrees EchoGives None before now (done ++ option_to_list last)
+  pub agrees : Agrees (plain EchoGives) None before now (done ++ option_to_list last)
   pub kept : AllByRecursion IsKeptOn (done ++ option_to_list last)
   pub behind : IfTold before.given now.given (AfterRead done (λ rest. Unit {0}))
 
@@ -205,7 +207,8 @@ pub known_of : (count : ℕ) (before old now : LinkState) (done : List Entry) (l
     → Over count before old now done last → AllByRecursion Known (done ++ option_to_list last)
 known_of count before old now done last o =
     known_all 1 count (done ++ option_to_list last) (omega (arith, o.few))
-    (asked_of count before old now done last o) o.agrees.allowed o.kept
+    (asked_of count before old now done last o)
+    (all_plain EchoGives (done ++ option_to_list last) o.agrees.allowed) o.kept
 
 -- the bytes after the exchanges that ended are the requests that are left
 record Left (done : List Entry) (rest : List ℕ) (requests : List Message)
@@ -359,7 +362,7 @@ kept_ends : (count : ℕ) (before old now : LinkState) (done : List Entry) (last
     → EndCause before old now done last reason
     → ServesAll before now (messages count) done last reason
 kept_ends count before old now done last reason o none cause =
-    served EchoGives None before old now (generated count) (messages count) done last reason
+    served (plain EchoGives) None before old now (generated count) (messages count) done last reason
     (valid count o.few) o.gave tt o.faultless (in_time count before old now done last reason o none cause) o.agrees
     (keeps_all (done ++ option_to_list last) (known_of count before old now done last o) none) cause
 

@@ -14,6 +14,7 @@ use Rattle.h1_server.specs.SessionView.{SessionView}
 use Rattle.h1_server.specs.declared.settings.Settings.{Settings}
 use Rattle.h1_application.specs.Application.{GivesReply, given_by, payload_of}
 use Rattle.h1_transcript.specs.Exchange.{IsAllowed}
+use Rattle.h1_transcript.specs.Rules.{plain}
 use Rattle.h1_greeting.specs.Greeting.{Greeting, greeting}
 
 -- the line that states the length is refused only where memory ran out
@@ -31,7 +32,7 @@ only_memory error h =
     subst (λ fault. RefusedFor {T = Unit {0}} fault (Err error)) is_a_line h
 
 -- each reply of these exchanges is the greeting
-pub all_greeted : (entries : List Entry) → AllByRecursion (IsAllowed Greeting) entries
+pub all_greeted : (entries : List Entry) → AllByRecursion (IsAllowed (plain Greeting)) entries
     → All (λ e. IfSome e.reply (λ reply. reply ≡ greeting)) entries
 all_greeted entries allowed = All-from_recursion _ entries (each entries allowed)
   where
@@ -40,10 +41,10 @@ all_greeted entries allowed = All-from_recursion _ entries (each entries allowed
     of_reply None P is h = tt
     of_reply (Some r) P is h = is r h
 
-    each : (entries : List Entry) → AllByRecursion (IsAllowed Greeting) entries
+    each : (entries : List Entry) → AllByRecursion (IsAllowed (plain Greeting)) entries
         → AllByRecursion (λ e. IfSome e.reply (λ reply. reply ≡ greeting)) entries
     each [] h = tt
-    each (e ∷ more) h = (of_reply e.reply _ (λ r gives. gives.1.is) h.0.reply, each more h.1)
+    each (e ∷ more) h = (of_reply e.reply _ (λ r gives. gives.2.is) h.0.reply, each more h.1)
 
 -- a job greets, or there is no memory
 pub greets : {L C : Type 0} (old new : SessionView L C) (head : RequestView) (began : Settings)

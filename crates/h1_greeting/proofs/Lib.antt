@@ -1,2 +1,3 @@
 pub mod GreetingLemmas
 pub mod ServedLemmas
+pub mod StampLemmas

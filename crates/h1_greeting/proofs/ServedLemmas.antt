@@ -1,5 +1,5 @@
 -- What holds of a connection that is served, from poll to poll.
-use Rattle.std.proofs.Common.{◌≡◌, ℕ, ◌+◌, ◌<◌, ◌≤◌, ◌⊎◌, inl, inr, List, length, false, Option, Some, None, is_some, IsSome, refl, ◌∙◌, ap, subst, arith}
+use Rattle.std.proofs.Common.{◌≡◌, ℕ, ◌+◌, ◌<◌, ◌≤◌, ◌⊎◌, inl, inr, List, [], ◌++◌, length, false, Option, Some, None, is_some, IsSome, unwrap_or, refl, sym, ◌∙◌, ap, subst, arith}
 use Rattle.std.proofs.lemmas.Bool.{cases_lt, false≢true}
 use Rattle.h1_error.specs.declared.progress.End.{End}
 use Rattle.h1_error.specs.declared.progress.Progress.{Progress}
@@ -13,13 +13,14 @@ use Rattle.h1_link.specs.MemPlan.{SamePlan}
 use Rattle.h1_link.specs.MemRule.{Rule}
 use Rattle.h1_link.specs.MemState.{MemState, new_mem_state}
 use Rattle.h1_transcript.specs.Agrees.{Agrees}
+use Rattle.h1_transcript.specs.Rules.{Filters, Rules}
 use Rattle.h1_app.specs.Causes.{Cause, PendedNew, PendedOn, PendedBy}
 use Rattle.h1_app.specs.Accounted.{Accounted}
-use Rattle.h1_app.specs.View.{View, entries}
+use Rattle.h1_app.specs.View.{View, entries, limit_of, IsNewConnection}
+use Rattle.h1_app.specs.declared.options.HttpServerOptions.{HttpServerOptions}
 use Rattle.h1_transcript.specs.declared.transcript.Entry.{Entry}
 use Rattle.h1_app.specs.declared.exchange.Stage.{Stage}
 use Rattle.h1_app.specs.declared.exchange.Stage.TheVariants as stage
-use Rattle.h1_greeting.specs.Greeting.{Greeting}
 use Rattle.h1_greeting.specs.Polled.{Polled}
 
 -- the link ends after what is ahead, and takes all: neither was set since a call waited
@@ -29,16 +30,18 @@ pub record NeverWaits (link : MemState) : Type 0 where
   pub reads : link.reads_noted ≡ 0
   pub writes : link.writes_noted ≡ 0
 
--- the link was given these bytes and never waits, the transcript agrees with it since it was new, and
--- so many polls were made
-pub record IsServed {C A J : Type 0} (given : List ℕ) (polls : ℕ) (served : View MemState C A J)
-    : Type 0 where
+-- it is this server's, its link was given these bytes and never waits, the transcript agrees with the
+-- link since it was new, and so many polls were made
+pub record IsServed {C A J : Type 0} (rules : A → Rules) (server : A) (given : List ℕ) (polls : ℕ)
+    (served : View MemState C A J) : Type 0 where
+  pub same : served.served ≡ server
   pub put : served.session.link.put ≡ given
   pub ready : NeverWaits served.session.link
   pub limit : served.limit ≡ None
   pub accounted : Accounted (λ link. link.state) new_mem_state.state served.session served.done
       served.last
-  pub agrees : Agrees Greeting None new_mem_state.state served.session.link.state (entries served)
+  pub agrees : Agrees (rules server) None new_mem_state.state served.session.link.state
+      (entries served)
   pub polled : Polled polls served.end served.session.link.state
 
 pub unended : (end : Option End) → is_some end ≡ false → end ≡ None
@@ -98,42 +101,97 @@ no_pending from to before now h = by (cases_lt (length from) (length to)) where
   by (inr no_more) = no_wait before now (h.same (omega (arith, no_more, h.longer)))
 
 -- each poll that isn't the last moves bytes in 64 calls
-polled_on : {C A J : Type 0} (before : LinkState) (polls : ℕ) (from to : View MemState C A J)
-    (answer : Progress)
+polled_on : {C A J : Type 0} (filters : Filters) (before : LinkState) (polls : ℕ)
+    (from to : View MemState C A J) (answer : Progress)
     → polls < 1000 → from.end ≡ None → Polled polls from.end from.session.link.state
     → to.session.link.state.read_waits ≡ 0 → to.session.link.state.write_waits ≡ 0
-    → Cause (λ (link : MemState). link.state) (λ _. Unit {0}) (λ _. 0) before from to answer
+    → Cause filters (λ (link : MemState). link.state) (λ _. Unit {0}) (λ _. 0) before from to answer
     → Polled (polls + 1) to.end to.session.link.state
-polled_on before polls from to (Ready reason) small on was reads writes cause = rw cause.0 tt
-polled_on before polls from to (Pending waiting.Budget) small on was reads writes cause =
+polled_on filters before polls from to (Ready reason) small on was reads writes cause = rw cause.0 tt
+polled_on filters before polls from to (Pending waiting.Budget) small on was reads writes cause =
     rw cause.0 (let so = rw on at was in let rose = cause.1.0 in omega (arith, so, rose, small))
-polled_on before polls from to (Pending waiting.Read) small on was reads writes cause =
+polled_on filters before polls from to (Pending waiting.Read) small on was reads writes cause =
     let rose = cause.1.0 in absurd (omega (arith, rose, reads))
-polled_on before polls from to (Pending waiting.Write) small on was reads writes cause =
+polled_on filters before polls from to (Pending waiting.Write) small on was reads writes cause =
     let rose = cause.1.0 in absurd (omega (arith, rose, writes))
-polled_on before polls from to (Pending waiting.App) small on was reads writes cause =
+polled_on filters before polls from to (Pending waiting.App) small on was reads writes cause =
     absurd (no_pending from.done to.done from.stage to.stage cause.1.1)
 
+-- the link before its first call
+pub fed_link : (fresh fed ended : MemState) (given : List ℕ) → fresh ≡ new_mem_state
+    → fed ≡ record fresh { put = fresh.put ++ given; reads_noted = fresh.state.read_waits }
+    → ended ≡ record fed {
+      end_at = Some (unwrap_or fed.end_at (length fed.put));
+      reads_noted = fed.state.read_waits;
+    }
+    → ended ≡ record new_mem_state { put = given; end_at = Some (length given) }
+fed_link fresh fed ended given new made said =
+    said ∙ ap
+    (λ (l : MemState). record l {
+      end_at = Some (unwrap_or l.end_at (length l.put));
+      reads_noted = l.state.read_waits;
+    })
+    (made ∙ ap
+    (λ (l : MemState). record l { put = l.put ++ given; reads_noted = l.state.read_waits }) new)
+
+-- no exchange was begun, and nothing was read or written
+agrees_none : (rules : Rules) → Agrees rules None new_mem_state.state new_mem_state.state []
+agrees_none rules = record {
+  read = ([], refl, ([], tt, tt));
+  allowed = tt;
+  begun = tt;
+  written = ([], refl, refl);
+  done = tt;
+}
+
+-- before the first poll
+pub served_none : {C A J : Type 0} (rules : A → Rules) (server started : A) (given : List ℕ)
+    (options : Option HttpServerOptions) (link : MemState) (made : View MemState C A J)
+    → started ≡ server → options ≡ None
+    → link ≡ record new_mem_state { put = given; end_at = Some (length given) }
+    → IsNewConnection started options link made
+    → Accounted (λ (link : MemState). link.state) link.state made.session made.done made.last
+    → IsServed rules server given 0 made
+served_none rules server started given options link made starts unset fed new accounted =
+    let linked : made.session.link
+    ≡ record new_mem_state { put = given; end_at = Some (length given) } = new.link ∙ fed in
+    record {
+      same = new.served ∙ starts;
+      put = ap (λ (l : MemState). l.put) linked;
+      ready = subst NeverWaits (sym linked)
+          (record { end_at = refl; gate = refl; reads = refl; writes = refl });
+      limit = new.limit ∙ ap limit_of unset;
+      accounted = subst (λ s. Accounted (λ (link : MemState). link.state) s made.session made.done
+          made.last) (ap (λ (l : MemState). l.state) fed) accounted;
+      agrees = rw (new.done, new.last, linked) (agrees_none (rules server));
+      polled = rw (new.end) (omega arith);
+    }
+
 -- what held before a poll holds after it
-pub served_on : {C A J : Type 0} (given : List ℕ) (polls : ℕ) (from to : View MemState C A J)
-    (answer : Progress)
-    → IsServed given polls from → polls < 1000 → from.end ≡ None → to.limit ≡ from.limit
+pub served_on : {C A J : Type 0} (rules : A → Rules) (server : A) (given : List ℕ) (polls : ℕ)
+    (from to : View MemState C A J) (answer : Progress)
+    → IsServed rules server given polls from → polls < 1000 → from.end ≡ None
+    → (to.served ≡ from.served) × (to.limit ≡ from.limit)
     → SamePlan from.session.link to.session.link → Rule to.session.link
     → Accounted (λ link. link.state) new_mem_state.state to.session to.done to.last
-    → Agrees Greeting to.limit new_mem_state.state to.session.link.state (entries to)
-    → Cause (λ (link : MemState). link.state) (λ _. Unit {0}) (λ _. 0)
+    → Agrees (rules to.served) to.limit new_mem_state.state to.session.link.state (entries to)
+    → Cause (rules to.served).filters (λ (link : MemState). link.state) (λ _. Unit {0}) (λ _. 0)
     new_mem_state.state from to answer
-    → IsServed given (polls + 1) to
-served_on given polls from to answer was small on limit plan rule since agrees cause =
+    → IsServed rules server given (polls + 1) to
+served_on rules server given polls from to answer was small on same plan rule since agrees cause =
     let ready = ready_on from.session.link to.session.link plan was.ready in record {
+      same = same.0 ∙ was.same;
       put = plan.put ∙ was.put;
       ready = ready;
-      limit = limit ∙ was.limit;
+      limit = same.1 ∙ was.limit;
       accounted = since;
       agrees =
-          subst (λ l. Agrees Greeting l new_mem_state.state to.session.link.state (entries to))
-          (limit ∙ was.limit) agrees;
+          subst (λ l. Agrees (rules server) l new_mem_state.state to.session.link.state (entries to))
+          (same.1 ∙ was.limit)
+          (subst (λ s. Agrees (rules s) to.limit new_mem_state.state to.session.link.state
+          (entries to)) (same.0 ∙ was.same) agrees);
       polled =
-          polled_on new_mem_state.state polls from to answer small on was.polled
-          (no_reads to.session.link ready rule) (no_writes to.session.link ready rule) cause;
+          polled_on (rules to.served).filters new_mem_state.state polls from to answer small on
+          was.polled (no_reads to.session.link ready rule) (no_writes to.session.link ready rule)
+          cause;
     }

@@ -1,3 +1,5 @@
 pub mod Greeting
 pub mod GreetingLaw
 pub mod Polled
+pub mod Stamped
+pub mod StampedLaw

@@ -4,20 +4,18 @@ ghost use Rattle.std.specs.List.{All};
 ghost use Rattle.h1_error.specs.Memory.{no_memory};
 ghost use Rattle.h1_link.specs.MemState.{new_mem_state};
 ghost use Rattle.h1_transcript.specs.Agrees.{Agrees};
+ghost use Rattle.h1_transcript.specs.Rules.{plain};
 ghost use Rattle.h1_app.specs.View.{entries};
 ghost use Rattle.h1_greeting.specs.Greeting.{Greeting, greeting};
 ghost use Rattle.h1_greeting.specs.Polled.{Polled};
 
+use crate::serving::{MOST_POLLS, serve};
 use futures::task::Poll;
 use h1_app::{BodyBytes, Connection, HttpServer, HttpSession, NoModules, Reply, ServeHttp};
 use h1_error::Error;
 use h1_head::ResponseHeader;
 use h1_link::{Link, MemLink};
 use std::alloc::Global;
-use std::sync::Arc;
-
-/// How often [`greet`] polls at most.
-pub const MOST_POLLS: u32 = 1_000;
 
 /// Greets whatever is asked. It lets the next request follow at once, and reads no body.
 #[derive(Clone, Copy, Debug, PartialEq, Eq)]
@@ -76,7 +74,7 @@ pub fn greet(alloc: Global, given: &[u8]) -> Result<Greeted, Error>
         (λ served. served.session.link.state.given
         ≡ Some (take served.session.link.state.bytes_in given.now)) }
     ensures agrees { IfOk result
-        (λ served. Agrees Greeting None new_mem_state.state served.session.link.state
+        (λ served. Agrees (plain Greeting) None new_mem_state.state served.session.link.state
         (entries served)) }
     ensures greeted { IfOk result
         (λ served. All (λ exchange. IfSome exchange.reply (λ reply. reply ≡ greeting))
@@ -87,18 +85,5 @@ pub fn greet(alloc: Global, given: &[u8]) -> Result<Greeted, Error>
         (λ served. Polled MOST_POLLS served.end served.session.link.state) }
     ensures err { IfErr result (λ error. error ≡ no_memory) }
 {
-    let mut link = MemLink::new(alloc);
-    link.give(given)?;
-    link.end();
-    let server = Arc::new(alloc, HttpServer::new_app(Greets))?;
-    let mut connection = Connection::new(alloc, server, link)?;
-    for _ in 0..MOST_POLLS {
-        if connection.end().is_some() {
-            break;
-        }
-        connection.poll(0, false);
-        connection.link().rule();
-    }
-    connection.link().rule();
-    Ok(connection)
+    serve(alloc, HttpServer::new_app(alloc, Greets), given)
 }

@@ -17,17 +17,20 @@ use Rattle.h1_words.specs.declared.command.Command.TheVariants as command
 use Rattle.h1_transcript.specs.declared.transcript.Entry.{Entry}
 use Rattle.h1_transcript.specs.Behind.{ReadBehind, WroteBehind, FlushedBy}
 use Rattle.h1_transcript.specs.Ends.{EndCause, ReadAll}
-use Rattle.h1_echo.specs.Echo.{EchoGives}
+use Rattle.h1_transcript.specs.Refusals.{EndsBy}
+use Rattle.h1_transcript.specs.Rules.{Filters}
 use Rattle.h1_transcript.specs.Exchange.{IsAllowed}
 use Rattle.h1_transcript.specs.Growth.{DatedAt, IsBegun, Extends}
 use Rattle.h1_transcript.specs.Stream.{empty}
 use Rattle.h1_transcript.proofs.CompleteLemmas.{told_of}
-use Rattle.h1_serve.specs.State.{State, new_link, start_with, transcript}
+use Rattle.h1_serve.specs.State.{State, new_link, start_with, rules, transcript}
 use Rattle.h1_app.specs.Timely.{EndsInTime, IsLateHead}
 use Rattle.h1_app.specs.Work.{head_since}
 use Rattle.h1_serve.specs.PollLine.{AnswerCause, AnswersInTime, Polls, poll_line, work_before}
 use Rattle.h1_serve.specs.ExchangeText.{exchanges_lines, wrote_line}
-use Rattle.h1_serve.specs.Report.{Lines, IsTextOf, limit_in}
+use Rattle.h1_marking.specs.Marking.{marking_rules}
+use Rattle.h1_marking.specs.declared.builder.MarkingBuilder.{MarkingBuilder}
+use Rattle.h1_serve.specs.Report.{Obeys, Lines, IsTextOf, limit_in, modules_in}
 use Rattle.h1_serve.specs.Finished.{ArePolledAt, IsFinished, IsBehindPolls}
 use Rattle.h1_serve.proofs.SinceLemmas.{IsSinceHere, never_late, since_before, since_behind}
 use Rattle.h1_serve.proofs.AlikeLemmas.{IsDatedBy, AreEnded, alike, alike_lines, alike_written}
@@ -68,7 +71,7 @@ record StandsFinished (polled : List ℕ) (s : State) : Type 0 where
   ended : s.link.ended ≡ true
   given : s.link.given ≡ Some polled
   cause : EndCause new_link s.link s.link s.done s.last end.Finished
-  allowed : AllByRecursion (IsAllowed EchoGives) (transcript s)
+  allowed : AllByRecursion (IsAllowed (rules s)) (transcript s)
 
 -- what holds between two commands
 record Holds (moment : ℕ) (polled : List ℕ) (s : State) : Type 0 where
@@ -76,6 +79,13 @@ record Holds (moment : ℕ) (polled : List ℕ) (s : State) : Type 0 where
   -- a head is waited for since no other moment
   since : s.end ≡ None → IsSinceHere moment (head_since s.work)
   finished : s.end ≡ Some end.Finished → StandsFinished polled s
+
+-- no refusal finishes a connection
+not_refused : (filters : Filters) (old now : LinkState) (done : List Entry) (last : Option Entry)
+    → EndsBy filters new_link old now done last end.Finished
+    → EndCause new_link old now done last end.Finished
+not_refused filters old now done last (inl cause) = cause
+not_refused filters old now done last (inr refuses) = absurd refuses
 
 -- a poll that answered that the connection finished has its cause: the link ended
 finished_by : (moment : ℕ) (s t : State) (answer : Progress) → IsSinceHere moment (head_since s.work)
@@ -86,8 +96,8 @@ finished_by moment s t (progress.Pending what) here timely cause is = absurd (ne
   never e f = cc
 finished_by moment s t (progress.Ready reason) here timely cause is =
     let same : reason ≡ end.Finished = one cause.0 is in
-    let ends : EndCause new_link s.link t.link t.done t.last end.Finished =
-    subst (EndCause new_link s.link t.link t.done t.last) same cause.2 in
+    let ends = not_refused (rules t).filters s.link t.link t.done t.last
+    (subst (EndsBy (rules t).filters new_link s.link t.link t.done t.last) same cause.2) in
     let in_time : EndsInTime moment s.link t.link (work_before s t) t.work t.last end.Finished =
     subst (EndsInTime moment s.link t.link (work_before s t) t.work t.last) same timely in
     let ended = by in_time.moved in_time.ends in
@@ -161,12 +171,14 @@ polled_in put polled (command.FaultRead ∷ more) = polled_in put polled more
 polled_in put polled (command.FaultWrite ∷ more) = polled_in put polled more
 polled_in put polled (command.Shutdown ∷ more) = polled_in put polled more
 polled_in put polled (command.Limit count ∷ more) = polled_in put polled more
+polled_in put polled (command.Mark number ∷ more) = polled_in put polled more
+polled_in put polled (command.Refuse number ∷ more) = polled_in put polled more
 
 -- and where the exchanges, the link and the end stay
 same_holds : (moment : ℕ) (polled : List ℕ) (s t : State) → t.done ≡ s.done → t.last ≡ s.last
-    → t.link ≡ s.link → t.end ≡ s.end → t.work ≡ s.work
+    → t.link ≡ s.link → t.end ≡ s.end → t.work ≡ s.work → t.modules ≡ s.modules
     → Holds moment polled s → Holds moment polled t
-same_holds moment polled s t done last link ends work h =
+same_holds moment polled s t done last link ends work modules h =
     let entries : transcript t ≡ transcript s =
     ap (λ es. es ++ option_to_list t.last) done ∙ ap (λ e. s.done ++ option_to_list e) last in
     record {
@@ -178,7 +190,7 @@ same_holds moment polled s t done last link ends work h =
             ended = ap (λ (l : LinkState). l.ended) link ∙ was.ended;
             given = ap (λ (l : LinkState). l.given) link ∙ was.given;
             cause = rw (link, done, last) was.cause;
-            allowed = subst (AllByRecursion (IsAllowed EchoGives)) (sym entries) was.allowed;
+            allowed = rw modules (subst (AllByRecursion (IsAllowed (rules s))) (sym entries) was.allowed);
           };
     }
 
@@ -189,32 +201,36 @@ lines_hold moment [] s polled text t at holds h = subst (Holds moment polled) (s
 lines_hold moment (command.Give bytes ∷ more) s polled text t at holds h =
     let next : State = record s { put = s.put ++ bytes } in
     let lines : Lines next more h.2 t = subst (λ s. Lines s more h.2 t) h.4.1 h.5 in
-    lines_hold moment more next polled h.2 t at (same_holds moment polled s next refl refl refl refl refl holds) lines
+    lines_hold moment more next polled h.2 t at (same_holds moment polled s next refl refl refl refl refl refl holds) lines
 lines_hold moment (command.End ∷ more) s polled text t at holds h =
     let next : State = record s { said = true } in
     let lines : Lines next more h.2 t = subst (λ s. Lines s more h.2 t) h.4.1 h.5 in
-    lines_hold moment more next polled h.2 t at (same_holds moment polled s next refl refl refl refl refl holds) lines
+    lines_hold moment more next polled h.2 t at (same_holds moment polled s next refl refl refl refl refl refl holds) lines
 lines_hold moment (command.Room count ∷ more) s polled text t at holds h =
     let next : State = record s { gate = Room (s.link.bytes_out + count) } in
     let lines : Lines next more h.2 t = subst (λ s. Lines s more h.2 t) h.4.1 h.5 in
-    lines_hold moment more next polled h.2 t at (same_holds moment polled s next refl refl refl refl refl holds) lines
+    lines_hold moment more next polled h.2 t at (same_holds moment polled s next refl refl refl refl refl refl holds) lines
 lines_hold moment (command.Block ∷ more) s polled text t at holds h =
     let next : State = record s { gate = Blocked } in
     let lines : Lines next more h.2 t = subst (λ s. Lines s more h.2 t) h.4.1 h.5 in
-    lines_hold moment more next polled h.2 t at (same_holds moment polled s next refl refl refl refl refl holds) lines
+    lines_hold moment more next polled h.2 t at (same_holds moment polled s next refl refl refl refl refl refl holds) lines
 lines_hold moment (command.FaultRead ∷ more) s polled text t at holds h =
     let next : State = record s { reads_due = raised s.link.read_faults 1 } in
     let lines : Lines next more h.2 t = subst (λ s. Lines s more h.2 t) h.4.1 h.5 in
-    lines_hold moment more next polled h.2 t at (same_holds moment polled s next refl refl refl refl refl holds) lines
+    lines_hold moment more next polled h.2 t at (same_holds moment polled s next refl refl refl refl refl refl holds) lines
 lines_hold moment (command.FaultWrite ∷ more) s polled text t at holds h =
     let next : State = record s { writes_due = raised s.link.write_faults 1 } in
     let lines : Lines next more h.2 t = subst (λ s. Lines s more h.2 t) h.4.1 h.5 in
-    lines_hold moment more next polled h.2 t at (same_holds moment polled s next refl refl refl refl refl holds) lines
+    lines_hold moment more next polled h.2 t at (same_holds moment polled s next refl refl refl refl refl refl holds) lines
 lines_hold moment (command.Shutdown ∷ more) s polled text t at holds h =
     let next : State = record s { shut = true } in
     let lines : Lines next more h.2 t = subst (λ s. Lines s more h.2 t) h.4.1 h.5 in
-    lines_hold moment more next polled h.2 t at (same_holds moment polled s next refl refl refl refl refl holds) lines
+    lines_hold moment more next polled h.2 t at (same_holds moment polled s next refl refl refl refl refl refl holds) lines
 lines_hold moment (command.Limit count ∷ more) s polled text t at holds h =
+    lines_hold moment more s polled h.2 t at holds (subst (λ s. Lines s more h.2 t) h.4.1 h.5)
+lines_hold moment (command.Mark number ∷ more) s polled text t at holds h =
+    lines_hold moment more s polled h.2 t at holds (subst (λ s. Lines s more h.2 t) h.4.1 h.5)
+lines_hold moment (command.Refuse number ∷ more) s polled text t at holds h =
     lines_hold moment more s polled h.2 t at holds (subst (λ s. Lines s more h.2 t) h.4.1 h.5)
 lines_hold moment (command.Poll here ∷ more) s polled text t at holds h =
     let polls : Polls moment s h.4.0 h.1 = subst (λ n. Polls n s h.4.0 h.1) at.0 h.4.2 in
@@ -252,6 +268,12 @@ poll_texts moment (command.Shutdown ∷ more) s text t at h =
 poll_texts moment (command.Limit count ∷ more) s text t at h =
     let rest = poll_texts moment more h.1 h.2 t at h.5 in
     (rest.0, h.3 ∙ ap (λ xs. xs ++ h.2) h.4.0 ∙ rest.1)
+poll_texts moment (command.Mark number ∷ more) s text t at h =
+    let rest = poll_texts moment more h.1 h.2 t at h.5 in
+    (rest.0, h.3 ∙ ap (λ xs. xs ++ h.2) h.4.0 ∙ rest.1)
+poll_texts moment (command.Refuse number ∷ more) s text t at h =
+    let rest = poll_texts moment more h.1 h.2 t at h.5 in
+    (rest.0, h.3 ∙ ap (λ xs. xs ++ h.2) h.4.0 ∙ rest.1)
 poll_texts moment (command.Poll here ∷ more) s text t at h =
     let rest = poll_texts moment more h.1 h.2 t at.1 h.5 in
     let line : h.0 ≡ poll_line moment h.4.0 = h.4.1 ∙ ap (λ n. poll_line n h.4.0) at.0 in (
@@ -260,14 +282,37 @@ poll_texts moment (command.Poll here ∷ more) s text t at h =
           ∙ sym (flat_map-cons (poll_line moment) h.4.0 rest.0),
     )
 
--- the exchanges of a connection that finished, and what it wrote
-record Finish (moment : ℕ) (polled : List ℕ) (s : State) (written : List ℕ) : Type 0 where
+-- the modules stay
+modules_once : (s : State) (c : Command) (text : List ℕ) (t : State) → Obeys s c text t
+    → t.modules ≡ s.modules
+modules_once s (command.Give bytes) text t h = ap (λ (s : State). s.modules) h.1
+modules_once s command.End text t h = ap (λ (s : State). s.modules) h.1
+modules_once s (command.Room count) text t h = ap (λ (s : State). s.modules) h.1
+modules_once s command.Block text t h = ap (λ (s : State). s.modules) h.1
+modules_once s command.FaultRead text t h = ap (λ (s : State). s.modules) h.1
+modules_once s command.FaultWrite text t h = ap (λ (s : State). s.modules) h.1
+modules_once s command.Shutdown text t h = ap (λ (s : State). s.modules) h.1
+modules_once s (command.Limit count) text t h = ap (λ (s : State). s.modules) h.1
+modules_once s (command.Mark number) text t h = ap (λ (s : State). s.modules) h.1
+modules_once s (command.Refuse number) text t h = ap (λ (s : State). s.modules) h.1
+modules_once s (command.Poll moment) text t h = h.2.modules
+
+modules_kept : (asked : List Command) (s : State) (text : List ℕ) (t : State)
+    → Lines s asked text t → t.modules ≡ s.modules
+modules_kept [] s text t h = ap (λ (s : State). s.modules) h.1
+modules_kept (c ∷ more) s text t h = modules_kept more h.1 h.2 t h.5 ∙ modules_once s c h.0 h.1 h.4
+
+-- the exchanges of a connection with these modules that finished, and what it wrote
+record Finish (modules : List MarkingBuilder) (moment : ℕ) (polled : List ℕ) (s : State)
+    (written : List ℕ) : Type 0 where
   entries : transcript s ≡ s.done
-  ended : AreEnded (moment / 1000) polled (FlushedBy new_link s.link) 0 s.done
+  ended : AreEnded (marking_rules modules).filters (moment / 1000) polled (FlushedBy new_link s.link)
+      0 s.done
   wrote : WroteBehind written s.done []
 
 finish : (moment : ℕ) (polled : List ℕ) (s : State) (written : List ℕ) → Holds moment polled s
-    → s.end ≡ Some end.Finished → s.link.written ≡ Some written → Finish moment polled s written
+    → s.end ≡ Some end.Finished → s.link.written ≡ Some written
+    → Finish s.modules moment polled s written
 finish moment polled s written holds is told =
     let stands = holds.finished is in
     let cause = stands.cause in
@@ -278,7 +323,7 @@ finish moment polled s written holds is told =
       entries = entries;
       ended = record {
         read = subst (ReadBehind polled s.done) read.2 read.1;
-        allowed = subst (AllByRecursion (IsAllowed EchoGives)) entries stands.allowed;
+        allowed = subst (AllByRecursion (IsAllowed (rules s))) entries stands.allowed;
         dated = subst (AllByRecursion (IsDatedBy (moment / 1000))) entries holds.dated;
         ended = cause.0.flushed;
       };
@@ -287,22 +332,27 @@ finish moment polled s written holds is told =
           refl told cause.0.written;
     }
 
-first_holds : (moment : ℕ) (limit : Option ℕ) → Holds moment [] (start_with limit)
-first_holds moment limit = record {
+first_holds : (moment : ℕ) (limit : Option ℕ) (modules : List MarkingBuilder)
+    → Holds moment [] (start_with limit modules)
+first_holds moment limit modules = record {
   dated = tt;
   since = λ alive. inl refl;
-  finished = λ is. absurd (never (start_with limit).end refl is);
+  finished = λ is. absurd (never (start_with limit modules).end refl is);
 } where
   never : (o : Option End) → o ≡ None → o ≡ Some end.Finished → ⊥
   never o e f = cc
 
 finish_of : (moment : ℕ) (asked : List Command) (text : List ℕ) (x : IsTextOf asked text)
     → ArePolledAt moment asked
-    → x.last.end ≡ Some end.Finished → Finish moment (polled_in [] [] asked) x.last x.written
+    → x.last.end ≡ Some end.Finished
+    → Finish (modules_in asked) moment (polled_in [] [] asked) x.last x.written
 finish_of moment asked text x at is =
-    finish moment (polled_in [] [] asked) x.last x.written
-    (lines_hold moment asked (start_with (limit_in asked)) [] x.polls x.last
-    at (first_holds moment (limit_in asked)) x.lines) is x.told
+    let first = start_with (limit_in asked) (modules_in asked) in
+    let whole = finish moment (polled_in [] [] asked) x.last x.written
+    (lines_hold moment asked first [] x.polls x.last
+    at (first_holds moment (limit_in asked) (modules_in asked)) x.lines) is x.told in
+    subst (λ (modules : List MarkingBuilder). Finish modules moment (polled_in [] [] asked) x.last
+    x.written) (modules_kept asked first x.polls x.last x.lines) whole
 
 same_lines : (s t : State) (one other : List ℕ)
     → exchanges_lines (transcript s) ≡ exchanges_lines (transcript t) → one ≡ other
@@ -319,14 +369,14 @@ texts_alike : (moment : ℕ) (asked : List Command) (text other : List ℕ) (x :
 texts_alike moment asked text other x y at is also =
     let a = finish_of moment asked text x at is in
     let b = finish_of moment asked other y at also in
-    let same = alike (moment / 1000) (polled_in [] [] asked) (FlushedBy new_link x.last.link)
+    let same = alike (marking_rules (modules_in asked)).filters (moment / 1000) (polled_in [] [] asked) (FlushedBy new_link x.last.link)
     (FlushedBy new_link y.last.link) 0 0 x.last.done y.last.done a.ended b.ended in
     let lines : exchanges_lines (transcript x.last) ≡ exchanges_lines (transcript y.last) =
     ap exchanges_lines a.entries ∙ alike_lines x.last.done y.last.done same ∙ sym (ap exchanges_lines b.entries) in
     let written = alike_written x.last.done y.last.done x.written y.written same a.wrote b.wrote in
     let told = exchanges_lines (transcript x.last) ++ wrote_line x.written in
-    let first = poll_texts moment asked (start_with (limit_in asked)) x.polls x.last at x.lines in
-    let second = poll_texts moment asked (start_with (limit_in asked)) y.polls y.last at y.lines in (
+    let first = poll_texts moment asked (start_with (limit_in asked) (modules_in asked)) x.polls x.last at x.lines in
+    let second = poll_texts moment asked (start_with (limit_in asked) (modules_in asked)) y.polls y.last at y.lines in (
       told,
       (
         first.0,

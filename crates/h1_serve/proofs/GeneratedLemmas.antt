@@ -19,8 +19,9 @@ use Rattle.h1_generator.specs.Generated.{asked_as, asked, asked_from, form_of}
 use Rattle.h1_generator.specs.Messages.{message_of, messages}
 use Rattle.h1_generator.specs.declared.generator.Form.{Form}
 use Rattle.h1_generator.specs.declared.generator.Form.TheVariants.{Plain, Counted, Chunked}
+use Rattle.h1_link.specs.MemState.{MemState}
+use Rattle.h1_serving.specs.Served.{EchoedView}
 use Rattle.h1_serving.specs.Whole.{IsServedWhole}
-use Rattle.h1_serve.specs.State.{Served}
 use Rattle.h1_serve.specs.Generated.{bodies, payloads, count_line, gen_lines, TellsServed, IsGenText}
 
 -- the bodies with one exchange more
@@ -80,11 +81,11 @@ few_payloads (suc count) number =
     omega (arith, split, short, rest)
 
 -- what is told of a connection that served all
-pub record ToldOf (count : ℕ) (served : Served) : Type 0 where
+pub record ToldOf (count : ℕ) (served : EchoedView MemState) : Type 0 where
   pub bodies_are : bodies (entries served) ≡ payloads (messages count)
   pub few : length (bodies (entries served)) ≤ 6 * count
 
-pub told_of : (count : ℕ) (served : Served) → IsServedWhole count served → ToldOf count served
+pub told_of : (count : ℕ) (served : EchoedView MemState) → IsServedWhole count served → ToldOf count served
 told_of count served whole =
     let all : entries served ≡ served.done =
     ap (λ o. served.done ++ option_to_list o) whole.complete.none ∙ append-nil served.done in
@@ -96,7 +97,7 @@ told_of count served whole =
     }
 
 -- the text of a connection that served all is that of its number
-pub gen_text_of : (count : ℕ) (served : Served) (text : List ℕ) → IsServedWhole count served
+pub gen_text_of : (count : ℕ) (served : EchoedView MemState) (text : List ℕ) → IsServedWhole count served
     → TellsServed served text → IsGenText count text
 gen_text_of count served text whole tells =
     let told = told_of count served whole in
@@ -150,7 +151,7 @@ is_finished : (reason : End) (met : Option End) → Some reason ≡ met → met 
 is_finished reason met is finished = cc
 
 -- so they tell of the connection whose values they are
-pub tells_of : (served : Served) (kept : List Entry) (requests body : ℕ) (reason : End)
+pub tells_of : (served : EchoedView MemState) (kept : List Entry) (requests body : ℕ) (reason : End)
     (written text : List ℕ)
     → kept ≡ entries served → requests ≡ length kept → body ≡ length (bodies kept)
     → Some reason ≡ served.end → served.end ≡ Some end.Finished

@@ -1,5 +1,5 @@
 -- Lemmas on the lines of a script, one after the other.
-use Rattle.std.proofs.Common.{◌≡◌, ℕ, ◌+◌, ◌≤◌, ◌<◌, true, List, [], ◌∷◌, ◌++◌, length, drop, get_or, drop-cons, add-one, suc, Some, refl, sym, ap, subst, ◌∙◌, append-nil, append_assoc}
+use Rattle.std.proofs.Common.{◌≡◌, ◌⊎◌, inl, inr, ℕ, ◌+◌, ◌≤◌, ◌<◌, true, List, [], ◌∷◌, ◌++◌, length, drop, get_or, drop-cons, add-one, suc, Some, refl, sym, ap, subst, ◌∙◌, append-nil, append_assoc}
 use Rattle.std.proofs.lemmas.List.{drop_all}
 use Rattle.std.specs.Prelude.{Result, Ok, Err, OnOk}
 use Rattle.h1_transcript.specs.declared.transcript.Entry.{Entry}
@@ -9,7 +9,7 @@ use Rattle.h1_words.specs.declared.command.Command.TheVariants as command
 use Rattle.h1_words.specs.declared.place.Place.{Place}
 use Rattle.h1_serve.specs.declared.scripted.Scripted.{Scripted}
 use Rattle.h1_serve.specs.State.{State, start_with, transcript, state_of}
-use Rattle.h1_serve.specs.Report.{Lines, IsTextOf, limit_in}
+use Rattle.h1_serve.specs.Report.{Obeys, Lines, IsTextOf, limit_in, modules_in}
 use Rattle.h1_serve.specs.ExchangeText.{exchanges_lines, wrote_line}
 use Rattle.h1_serve.specs.Running.{MayStand, IsInTime, AreInOrder, first_place, IsRunning}
 use Rattle.h1_serve.specs.Done.{ObeysOnce}
@@ -20,11 +20,11 @@ pub record Goes (all left : List Command) (scripted : Scripted) (text : List ℕ
   pub running : IsRunning place scripted.connection
   pub order : AreInOrder place left
   pub lines : (t : State) (rest : List ℕ) → Lines (state_of scripted) left rest t
-      → Lines (start_with (limit_in all)) all (text ++ rest) t
+      → Lines (start_with (limit_in all) (modules_in all)) all (text ++ rest) t
 
 pub goes_first : (all : List Command) (scripted : Scripted) (text : List ℕ)
     → AreInOrder first_place all → IsRunning first_place scripted.connection
-    → state_of scripted ≡ start_with (limit_in all)
+    → state_of scripted ≡ start_with (limit_in all) (modules_in all)
     → text ≡ [] → Goes all all scripted text
 goes_first all scripted text order running is none = record {
   place = first_place;
@@ -48,11 +48,11 @@ goes_on all more asked old new text behind goes obeys =
           let whole = goes.lines t (once.line ++ rest) (once.line, (state_of new), rest, refl, once.obeys, lines) in
           let front : behind ++ rest ≡ text ++ (once.line ++ rest) =
           ap (λ front. front ++ rest) once.text_is ∙ append_assoc text once.line rest in
-          subst (λ words. Lines (start_with (limit_in all)) all words t) (sym front) whole;
+          subst (λ words. Lines (start_with (limit_in all) (modules_in all)) all words t) (sym front) whole;
     }
 
 -- the command at a place is the first that is left there
-left_at : (all : List Command) (i : ℕ) (asked : Command) → i < length all
+pub left_at : (all : List Command) (i : ℕ) (asked : Command) → i < length all
     → asked ≡ get_or all i asked
     → drop i all ≡ asked ∷ drop (i + 1) all
 left_at all i asked within is =
@@ -85,7 +85,7 @@ goes_last all scripted n text written whole goes past told is = record {
   last = state_of scripted;
   polls = text;
   written = written;
-  lines = subst (λ words. Lines (start_with (limit_in all)) all words (state_of scripted)) (append-nil text)
+  lines = subst (λ words. Lines (start_with (limit_in all) (modules_in all)) all words (state_of scripted)) (append-nil text)
       (goes.lines (state_of scripted) []
       (subst (λ left. Lines (state_of scripted) left [] (state_of scripted)) (sym (drop_all n all past)) (refl, refl)));
   told = told;
@@ -121,23 +121,34 @@ shuts_line place old asked text is running =
     let Goal : Command → Type 0 = λ asked. ObeysOnce place old asked text (record old { shutdown = true }) text in
     subst Goal (sym is) (shuts_once place old text running)
 
--- a limit was set before
-limits_once : (place : Place) (old : Scripted) (count : ℕ) (text : List ℕ)
-    → IsRunning place old.connection
-    → ObeysOnce place old (command.Limit count) text old text
-limits_once place old count text running = record {
+-- the limit and the modules were set before
+made_once : (place : Place) (old : Scripted) (asked : Command) (text : List ℕ)
+    → Obeys (state_of old) asked [] (state_of old)
+    → IsRunning (place_after place asked) old.connection
+    → ObeysOnce place old asked text old text
+made_once place old asked text obeys running = record {
   line = [];
   text_is = sym (append-nil text);
-  obeys = (refl, refl);
-  running = record { accounted = running.accounted; end_at = running.end_at };
+  obeys = obeys;
+  running = running;
 }
 
-pub limits_line : (place : Place) (old : Scripted) (asked : Command) (count : ℕ) (text : List ℕ)
-    → asked ≡ command.Limit count
+pub made_line : (place : Place) (old : Scripted) (asked : Command) (text : List ℕ)
+    → ((n : ℕ) × (asked ≡ command.Limit n))
+    ⊎ (((n : ℕ) × (asked ≡ command.Mark n)) ⊎ ((n : ℕ) × (asked ≡ command.Refuse n)))
     → IsRunning place old.connection → ObeysOnce place old asked text old text
-limits_line place old asked count text is running =
+made_line place old asked text is running =
     let Goal : Command → Type 0 = λ asked. ObeysOnce place old asked text old text in
-    subst Goal (sym is) (limits_once place old count text running)
+    let limited : IsRunning (record place { limited = true }) old.connection =
+    record { accounted = running.accounted; end_at = running.end_at } in
+    elim is [
+      | inl limit ↦ subst Goal (sym limit.1)
+          (made_once place old (command.Limit limit.0) text (refl, refl) limited)
+      | inr (inl mark) ↦ subst Goal (sym mark.1)
+          (made_once place old (command.Mark mark.0) text (refl, refl) running)
+      | inr (inr refuse) ↦ subst Goal (sym refuse.1)
+          (made_once place old (command.Refuse refuse.0) text (refl, refl) running)
+    ]
 
 -- the text of a report, part by part
 pub whole_text : (front between behind : List ℕ) (entries same : List Entry) (written : List ℕ)

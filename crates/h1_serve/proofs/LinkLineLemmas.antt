@@ -9,7 +9,7 @@ use Rattle.h1_words.specs.declared.command.Command.{Command}
 use Rattle.h1_words.specs.declared.command.Command.TheVariants as command
 use Rattle.h1_words.specs.declared.place.Place.{Place}
 use Rattle.h1_serve.specs.declared.scripted.Scripted.{Scripted}
-use Rattle.h1_serve.specs.State.{Served, new_link, link_state, state_of}
+use Rattle.h1_serve.specs.State.{MarkedView, new_link, link_state, state_of}
 use Rattle.h1_serve.specs.Report.{Obeys}
 use Rattle.h1_serve.specs.Running.{MayStand, EndsAt, IsRunning}
 use Rattle.h1_serve.specs.Done.{ObeysOnce}
@@ -25,7 +25,7 @@ still_open true end_at put more e ends = cc
 still_open false end_at put more e ends = ends
 
 -- bytes put ahead leave what was moved
-gives_once : (place : Place) (old : Scripted) (new : Served) (bytes text : List ℕ)
+gives_once : (place : Place) (old : Scripted) (new : MarkedView) (bytes text : List ℕ)
     → new ≡ record old.connection
     { session = record old.connection.session { link = new.session.link } }
     → new.session.link ≡ record old.connection.session.link {
@@ -37,12 +37,12 @@ gives_once : (place : Place) (old : Scripted) (new : Served) (bytes text : List 
     → ObeysOnce place old (command.Give bytes) text (record old { connection = new }) text
 gives_once place old new bytes text rest link since may running =
     let before = old.connection.session.link in
-    let served : MemState → Served =
+    let served : MemState → MarkedView =
     λ l. record old.connection { session = record old.connection.session { link = l } } in
     record {
       line = [];
       text_is = sym (append-nil text);
-      obeys = (refl, ap (λ (c : Served). state_of (record old { connection = c })) (rest ∙ ap served link));
+      obeys = (refl, ap (λ (c : MarkedView). state_of (record old { connection = c })) (rest ∙ ap served link));
       running = record {
         accounted = since;
         end_at = rw link (still_open place.ended before.end_at (length before.put)
@@ -51,7 +51,7 @@ gives_once place old new bytes text rest link since may running =
     }
 
 -- the end is said after all that was put ahead
-ends_once : (place : Place) (old : Scripted) (new : Served) (text : List ℕ)
+ends_once : (place : Place) (old : Scripted) (new : MarkedView) (text : List ℕ)
     → new ≡ record old.connection
     { session = record old.connection.session { link = new.session.link } }
     → new.session.link ≡ record old.connection.session.link {
@@ -64,12 +64,12 @@ ends_once : (place : Place) (old : Scripted) (new : Served) (text : List ℕ)
     → ObeysOnce place old command.End text (record old { connection = new }) text
 ends_once place old new text rest link since may running =
     let before = old.connection.session.link in
-    let served : MemState → Served =
+    let served : MemState → MarkedView =
     λ l. record old.connection { session = record old.connection.session { link = l } } in
     record {
       line = [];
       text_is = sym (append-nil text);
-      obeys = (refl, ap (λ (c : Served). state_of (record old { connection = c })) (rest ∙ ap served link));
+      obeys = (refl, ap (λ (c : MarkedView). state_of (record old { connection = c })) (rest ∙ ap served link));
       running = record {
         accounted = since;
         end_at = rw link (let none = not_said place.ended before.end_at (length before.put) may running.end_at in
@@ -78,7 +78,7 @@ ends_once place old new text rest link since may running =
     }
 
 -- the same of a command that is known to be this one
-pub gives_line : (place : Place) (old : Scripted) (new : Served) (asked : Command)
+pub gives_line : (place : Place) (old : Scripted) (new : MarkedView) (asked : Command)
     (bytes text : List ℕ)
     → asked ≡ command.Give bytes
     → new ≡ record old.connection
@@ -98,7 +98,7 @@ gives_line place old new asked bytes text is rest link since may running =
     subst Goal (sym is)
     (gives_once place old new bytes text rest link (since new_link running.accounted) (subst Stands is may) running)
 
-pub ends_line : (place : Place) (old : Scripted) (new : Served) (asked : Command) (text : List ℕ)
+pub ends_line : (place : Place) (old : Scripted) (new : MarkedView) (asked : Command) (text : List ℕ)
     → asked ≡ command.End
     → new ≡ record old.connection
     { session = record old.connection.session { link = new.session.link } }
@@ -119,7 +119,7 @@ ends_line place old new asked text is rest link since may running =
     (ends_once place old new text rest link (since new_link running.accounted) (subst Stands is may) running)
 
 -- a line that leaves what is ahead and where it ends, and makes this of the link
-sets_once : (place : Place) (old : Scripted) (new : Served) (asked : Command) (text : List ℕ)
+sets_once : (place : Place) (old : Scripted) (new : MarkedView) (asked : Command) (text : List ℕ)
     (made : MemState)
     → new ≡ record old.connection
     { session = record old.connection.session { link = new.session.link } }
@@ -133,13 +133,13 @@ sets_once : (place : Place) (old : Scripted) (new : Served) (asked : Command) (t
     }))
     → ObeysOnce place old asked text (record old { connection = new }) text
 sets_once place old new asked text made rest link since ends obeys =
-    let served : MemState → Served =
+    let served : MemState → MarkedView =
     λ l. record old.connection { session = record old.connection.session { link = l } } in
     let is : new ≡ served made = rest ∙ ap served link in
     record {
       line = [];
       text_is = sym (append-nil text);
-      obeys = subst (λ (c : Served). Obeys (state_of old) asked [] (state_of (record old { connection = c }))) (sym is)
+      obeys = subst (λ (c : MarkedView). Obeys (state_of old) asked [] (state_of (record old { connection = c }))) (sym is)
           obeys;
       running = record {
         accounted = since;
@@ -147,7 +147,7 @@ sets_once place old new asked text made rest link since ends obeys =
       };
     }
 
-pub room_line : (place : Place) (old : Scripted) (new : Served) (asked : Command) (count : ℕ)
+pub room_line : (place : Place) (old : Scripted) (new : MarkedView) (asked : Command) (count : ℕ)
     (text : List ℕ)
     → asked ≡ command.Room count
     → new ≡ record old.connection
@@ -167,7 +167,7 @@ room_line place old new asked count text is rest link since running =
     (sets_once place old new (command.Room count) text _ rest link (since new_link running.accounted)
     running.end_at (refl, refl))
 
-pub block_line : (place : Place) (old : Scripted) (new : Served) (asked : Command) (text : List ℕ)
+pub block_line : (place : Place) (old : Scripted) (new : MarkedView) (asked : Command) (text : List ℕ)
     → asked ≡ command.Block
     → new ≡ record old.connection
     { session = record old.connection.session { link = new.session.link } }
@@ -186,7 +186,7 @@ block_line place old new asked text is rest link since running =
     (sets_once place old new command.Block text _ rest link (since new_link running.accounted)
     running.end_at (refl, refl))
 
-pub read_fault_line : (place : Place) (old : Scripted) (new : Served) (asked : Command)
+pub read_fault_line : (place : Place) (old : Scripted) (new : MarkedView) (asked : Command)
     (text : List ℕ)
     → asked ≡ command.FaultRead
     → new ≡ record old.connection
@@ -203,7 +203,7 @@ read_fault_line place old new asked text is rest link since running =
     (sets_once place old new command.FaultRead text _ rest link (since new_link running.accounted)
     running.end_at (refl, refl))
 
-pub write_fault_line : (place : Place) (old : Scripted) (new : Served) (asked : Command)
+pub write_fault_line : (place : Place) (old : Scripted) (new : MarkedView) (asked : Command)
     (text : List ℕ)
     → asked ≡ command.FaultWrite
     → new ≡ record old.connection

@@ -8,13 +8,12 @@ use Rattle.h1_link.specs.Counts.{raised, Rose}
 use Rattle.h1_link.specs.LinkState.{LinkState}
 use Rattle.h1_link.specs.SinkState.{SinkState}
 use Rattle.h1_link.proofs.Laters.{append_known-on, append_known-nil}
+use Rattle.h1_transcript.specs.Rules.{plain}
 use Rattle.h1_transcript.specs.Agrees.{Agrees}
 use Rattle.h1_echo.specs.Echo.{EchoGives}
-use Rattle.h1_echo.specs.declared.echo.EchoApp.{EchoApp}
-use Rattle.h1_echo.specs.declared.echo.EchoJob.{EchoJob}
 use Rattle.h1_app.specs.Accounted.{Accounted}
-use Rattle.h1_app.specs.View.{View, entries}
-use Rattle.h1_serving.specs.Served.{IsUnpolled, KeptInCall, AnswersFor}
+use Rattle.h1_app.specs.View.{entries}
+use Rattle.h1_serving.specs.Served.{EchoedView, IsUnpolled, KeptInCall, AnswersFor}
 use Rattle.h1_serving.specs.declared.serving.TheConstants.{MOST_POLLS}
 use Rattle.h1_serve.specs.declared.listening.TheConstants.{REQUEST_LIMIT}
 use Rattle.h1_serve.specs.declared.status.Status.{Status}
@@ -153,12 +152,12 @@ stopped_cause state count number sink sink' sink'' net net' net'' status.Source 
 
 -- what one call leaves of a connection that is new over its link
 pub served_of : {L : Type 0} (state : L → LinkState) (same_plan : L → L → Type 0) (first last : ℕ)
-    (start : L) (made served : View L (Unit {0}) EchoApp EchoJob) (answer : Progress)
+    (start : L) (made served : EchoedView L) (answer : Progress)
     → made.session.link ≡ start → made.limit ≡ Some REQUEST_LIMIT → IsUnpolled made
     → Accounted state (state start) made.session made.done made.last
     → KeptInCall same_plan first last made served
     → ((before : LinkState) → Accounted state before made.session made.done made.last
-    → Agrees EchoGives served.limit before (state served.session.link) (entries served))
+    → Agrees (plain EchoGives) served.limit before (state served.session.link) (entries served))
     → ((before : LinkState) → Accounted state before made.session made.done made.last
     → AnswersFor state MOST_POLLS before (state made.session.link) served answer)
     → IsServed state answer
@@ -170,7 +169,7 @@ served_of state same_plan first last start made served answer link limit unpolle
       served = served;
       unpolled = unpolled;
       limit = limited;
-      agrees = subst (λ (n : Option ℕ). Agrees EchoGives n (state made.session.link)
+      agrees = subst (λ (n : Option ℕ). Agrees (plain EchoGives) n (state made.session.link)
           (state served.session.link) (entries served)) limited
           (agrees (state made.session.link) from);
       cause = answers (state made.session.link) from;

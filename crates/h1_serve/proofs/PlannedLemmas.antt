@@ -4,6 +4,7 @@ use Rattle.h1_link.specs.Counts.{raised}
 use Rattle.h1_link.specs.declared.memory.gate.Gate.TheVariants.{Room, Blocked}
 use Rattle.h1_words.specs.declared.command.Command.{Command}
 use Rattle.h1_words.specs.declared.command.Command.TheVariants as command
+use Rattle.h1_marking.specs.declared.builder.MarkingBuilder.{MarkingBuilder}
 use Rattle.h1_serve.specs.State.{State, start_with}
 use Rattle.h1_serve.specs.Report.{Obeys, Lines}
 use Rattle.h1_serve.specs.Planned.{read_fault_of, write_fault_of, read_fault_lines, write_fault_lines}
@@ -57,6 +58,10 @@ few_once s command.Shutdown text t h reads writes =
     rw h.1 (few_same s (record s { shut = true }) refl refl refl reads writes)
 few_once s (command.Limit count) text t h reads writes =
     rw h.1 (few_same s s refl refl refl reads writes)
+few_once s (command.Mark number) text t h reads writes =
+    rw h.1 (few_same s s refl refl refl reads writes)
+few_once s (command.Refuse number) text t h reads writes =
+    rw h.1 (few_same s s refl refl refl reads writes)
 few_once s (command.Poll moment) text t h reads writes =
     let fails = h.2.fails in
     record {
@@ -82,9 +87,9 @@ few_lines s (c ∷ more) text t h reads writes =
     }
 
 -- so no more reads and writes fail than lines planned
-pub few_faults : (limit : Option ℕ) (asked : List Command) (text : List ℕ) (t : State)
-    → Lines (start_with limit) asked text t
+pub few_faults : (limit : Option ℕ) (modules : List MarkingBuilder) (asked : List Command)
+    (text : List ℕ) (t : State) → Lines (start_with limit modules) asked text t
     → (t.link.read_faults ≤ read_fault_lines asked) × (t.link.write_faults ≤ write_fault_lines asked)
-few_faults limit asked text t lines =
-    let few = few_lines (start_with limit) asked text t lines (omega arith) (omega arith) in
+few_faults limit modules asked text t lines =
+    let few = few_lines (start_with limit modules) asked text t lines (omega arith) (omega arith) in
     (omega (arith, few.reads, few.reads_due), omega (arith, few.writes, few.writes_due))

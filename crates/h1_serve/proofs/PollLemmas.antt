@@ -24,11 +24,10 @@ use Rattle.h1_transcript.specs.Growth.{Extends}
 use Rattle.h1_app.specs.Leaves.{Leaves}
 use Rattle.h1_app.specs.Timely.{IsTimely}
 use Rattle.h1_app.specs.Causes.{Cause, WaitCause, PendedNew, PendedOn, PendedBy}
-use Rattle.h1_echo.specs.Echo.{EchoGives}
 use Rattle.h1_words.specs.declared.command.Command.TheVariants as command
 use Rattle.h1_words.specs.declared.place.Place.{Place}
 use Rattle.h1_serve.specs.declared.scripted.Scripted.{Scripted}
-use Rattle.h1_serve.specs.State.{State, Served, new_link, link_state, state_of}
+use Rattle.h1_serve.specs.State.{State, MarkedView, new_link, link_state, rules, state_of}
 use Rattle.h1_serve.specs.LinkDoes.{GivesAhead, IsWithin, IsUsedUp, TakesWithin, NothingGiven, FailsAsPlanned}
 use Rattle.h1_serve.specs.PollLine.{PendsFor, IsAnswered, AnswerCause, AnswersInTime, Polls, poll_line}
 use Rattle.h1_serve.specs.Running.{EndsAt, IsRunning}
@@ -52,7 +51,7 @@ same_or_more a b le = same_if (nat_lt a b) a b le refl where
   same_if true a b le test = inr (grind (arith, nat_tests))
   same_if false a b le test = inl (grind (arith, nat_tests))
 
-never_pends : (begins : EchoJob → Type 0) (from to : Served)
+never_pends : (begins : EchoJob → Type 0) (from to : MarkedView)
     → PendedBy begins (λ _. 0) from.done to.done from.stage to.stage → ⊥
 never_pends begins from to p =
     elim (same_or_more (length from.done) (length to.done) p.longer) [
@@ -72,7 +71,8 @@ pends_for begins from to waiting.Budget cause = cause
 
 answer_cause : (begins : EchoJob → Type 0) (from to : Scripted) (answer : Progress)
     → IsAnswered answer
-    → Cause link_state begins (λ _. 0) new_link from.connection to.connection answer
+    → Cause (rules (state_of to)).filters link_state begins (λ _. 0) new_link from.connection to.connection
+    answer
     → AnswerCause (state_of from) (state_of to) answer
 answer_cause begins from to (progress.Pending what) answered cause =
     (cause.0, pends_for begins from to what cause.1)
@@ -223,11 +223,12 @@ pub record Polled (begins : EchoJob → Type 0) (moment : ℕ) (old : Scripted) 
     (new : Scripted) : Type 0 where
   pub later : Later old.connection.session.link.state new.connection.session.link.state
   pub plan : SamePlan old.connection.session.link new.connection.session.link
+  pub modules : new.connection.served.builders ≡ old.connection.served.builders
   pub limit : new.connection.limit ≡ old.connection.limit
   pub shut : new.shutdown ≡ old.shutdown
   pub accounted : Accounted link_state new_link new.connection.session new.connection.done
       new.connection.last
-  pub agrees : Agrees EchoGives new.connection.limit new_link new.connection.session.link.state
+  pub agrees : Agrees (rules (state_of new)) new.connection.limit new_link new.connection.session.link.state
       (entries new.connection)
   pub extends : Extends moment old.shutdown old.connection.session.link.state
       new.connection.session.link.state (entries old.connection) (entries new.connection)
@@ -242,14 +243,15 @@ pub record Polled (begins : EchoJob → Type 0) (moment : ℕ) (old : Scripted) 
   pub timely : IfNone old.connection.end
       (IsTimely link_state moment old.connection new.connection answer)
   pub cause : IfNone old.connection.end
-      (Cause link_state begins (λ _. 0) new_link old.connection new.connection answer)
+      (Cause (rules (state_of new)).filters link_state begins (λ _. 0) new_link old.connection
+      new.connection answer)
 
 -- a connection that stays leaves the state as it was
 same_state : (old new : Scripted) → new.shutdown ≡ old.shutdown → new.connection ≡ old.connection
     → state_of new ≡ state_of old
 same_state old new shut same =
-    let seen : Bool → Served → State = λ shut served. state_of (record { connection = served; shutdown = shut }) in
-    ap (λ (b : Bool). seen b new.connection) shut ∙ ap (λ (c : Served). seen old.shutdown c) same
+    let seen : Bool → MarkedView → State = λ shut served. state_of (record { connection = served; shutdown = shut }) in
+    ap (λ (b : Bool). seen b new.connection) shut ∙ ap (λ (c : MarkedView). seen old.shutdown c) same
 
 timely_so : (moment : ℕ) (old new : Scripted) (answer : Progress)
     → IsTimely link_state moment old.connection new.connection answer
@@ -267,6 +269,7 @@ polls begins place moment old new answer running polled before behind answered =
     let to = new.connection.session.link in
     let ends = ends_on place.ended from to running.end_at polled.plan in
     record {
+      modules = polled.modules;
       limit = polled.limit;
       shut = polled.shut;
       later = polled.later;

@@ -11,7 +11,8 @@ use Rattle.h1_transcript.specs.declared.transcript.Entry.{Entry}
 use Rattle.h1_app.specs.View.{entries}
 use Rattle.h1_generator.specs.Messages.{messages}
 use Rattle.h1_serving.specs.Whole.{IsServedWhole}
-use Rattle.h1_serve.specs.State.{Served}
+use Rattle.h1_serving.specs.Served.{EchoedView}
+use Rattle.h1_link.specs.MemState.{MemState}
 
 -- the bodies of these exchanges, as they were read
 abbrev pub bodies : List Entry → List ℕ
@@ -33,7 +34,7 @@ gen_lines requests body written =
     ++ (10 ∷ [])
 
 -- the text tells of a connection that finished what it read and wrote
-pub record TellsServed (served : Served) (text : List ℕ) : Type 0 where
+pub record TellsServed (served : EchoedView MemState) (text : List ℕ) : Type 0 where
   pub written : List ℕ
   pub told : served.session.link.state.written ≡ Some written
   pub is : text ≡ gen_lines (length (entries served)) (length (bodies (entries served)))
@@ -42,7 +43,7 @@ pub record TellsServed (served : Served) (text : List ℕ) : Type 0 where
 -- A connection served so many requests that are made, each whole. The text tells their count, how
 -- many bytes of payload they have, and how many bytes the connection's link took.
 pub record IsGenText (count : ℕ) (text : List ℕ) : Type 0 where
-  pub served : Served
+  pub served : EchoedView MemState
   pub whole : IsServedWhole count served
   pub written : List ℕ
   pub told : served.session.link.state.written ≡ Some written

@@ -8,12 +8,11 @@ use Rattle.h1_link.specs.Counts.{raised, Rose}
 use Rattle.h1_link.specs.LinkState.{LinkState}
 use Rattle.h1_link.specs.SinkState.{SinkState}
 use Rattle.h1_words.specs.Report.{answer_text}
+use Rattle.h1_transcript.specs.Rules.{plain}
 use Rattle.h1_transcript.specs.Agrees.{Agrees}
 use Rattle.h1_echo.specs.Echo.{EchoGives}
-use Rattle.h1_echo.specs.declared.echo.EchoApp.{EchoApp}
-use Rattle.h1_echo.specs.declared.echo.EchoJob.{EchoJob}
-use Rattle.h1_app.specs.View.{View, entries}
-use Rattle.h1_serving.specs.Served.{IsUnpolled, AnswersFor}
+use Rattle.h1_app.specs.View.{entries}
+use Rattle.h1_serving.specs.Served.{EchoedView, IsUnpolled, AnswersFor}
 use Rattle.h1_serving.specs.declared.serving.TheConstants.{MOST_POLLS}
 use Rattle.h1_serve.specs.declared.listening.TheConstants.{REQUEST_LIMIT}
 use Rattle.h1_serve.specs.declared.status.Status.{Status}
@@ -34,11 +33,11 @@ listen_lines number (answer ∷ more) = listen_line number answer ++ listen_line
 -- call, and this is its answer, which has its cause. What was read and replied to agrees with what
 -- the link gave and took.
 pub record IsServed {L : Type 0} (state : L → LinkState) (answer : Progress) : Type 0 where
-  pub made : View L (Unit {0}) EchoApp EchoJob
-  pub served : View L (Unit {0}) EchoApp EchoJob
+  pub made : EchoedView L
+  pub served : EchoedView L
   pub unpolled : IsUnpolled made
   pub limit : served.limit ≡ Some REQUEST_LIMIT
-  pub agrees : Agrees EchoGives (Some REQUEST_LIMIT) (state made.session.link)
+  pub agrees : Agrees (plain EchoGives) (Some REQUEST_LIMIT) (state made.session.link)
       (state served.session.link) (entries served)
   pub cause : AnswersFor state MOST_POLLS (state made.session.link) (state made.session.link)
       served answer

@@ -13,14 +13,14 @@ use Rattle.h1_link.specs.Later.{Later}
 use Rattle.h1_words.specs.Report.{answer_text}
 use Rattle.h1_transcript.specs.Agrees.{Agrees}
 use Rattle.h1_transcript.specs.Growth.{Extends}
-use Rattle.h1_transcript.specs.Ends.{EndCause, LacksSo, OfLast}
+use Rattle.h1_transcript.specs.Ends.{LacksSo, OfLast}
+use Rattle.h1_transcript.specs.Refusals.{EndsBy}
 use Rattle.h1_transcript.specs.Told.{ToldGrowth}
-use Rattle.h1_echo.specs.Echo.{EchoGives}
 use Rattle.h1_transcript.specs.Entries.{replies}
 use Rattle.h1_app.specs.Leaves.{Leaves}
 use Rattle.h1_app.specs.Timely.{EndsInTime, WaitsInTime}
 use Rattle.h1_app.specs.Work.{Work, work_on}
-use Rattle.h1_serve.specs.State.{State, new_link, transcript}
+use Rattle.h1_serve.specs.State.{State, new_link, rules, transcript}
 use Rattle.h1_serve.specs.LinkDoes.{GivesAhead, TakesWithin, FailsAsPlanned}
 use Rattle.h1_transfer.specs.declared.budget.TheConstants.{CALL_BUDGET}
 
@@ -50,7 +50,7 @@ IsAnswered (progress.Ready reason) = HasMemory reason
 abbrev pub AnswerCause : State → State → Progress → Type 0
 AnswerCause s t (progress.Pending what) = (t.end ≡ None) × PendsFor s t what
 AnswerCause s t (progress.Ready reason) = (t.end ≡ Some reason) × HasMemory reason
-    × EndCause new_link s.link t.link t.done t.last reason
+    × EndsBy (rules t).filters new_link s.link t.link t.done t.last reason
 
 -- what the connection did before a poll, where it still does it
 abbrev pub work_before : State → State → Work
@@ -67,10 +67,11 @@ AnswersInTime moment s t (progress.Ready reason) =
 -- and the limit, and goes on from the state before; the link did what the lines before set, and the
 -- answer has its cause.
 pub record Polls (moment : ℕ) (s : State) (answer : Progress) (t : State) : Type 0 where
+  pub modules : t.modules ≡ s.modules
   pub limit : t.limit ≡ s.limit
   pub shut : t.shut ≡ s.shut
   pub later : Later s.link t.link
-  pub agrees : Agrees EchoGives t.limit new_link t.link (transcript t)
+  pub agrees : Agrees (rules t) t.limit new_link t.link (transcript t)
   pub extends : Extends moment s.shut s.link t.link (transcript s) (transcript t)
   pub gives : GivesAhead s t
   pub takes : TakesWithin s t

@@ -20,6 +20,8 @@ IsInTime command.FaultRead = Unit {0}
 IsInTime command.FaultWrite = Unit {0}
 IsInTime command.Shutdown = Unit {0}
 IsInTime (command.Limit count) = Unit {0}
+IsInTime (command.Mark number) = Unit {0}
+IsInTime (command.Refuse number) = Unit {0}
 IsInTime (command.Poll moment) = moment ≤ LAST_MOMENT
 
 -- a command that may stand after what stands before it
@@ -32,6 +34,8 @@ MayStand place command.FaultRead = Unit {0}
 MayStand place command.FaultWrite = Unit {0}
 MayStand place command.Shutdown = Unit {0}
 MayStand place (command.Limit count) = (place.polled ≡ false) × (place.limited ≡ false)
+MayStand place (command.Mark number) = place.polled ≡ false
+MayStand place (command.Refuse number) = place.polled ≡ false
 MayStand place (command.Poll moment) = place.last_poll ≤ moment
 
 abbrev pub AreInOrder : Place → List Command → Type 0

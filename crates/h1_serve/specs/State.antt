@@ -10,7 +10,10 @@ use Rattle.h1_link.specs.declared.memory.gate.Gate.TheVariants.{Open}
 use Rattle.h1_transcript.specs.declared.transcript.Entry.{Entry}
 use Rattle.h1_echo.specs.declared.echo.EchoApp.{EchoApp}
 use Rattle.h1_echo.specs.declared.echo.EchoJob.{EchoJob}
-use Rattle.h1_app.specs.View.{View, work_of}
+use Rattle.h1_marking.specs.Marking.{marking_rules}
+use Rattle.h1_marking.specs.declared.builder.MarkingBuilder.{MarkingBuilder}
+use Rattle.h1_transcript.specs.Rules.{Rules}
+use Rattle.h1_app.specs.View.{Served, View, work_of}
 use Rattle.h1_app.specs.Work.{Work, reads_head}
 use Rattle.h1_serve.specs.declared.scripted.Scripted.{Scripted}
 
@@ -34,6 +37,8 @@ pub record State : Type 0 where
   -- what the connection does for which its link may keep it waiting only so long, and since when it
   -- waits
   pub work : Work
+  -- the modules of the server, in the order in which they were added
+  pub modules : List MarkingBuilder
   -- how many requests more than the first may be served, and whether the server shuts down
   pub limit : Option ℕ
   pub shut : Bool
@@ -44,9 +49,9 @@ pub record State : Type 0 where
 abbrev pub new_link : LinkState
 new_link = new_mem_state.state
 
--- before the first line, with this limit
-abbrev pub start_with : Option ℕ → State
-start_with limit = record {
+-- before the first line, with this limit and these modules
+abbrev pub start_with : Option ℕ → List MarkingBuilder → State
+start_with limit modules = record {
   done = [];
   last = None;
   link = new_link;
@@ -57,6 +62,7 @@ start_with limit = record {
   writes_due = 0;
   flush_waits = 0;
   work = reads_head None;
+  modules = modules;
   limit = limit;
   shut = false;
   end = None;
@@ -81,8 +87,12 @@ abbrev pub writes_due_of : MemState → ℕ
 writes_due_of link = faults_due link.write_fault link.state.write_faults
 
 -- what is seen of a script's connection
-abbrev pub Served : Type 0
-Served = View MemState (Unit {0}) EchoApp EchoJob
+abbrev pub MarkedView : Type 0
+MarkedView = View MemState (Unit {0}) (Served EchoApp MarkingBuilder) EchoJob
+
+-- what the connection sends: what the application replies, and what the modules make of it
+abbrev pub rules : State → Rules
+rules s = marking_rules s.modules
 
 -- what is seen of a script as it runs
 abbrev pub state_of : Scripted → State
@@ -97,6 +107,7 @@ state_of scripted = record {
   writes_due = writes_due_of scripted.connection.session.link;
   flush_waits = scripted.connection.session.link.flush_waits;
   work = work_of scripted.connection;
+  modules = scripted.connection.served.builders;
   limit = scripted.connection.limit;
   shut = scripted.shutdown;
   end = scripted.connection.end;

@@ -5,12 +5,11 @@ ghost use Rattle.h1_link.specs.declared.memory.gate.Gate.TheVariants as gate;
 ghost use Rattle.h1_app.specs.Accounted.{Accounted};
 ghost use Rattle.h1_serve.specs.State.{link_state};
 
+use crate::scripted::Marked;
 use h1_error::Error;
-use h1_link::MemLink;
-use h1_serving::Echoed;
 
 /// Puts bytes ahead on the link.
-pub(crate) fn give(connection: &mut Echoed<MemLink>, bytes: &[u8]) -> Result<(), Error>
+pub(crate) fn give(connection: &mut Marked, bytes: &[u8]) -> Result<(), Error>
     ensures link { OnOk result
         (connection.new.session.link
         ≡ record connection.old.session.link {
@@ -29,7 +28,7 @@ pub(crate) fn give(connection: &mut Echoed<MemLink>, bytes: &[u8]) -> Result<(),
 }
 
 /// Lets the link end after what is ahead.
-pub(crate) fn say_end(connection: &mut Echoed<MemLink>)
+pub(crate) fn say_end(connection: &mut Marked)
     ensures link { connection.new.session.link
         ≡ record connection.old.session.link {
           end_at = Some
@@ -48,7 +47,7 @@ pub(crate) fn say_end(connection: &mut Echoed<MemLink>)
 }
 
 /// Lets the link take that many bytes more.
-pub(crate) fn set_room(connection: &mut Echoed<MemLink>, count: u64)
+pub(crate) fn set_room(connection: &mut Marked, count: u64)
     ensures link { connection.new.session.link
         ≡ record connection.old.session.link {
           gate = gate.Room count;
@@ -66,7 +65,7 @@ pub(crate) fn set_room(connection: &mut Echoed<MemLink>, count: u64)
 }
 
 /// Lets the link take nothing, and leave no flush ready.
-pub(crate) fn set_block(connection: &mut Echoed<MemLink>)
+pub(crate) fn set_block(connection: &mut Marked)
     ensures link { connection.new.session.link
         ≡ record connection.old.session.link {
           gate = gate.Blocked;
@@ -84,7 +83,7 @@ pub(crate) fn set_block(connection: &mut Echoed<MemLink>)
 }
 
 /// Lets the link's next read fail.
-pub(crate) fn plan_read_fault(connection: &mut Echoed<MemLink>)
+pub(crate) fn plan_read_fault(connection: &mut Marked)
     ensures link { connection.new.session.link
         ≡ record connection.old.session.link {
           read_fault = true;
@@ -101,7 +100,7 @@ pub(crate) fn plan_read_fault(connection: &mut Echoed<MemLink>)
 }
 
 /// Lets the link's next write fail.
-pub(crate) fn plan_write_fault(connection: &mut Echoed<MemLink>)
+pub(crate) fn plan_write_fault(connection: &mut Marked)
     ensures link { connection.new.session.link
         ≡ record connection.old.session.link {
           write_fault = true;

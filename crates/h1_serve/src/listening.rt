@@ -3,9 +3,9 @@ ghost use Rattle.std.specs.Prelude.{◌≡◌, ◌≤◌, IfOk, IfErr, OnOk};
 ghost use Rattle.h1_serve.specs.Listening.{listen_line, IsServed, IsServedLine, ServesOne, StopCause, Accepts, ListenCause};
 
 use crate::output::{Written, write_whole};
-use crate::scripted::echo_server;
+use crate::scripted::options_of;
 use crate::status::Status;
-use h1_app::Connection;
+use h1_app::{Connection, EchoApp, HttpServer};
 use h1_error::{Error, Progress};
 use h1_link::{Acceptor, Clock, Link, Sink};
 use h1_serving::{Echoed, serve_link};
@@ -93,7 +93,9 @@ fn serve_peer<L: Link + Drop, T: Clock>(
     ensures answer { IfOk result (IsServed L.state) }
     ensures clock { T.moment clock.old ≤ T.moment clock.new }
 {
-    let server = Arc::new(alloc, echo_server(Some(REQUEST_LIMIT)))?;
+    let mut server = HttpServer::new_app(alloc, EchoApp);
+    server.server_options = options_of(Some(REQUEST_LIMIT));
+    let server = Arc::new(alloc, server)?;
     let mut connection: Echoed<L> = Connection::new(alloc, server, link)?;
     let answer = serve_link(&mut connection, clock);
     // A connection may end without a flush, as behind a reply that is shorter than stated. The line

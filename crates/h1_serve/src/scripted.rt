@@ -1,43 +1,48 @@
 //! A script as it runs over a connection in memory.
-ghost use Rattle.std.specs.Prelude.{◌≡◌, ◌≤◌, ◌++◌, ◌∷◌, [], ℕ, List, OnOk, IfOk, Some};
+ghost use Rattle.std.specs.Prelude.{◌≡◌, ◌≤◌, ◌<◌, ◌^◌, length, ◌++◌, ◌∷◌, [], ℕ, List, OnOk, IfOk, Some};
 ghost use Rattle.h1_words.specs.declared.command.Command.TheVariants as command;
 ghost use Rattle.h1_words.specs.declared.place.Place.{Place};
 ghost use Rattle.h1_words.specs.Script.{place_after};
 ghost use Rattle.h1_app.specs.View.{limit_of};
 ghost use Rattle.h1_serve.specs.State.{state_of, start_with};
 ghost use Rattle.h1_serve.specs.PollLine.{IsAnswered, poll_line};
-ghost use Rattle.h1_serve.specs.Report.{IsTextOf, limit_in};
+ghost use Rattle.h1_serve.specs.Report.{IsTextOf, limit_in, marking_of, modules_in};
 ghost use Rattle.h1_serve.specs.Running.{MayStand, IsInTime, AreInOrder, first_place, IsRunning};
 ghost use Rattle.h1_serve.specs.Done.{ObeysOnce};
 
 use crate::exchange::{push_exchanges, push_written};
 use crate::link_lines::{give, plan_read_fault, plan_write_fault, say_end, set_block, set_room};
-use h1_app::{Connection, EchoApp, HttpServer, HttpServerOptions, NoModules};
+use h1_app::{Connection, EchoApp, HttpServer, HttpServerOptions};
 use h1_error::{End, Error, ErrorType, Progress};
 use h1_link::MemLink;
-use h1_serving::Echoed;
+use h1_marking::{Marking, MarkingBuilder};
 use h1_words::{Command, LAST_MOMENT, Text};
 use std::alloc::Global;
 use std::sync::Arc;
 
+/// A connection of the echo application in memory, with the modules of a script.
+pub(crate) type Marked = Connection<MemLink, EchoApp, MarkingBuilder, ()>;
+
 /// A script as it runs: its connection, and whether the server shuts down.
 #[derive(Drop)]
 struct Scripted {
-    connection: Echoed<MemLink>,
+    connection: Marked,
     shutdown: bool,
 }
 
 /// Runs the commands of a script over a connection of its own, and reports.
 pub(crate) fn report_of(alloc: Global, commands: &[Command]) -> Result<Text, Error>
-    requires { AreInOrder first_place commands.now }
+    requires order { AreInOrder first_place commands.now }
+    requires few { length commands.now < 2 ^ 32 }
     ensures { IfOk result (IsTextOf commands.now) }
 {
-    let mut scripted = connect(alloc, limit_in(commands))?;
+    let mut scripted = connect(alloc, server_for(alloc, commands)?)?;
     play(alloc, &mut scripted, commands)
 }
 
 fn play(alloc: Global, scripted: &mut Scripted, commands: &[Command]) -> Result<Text, Error>
-    requires state { state_of scripted.old ≡ start_with (limit_in commands.now) }
+    requires state { state_of scripted.old ≡ start_with (limit_in commands.now)
+        (modules_in commands.now) }
     requires running { IsRunning first_place scripted.old.connection }
     requires order { AreInOrder first_place commands.now }
     ensures { IfOk result (IsTextOf commands.now) }
@@ -63,11 +68,12 @@ fn limit_in(commands: &[Command]) -> Option<u32>
     None
 }
 
-fn connect(alloc: Global, limit: Option<u32>) -> Result<Scripted, Error>
-    ensures state { IfOk result (λ made. state_of made ≡ start_with limit) }
+fn connect(alloc: Global, server: HttpServer<EchoApp, MarkingBuilder>) -> Result<Scripted, Error>
+    ensures state { IfOk result (λ made. state_of made
+        ≡ start_with (limit_of server.server_options) server.modules) }
     ensures running { IfOk result (λ made. IsRunning first_place made.connection) }
 {
-    let server = Arc::new(alloc, echo_server(limit))?;
+    let server = Arc::new(alloc, server)?;
     let connection = Connection::new(alloc, server, MemLink::new(alloc))?;
     Ok(Scripted {
         connection,
@@ -75,18 +81,46 @@ fn connect(alloc: Global, limit: Option<u32>) -> Result<Scripted, Error>
     })
 }
 
-/// A server of the echo application, with this request limit.
-pub(crate) fn echo_server(limit: Option<u32>) -> HttpServer<EchoApp, NoModules>
-    ensures { limit_of result.server_options ≡ limit }
+/// A server of the echo application, with the limit and the modules that a script sets.
+fn server_for(
+    alloc: Global,
+    commands: &[Command],
+) -> Result<HttpServer<EchoApp, MarkingBuilder>, Error>
+    requires { length commands.now < 2 ^ 32 }
+    ensures limit { IfOk result (λ server. limit_of server.server_options ≡ limit_in commands.now) }
+    ensures modules { IfOk result (λ server. server.modules ≡ modules_in commands.now) }
 {
-    let mut server = HttpServer::new_app(EchoApp);
-    if limit.is_some() {
-        server.server_options = Some(HttpServerOptions {
-            keepalive_request_limit: limit,
-            allow_connect_method_proxying: false,
-        });
+    let mut server = HttpServer::new_app(alloc, EchoApp);
+    server.server_options = options_of(limit_in(commands));
+    let mut key = 0;
+    for command in commands {
+        if let Some(marking) = marking_of(command) {
+            server.add_module(MarkingBuilder { key, marking })?;
+            key += 1;
+        }
     }
-    server
+    Ok(server)
+}
+
+/// The module that a line adds.
+fn marking_of(command: &Command) -> Option<Marking>
+    ensures { result ≡ marking_of command.now }
+{
+    match command {
+        Command::Mark(number) => Some(Marking::Mark(*number)),
+        Command::Refuse(number) => Some(Marking::Refuse(*number)),
+        _ => None,
+    }
+}
+
+/// What is set on a server with this request limit, if there is one.
+pub(crate) fn options_of(limit: Option<u32>) -> Option<HttpServerOptions>
+    ensures { limit_of result ≡ limit }
+{
+    limit.map(|limit| HttpServerOptions {
+        keepalive_request_limit: Some(limit),
+        allow_connect_method_proxying: false,
+    })
 }
 
 /// Does what one line of the script asks for, and adds what it writes.
@@ -127,8 +161,8 @@ fn obey(
             scripted.shutdown = true;
             Ok(())
         }
-        // The connection was made with the limit.
-        Command::Limit(_) => Ok(()),
+        // The connection was made with the limit and the modules.
+        Command::Limit(_) | Command::Mark(_) | Command::Refuse(_) => Ok(()),
         Command::Poll(moment) => poll(alloc, scripted, *moment, text),
     }
 }

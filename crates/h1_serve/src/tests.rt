@@ -141,7 +141,7 @@ fn served_in_pieces(
 ) -> Result<Connection<MemLink, EchoApp, NoModules, ()>, Error>
     requires { 0 < size }
 {
-    let server = Arc::new(alloc, HttpServer::new_app(EchoApp))?;
+    let server = Arc::new(alloc, HttpServer::new_app(alloc, EchoApp))?;
     let mut served = Connection::new(alloc, server, MemLink::new(alloc))?;
     for piece in bytes.chunks(size) {
         served.with_link(|link| link.give(piece))?;
@@ -176,10 +176,20 @@ fn a_pipeline_is_served_whole_in_pieces_of_any_size(rt: HostRuntime) -> Result<(
     Ok(())
 }
 
-/// A script that gives one request whose field `x` has so many bytes, with this text after them, and
-/// then polls so often.
-fn long_head(alloc: Global, count: usize, behind: &[u8], polls: usize) -> Result<Vec<u8>, Error> {
-    let mut script = repeated(alloc, b"give GET /a HTTP/1.1\\r\\nx: ", 1)?;
+/// No module, and two that change nothing here.
+const MODULES: [&[u8]; 2] = [b"", b"module refuse 1\nmodule refuse 2\n"];
+
+/// A script with the lines of these modules that gives one request whose field `x` has so many bytes,
+/// with this text after them, and then polls so often.
+fn long_head(
+    alloc: Global,
+    modules: &[u8],
+    count: usize,
+    behind: &[u8],
+    polls: usize,
+) -> Result<Vec<u8>, Error> {
+    let mut script = repeated(alloc, modules, 1)?;
+    script.extend_from_slice(b"give GET /a HTTP/1.1\\r\\nx: ")?;
     script.extend_from_slice(&repeated(alloc, b"a", count)?)?;
     script.extend_from_slice(behind)?;
     script.extend_from_slice(b"\nend\n")?;
@@ -189,19 +199,21 @@ fn long_head(alloc: Global, count: usize, behind: &[u8], polls: usize) -> Result
 
 #[test]
 fn a_head_of_the_greatest_size_is_served(rt: HostRuntime) -> Result<(), Fail> {
-    let script = long_head(rt.alloc(), 1_048_551, b"\\r\\n\\r\\n", 5)?;
-    let mut source = MemSource::new(rt.alloc(), &script)?;
-    let mut sink = MemSink::new(rt.alloc());
-    let status = status_of(&rt, rt.alloc(), &["script"], &mut source, &mut sink)?;
-    assert_eq!(rt; status, 0);
     let mut begin = repeated(rt.alloc(), b"poll 0: pending budget\n", 4)?;
     begin.extend_from_slice(b"poll 0: finished\nrequest GET /a HTTP/1.1\nfield x: aaa")?;
-    assert!(rt; sink.written().starts_with(&begin));
-    assert!(rt;
-        sink.written().ends_with(
-            b"a\nbody 0\nwrote 106 HTTP/1.1 200 OK\\r\\ncontent-length: 7\\r\\nDate: Thu, 01 Jan 1970 00:00:00 GMT\\r\\nConnection: keep-alive\\r\\n\\r\\nGET /a\\n\n"
-        )
-    );
+    for modules in MODULES {
+        let script = long_head(rt.alloc(), modules, 1_048_551, b"\\r\\n\\r\\n", 5)?;
+        let mut source = MemSource::new(rt.alloc(), &script)?;
+        let mut sink = MemSink::new(rt.alloc());
+        let status = status_of(&rt, rt.alloc(), &["script"], &mut source, &mut sink)?;
+        assert_eq!(rt; status, 0);
+        assert!(rt; sink.written().starts_with(&begin));
+        assert!(rt;
+            sink.written().ends_with(
+                b"a\nbody 0\nwrote 106 HTTP/1.1 200 OK\\r\\ncontent-length: 7\\r\\nDate: Thu, 01 Jan 1970 00:00:00 GMT\\r\\nConnection: keep-alive\\r\\n\\r\\nGET /a\\n\n"
+            )
+        );
+    }
     Ok(())
 }
 
@@ -209,13 +221,15 @@ fn a_head_of_the_greatest_size_is_served(rt: HostRuntime) -> Result<(), Fail> {
 fn a_head_of_one_byte_more_is_too_long(rt: HostRuntime) -> Result<(), Fail> {
     let mut report = repeated(rt.alloc(), b"poll 0: pending budget\n", 3)?;
     report.extend_from_slice(b"poll 0: failed 1 InvalidHTTPHeader TooLong\nwrote 0\n")?;
-    for (count, behind) in [(1_048_552, b"\\r\\n\\r\\n".as_slice()), (1_048_556, b"")] {
-        let script = long_head(rt.alloc(), count, behind, 4)?;
-        let mut source = MemSource::new(rt.alloc(), &script)?;
-        let mut sink = MemSink::new(rt.alloc());
-        let status = status_of(&rt, rt.alloc(), &["script"], &mut source, &mut sink)?;
-        assert_eq!(rt; status, 0);
-        assert_eq!(rt; sink.written(), report.as_slice());
+    for modules in MODULES {
+        for (count, behind) in [(1_048_552, b"\\r\\n\\r\\n".as_slice()), (1_048_556, b"")] {
+            let script = long_head(rt.alloc(), modules, count, behind, 4)?;
+            let mut source = MemSource::new(rt.alloc(), &script)?;
+            let mut sink = MemSink::new(rt.alloc());
+            let status = status_of(&rt, rt.alloc(), &["script"], &mut source, &mut sink)?;
+            assert_eq!(rt; status, 0);
+            assert_eq!(rt; sink.written(), report.as_slice());
+        }
     }
     Ok(())
 }

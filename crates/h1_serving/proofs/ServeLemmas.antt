@@ -13,6 +13,7 @@ use Rattle.h1_link.specs.Later.{Later}
 use Rattle.h1_link.specs.LinkState.{LinkState}
 use Rattle.h1_link.proofs.Laters.{later_itself, rose_read_faults, rose_read_waits}
 use Rattle.h1_head.specs.Views.{ResponseView}
+use Rattle.h1_transcript.specs.Rules.{ArePlain, Filters, Rules, plain}
 use Rattle.h1_transcript.specs.declared.transcript.Entry.{Entry}
 use Rattle.h1_transcript.specs.Agrees.{Agrees}
 use Rattle.h1_transcript.specs.Ends.{EndCause, FailureCause, StopsLast}
@@ -20,6 +21,8 @@ use Rattle.h1_transcript.specs.Growth.{Stays, DatedAt, RoseFor, RefusedIn, Grows
 use Rattle.h1_echo.specs.Echo.{EchoGives}
 use Rattle.h1_app.specs.Accounted.{Accounted}
 use Rattle.h1_app.specs.Causes.{Cause}
+use Rattle.h1_app.proofs.PlainCauses.{PlainCause, cause_plain}
+use Rattle.h1_transcript.proofs.PlainLemmas.{plain_agrees}
 use Rattle.h1_app.specs.Timely.{IsTimely}
 use Rattle.h1_app.specs.View.{View, entries, work_of}
 use Rattle.h1_serving.specs.Served.{IsUnpolled, KeptInCall, LeavesInCall, BeganInCall, Waited, WaitsFrom, AnswersFor, AnswersInTime}
@@ -178,50 +181,60 @@ ends_in_call before a b c done last (end.Failed error) later h =
 pub record IsPoll {L C A J : Type 0} (state : L → LinkState) (same_plan : L → L → Type 0)
     (begins : J → Type 0) (now : ℕ)
     (from to : View L C A J) (answer : Progress) : Type 0 where
-  pub app : (to.app ≡ from.app) × (to.limit ≡ from.limit)
+  pub app : (to.served ≡ from.served) × (to.limit ≡ from.limit)
   pub later : Later (state from.session.link) (state to.session.link)
   pub leaves : PollLeaves state from to answer
   pub plan : same_plan from.session.link to.session.link
   pub accounted : (before : LinkState) → Accounted state before from.session from.done from.last
       → Accounted state before to.session to.done to.last
   pub agrees : (before : LinkState) → Accounted state before from.session from.done from.last
-      → Agrees EchoGives to.limit before (state to.session.link) (entries to)
+      → Agrees (plain EchoGives) to.limit before (state to.session.link) (entries to)
   pub extends : Extends now false (state from.session.link) (state to.session.link) (entries from)
       (entries to)
   pub cause : IfNone from.end ((before : LinkState)
       → Accounted state before from.session from.done from.last
-      → Cause state begins (λ _. 0) before from to answer)
+      → PlainCause state begins (λ _. 0) before from to answer)
   pub timely : IfNone from.end (IsTimely state now from to answer)
 
--- one poll at the moment that the clock told
+if_none : {P Q : Type 0} (end : Option End) → (P → Q) → IfNone end P → IfNone end Q
+if_none None f p = f p
+if_none (Some reason) f p = tt
+
+-- one poll at the moment that the clock told, of a connection whose modules change nothing
 pub poll_of : {L C A J : Type 0} {state : L → LinkState} {same_plan : L → L → Type 0}
     {begins : J → Type 0} {told now : ℕ} {from to : View L C A J} {answer : Progress}
-    → told ≡ now → (to.app ≡ from.app) × (to.limit ≡ from.limit)
+    (filters : Filters) → ArePlain filters → told ≡ now → (to.served ≡ from.served) × (to.limit ≡ from.limit)
     → Later (state from.session.link) (state to.session.link)
     → PollLeaves state from to answer → same_plan from.session.link to.session.link
     → ((before : LinkState) → Accounted state before from.session from.done from.last
     → Accounted state before to.session to.done to.last)
     → ((before : LinkState) → Accounted state before from.session from.done from.last
-    → Agrees EchoGives to.limit before (state to.session.link) (entries to))
+    → Agrees (record { gives = EchoGives; filters = filters }) to.limit before (state to.session.link)
+    (entries to))
     → Extends told false (state from.session.link) (state to.session.link) (entries from)
     (entries to)
     → IfNone from.end ((before : LinkState)
     → Accounted state before from.session from.done from.last
-    → Cause state begins (λ _. 0) before from to answer)
+    → Cause filters state begins (λ _. 0) before from to answer)
     → IfNone from.end (IsTimely state told from to answer)
     → IsPoll state same_plan begins now from to answer
-poll_of {state = state} {from = from} {to = to} {answer = answer} at app later leaves plan accounted
-    agrees extends cause timely =
+poll_of {state = state} {begins = begins} {from = from} {to = to} {answer = answer} filters none at
+    app later leaves plan accounted agrees extends cause timely =
+    let rules : Rules = record { gives = EchoGives; filters = filters } in
     record {
       app = app;
       later = later;
       leaves = leaves;
       plan = plan;
       accounted = accounted;
-      agrees = agrees;
+      agrees = λ before h. plain_agrees rules none to.limit before (state to.session.link) (entries to)
+          (agrees before h);
       extends = subst (λ now. Extends now false (state from.session.link) (state to.session.link)
           (entries from) (entries to)) at extends;
-      cause = cause;
+      cause = if_none from.end
+          (λ why before h. cause_plain rules none state begins (λ _. 0) before from to answer
+          (why before h))
+          cause;
       timely = subst (λ now. IfNone from.end (IsTimely state now from to answer)) at timely;
     }
 
@@ -254,7 +267,7 @@ pub record IsCall {L C A J : Type 0} (state : L → LinkState) (same_plan : L �
   pub accounted : (before : LinkState) → Accounted state before from.session from.done from.last
       → Accounted state before to.session to.done to.last
   pub agrees : (before : LinkState) → Accounted state before from.session from.done from.last
-      → Agrees EchoGives to.limit before (state to.session.link) (entries to)
+      → Agrees (plain EchoGives) to.limit before (state to.session.link) (entries to)
   pub served : AllByRecursion
       (BeganInCall first now (state from.session.link) (state to.session.link))
       (entries to)
@@ -279,7 +292,7 @@ pub serving_none : {L C A J : Type 0} (state : L → LinkState) (same_plan : L �
     → same_plan from.session.link from.session.link → IsUnpolled from
     → IsServing state same_plan 0 first first from from
 serving_none state same_plan first from plan new = record {
-  kept = record { app = refl; limit = refl; plan = plan; clock = omega arith };
+  kept = record { served = refl; limit = refl; plan = plan; clock = omega arith };
   leaves = subst (LeavesInCall 0 (state from.session.link) (state from.session.link) (entries from))
       (sym new.end) (leaves_none (state from.session.link) (entries from));
   accounted = λ before h. h;
@@ -299,7 +312,7 @@ kept_on : {L C A J : Type 0} {state : L → LinkState} {same_plan : L → L → 
     → IsServing state same_plan polls first mid from at
     → IsPoll state same_plan begins now at to answer → KeptInCall same_plan first now from to
 kept_on {from = from} {at = at} {to = to} plan_on high s p = record {
-  app = p.app.0 ∙ s.kept.app;
+  served = p.app.0 ∙ s.kept.served;
   limit = p.app.1 ∙ s.kept.limit;
   plan = plan_on from.session.link at.session.link to.session.link s.kept.plan p.plan;
   clock = omega (arith, s.kept.clock, high);
@@ -311,11 +324,11 @@ cause_of : {L C A J : Type 0} (state : L → LinkState) (same_plan : L → L →
     → IsServing state same_plan polls first mid from at
     → IsPoll state same_plan begins now at to answer
     → (before : LinkState) → Accounted state before from.session from.done from.last
-    → Cause state begins (λ _. 0) before at to answer
+    → PlainCause state begins (λ _. 0) before at to answer
 cause_of state same_plan begins polls first mid now from at to answer s p before h =
     let asked =
     at_none at.end ((before : LinkState) → Accounted state before at.session at.done at.last
-    → Cause state begins (λ _. 0) before at to answer) (s.alive before h) p.cause in
+    → PlainCause state begins (λ _. 0) before at to answer) (s.alive before h) p.cause in
     asked before (s.accounted before h)
 
 pub waiting_of : (answer : Progress) → ((reason : End) → answer ≡ progress.Ready reason → ⊥)

@@ -16,6 +16,7 @@ use Rattle.h1_link.specs.MemRule.{Rule, EndReached}
 use Rattle.h1_link.specs.MemState.{MemState, new_mem_state}
 use Rattle.h1_link.specs.declared.memory.gate.Gate.{Gate}
 use Rattle.h1_link.specs.declared.memory.gate.Gate.TheVariants.{Open, Room, Blocked}
+use Rattle.h1_transcript.specs.Rules.{plain}
 use Rattle.h1_transcript.specs.declared.transcript.Entry.{Entry}
 use Rattle.h1_transcript.specs.Agrees.{Agrees}
 use Rattle.h1_transcript.specs.Complete.{GaveOf, AreServed}
@@ -26,10 +27,10 @@ use Rattle.h1_transcript.proofs.BehindLemmas.{read_map}
 use Rattle.h1_echo.specs.Echo.{EchoGives}
 use Rattle.h1_app.specs.Accounted.{Accounted, ReadSo}
 use Rattle.h1_app.specs.Leaves.{ShutBy}
-use Rattle.h1_app.specs.View.{View, entries, IsNewConnection, limit_of}
+use Rattle.h1_app.specs.View.{Served, View, entries, IsNewConnection, limit_of}
 use Rattle.h1_app.specs.declared.options.HttpServerOptions.{HttpServerOptions}
 use Rattle.h1_echo.specs.declared.echo.EchoApp.{EchoApp}
-use Rattle.h1_echo.specs.declared.echo.EchoJob.{EchoJob}
+use Rattle.h1_modules.specs.declared.no_modules.NoModules.{NoModules}
 use Rattle.h1_generator.specs.Generated.{generated}
 use Rattle.h1_generator.specs.Kept.{IsKeptOn}
 use Rattle.h1_generator.specs.Messages.{messages}
@@ -37,7 +38,7 @@ use Rattle.h1_words.specs.declared.words.TheConstants.{MOST_GENERATED}
 use Rattle.h1_generator.proofs.EndLemmas.{Over, ends_served}
 use Rattle.h1_generator.proofs.LengthLemmas.{never_spent}
 use Rattle.h1_generator.proofs.ValidLemmas.{many}
-use Rattle.h1_serving.specs.Served.{BeganInCall, Waited, AnswersFor}
+use Rattle.h1_serving.specs.Served.{EchoedView, BeganInCall, Waited, AnswersFor}
 use Rattle.h1_serving.specs.Whole.{failure_of, IsFed, IsReady, IsServedWhole}
 use Rattle.h1_serving.specs.declared.serving.TheConstants.{MOST_POLLS}
 
@@ -153,7 +154,7 @@ pub record IsCalled {C A J : Type 0} (count first last : ℕ) (view : View MemSt
   pub fed : IsFed (generated count) view.session.link
   pub rule : Rule view.session.link
   pub accounted : Accounted link_state new_mem_state.state view.session view.done view.last
-  pub agrees : Agrees EchoGives None new_mem_state.state view.session.link.state (entries view)
+  pub agrees : Agrees (plain EchoGives) None new_mem_state.state view.session.link.state (entries view)
   pub served : AllByRecursion (BeganInCall first last new_mem_state.state view.session.link.state)
       (entries view)
   pub answers : AnswersFor link_state MOST_POLLS new_mem_state.state new_mem_state.state view answer
@@ -269,7 +270,7 @@ memory_of count first last view (progress.Ready (end.Failed met)) error c some =
     (over count first last view (progress.Ready (end.Failed met)) c) c.answers.1
 
 -- a connection that is ready, served by the call
-pub record IsCall (count first last : ℕ) (from to : View MemState (Unit {0}) EchoApp EchoJob)
+pub record IsCall (count first last : ℕ) (from to : EchoedView MemState)
     (answer : Progress) : Type 0 where
   pub few : count ≤ MOST_GENERATED
   pub ready : IsReady count from
@@ -281,13 +282,13 @@ pub record IsCall (count first last : ℕ) (from to : View MemState (Unit {0}) E
       → Accounted link_state before from.session from.done from.last
       → Accounted link_state before to.session to.done to.last
   pub agrees : (before : LinkState) → Accounted link_state before from.session from.done from.last
-      → Agrees EchoGives to.limit before to.session.link.state (entries to)
+      → Agrees (plain EchoGives) to.limit before to.session.link.state (entries to)
   pub served : AllByRecursion (BeganInCall first last from.session.link.state to.session.link.state)
       (entries to)
   pub answers : (before : LinkState) → Accounted link_state before from.session from.done from.last
       → AnswersFor link_state MOST_POLLS before from.session.link.state to answer
 
-pub called : (count first last : ℕ) (from to : View MemState (Unit {0}) EchoApp EchoJob)
+pub called : (count first last : ℕ) (from to : EchoedView MemState)
     (answer : Progress)
     → IsCall count first last from to answer → IsCalled count first last to answer
 called count first last from to answer c = record {
@@ -295,7 +296,7 @@ called count first last from to answer c = record {
   fed = fed_on (generated count) from.session.link to.session.link c.ready.fed c.plan;
   rule = c.rule;
   accounted = c.accounted new_mem_state.state c.ready.accounted;
-  agrees = subst (λ l. Agrees EchoGives l new_mem_state.state to.session.link.state (entries to))
+  agrees = subst (λ l. Agrees (plain EchoGives) l new_mem_state.state to.session.link.state (entries to))
       (c.limit ∙ c.ready.limit) (c.agrees new_mem_state.state c.ready.accounted);
   served = subst
       (λ s. AllByRecursion (BeganInCall first last s to.session.link.state) (entries to))
@@ -318,16 +319,16 @@ if_err (Ok x) P Q goes h = tt
 if_err (Err e) P Q goes h = goes e h
 
 -- before the first poll
-pub ready_of : (count : ℕ) (app : EchoApp) (options : Option HttpServerOptions) (link : MemState)
-    (made : View MemState (Unit {0}) EchoApp EchoJob)
+pub ready_of : (count : ℕ) (server : Served EchoApp NoModules) (options : Option HttpServerOptions)
+    (link : MemState) (made : EchoedView MemState)
     → options ≡ None
     → link ≡ record new_mem_state {
       put = generated count;
       end_at = Some (length (generated count));
     }
-    → IsNewConnection app options link made
+    → IsNewConnection server options link made
     → Accounted link_state link.state made.session made.done made.last → IsReady count made
-ready_of count app options link made plain is new accounted =
+ready_of count server options link made plain is new accounted =
     let linked : made.session.link ≡ record new_mem_state {
       put = generated count;
       end_at = Some (length (generated count));

@@ -16,8 +16,15 @@ use Rattle.h1_transcript.specs.Told.{ToldGrowth}
 use Rattle.h1_transfer.specs.declared.budget.TheConstants.{CALL_BUDGET}
 use Rattle.h1_app.specs.Leaves.{NotesFault, WritesHeld, ReadsHeld, ShutBy}
 use Rattle.h1_app.specs.Timely.{IsTimely}
-use Rattle.h1_app.specs.View.{View, work_of}
+use Rattle.h1_app.specs.View.{Served, View, work_of}
 use Rattle.h1_app.specs.Work.{Work, reads_head, drains, writes_piece, untimed}
+use Rattle.h1_echo.specs.declared.echo.EchoApp.{EchoApp}
+use Rattle.h1_echo.specs.declared.echo.EchoJob.{EchoJob}
+use Rattle.h1_modules.specs.declared.no_modules.NoModules.{NoModules}
+
+-- what is seen of a connection of the echo application without modules
+abbrev pub EchoedView : Type 0 → Type 0
+EchoedView L = View L (Unit {0}) (Served EchoApp NoModules) EchoJob
 
 -- no exchange began yet, no wait is noted, and the connection hasn't ended
 pub record IsUnpolled {L C A J : Type 0} (view : View L C A J) : Type 0 where
@@ -26,10 +33,10 @@ pub record IsUnpolled {L C A J : Type 0} (view : View L C A J) : Type 0 where
   pub work : work_of view ≡ reads_head None
   pub end : view.end ≡ None
 
--- the application, its limit and the link's plan stay, and the clock doesn't go back
+-- what is served, its limit and the link's plan stay, and the clock doesn't go back
 pub record KeptInCall {L C A J : Type 0} (same_plan : L → L → Type 0) (first last : ℕ)
     (from to : View L C A J) : Type 0 where
-  pub app : to.app ≡ from.app
+  pub served : to.served ≡ from.served
   pub limit : to.limit ≡ from.limit
   pub plan : same_plan from.session.link to.session.link
   pub clock : first ≤ last

@@ -7,6 +7,7 @@ use Rattle.h1_error.specs.declared.progress.Progress.TheVariants as progress
 use Rattle.h1_link.specs.MemPlan.{faults_due}
 use Rattle.h1_link.specs.declared.memory.gate.Gate.TheVariants.{Open}
 use Rattle.h1_link.specs.MemState.{MemState, new_mem_state}
+use Rattle.h1_transcript.specs.Rules.{plain}
 use Rattle.h1_transcript.specs.Agrees.{Agrees}
 use Rattle.h1_transcript.specs.Complete.{AreServed}
 use Rattle.h1_transcript.specs.Ends.{AreAllDone}
@@ -55,4 +56,4 @@ pub record IsServedWhole {C A J : Type 0} (count : ℕ) (served : View MemState 
   pub many : length (entries served) ≡ count
   pub served_all : AreServed served.done (messages count)
   pub complete : AreAllDone new_mem_state.state served.session.link.state served.done served.last
-  pub agrees : Agrees EchoGives None new_mem_state.state served.session.link.state (entries served)
+  pub agrees : Agrees (plain EchoGives) None new_mem_state.state served.session.link.state (entries served)

@@ -36,7 +36,7 @@ fn connect(alloc: Global, count: u32) -> Result<Echoed<MemLink>, Error>
     let mut link = MemLink::new(alloc);
     link.give(bytes.as_slice())?;
     link.end();
-    let server = Arc::new(alloc, HttpServer::new_app(EchoApp))?;
+    let server = Arc::new(alloc, HttpServer::new_app(alloc, EchoApp))?;
     Connection::new(alloc, server, link)
 }
 

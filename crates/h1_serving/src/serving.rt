@@ -2,6 +2,7 @@
 ghost use Rattle.std.specs.List.{AllByRecursion};
 ghost use Rattle.h1_link.specs.LinkState.{LinkState};
 ghost use Rattle.h1_transcript.specs.Agrees.{Agrees};
+ghost use Rattle.h1_transcript.specs.Rules.{plain};
 ghost use Rattle.h1_app.specs.Accounted.{Accounted};
 ghost use Rattle.h1_app.specs.View.{entries};
 ghost use Rattle.h1_echo.specs.Echo.{EchoGives};
@@ -31,7 +32,7 @@ pub fn serve_link<L: Link + Drop, T: Clock>(connection: &mut Echoed<L>, clock: &
         connection.new.last }
     ensures agrees { (before : LinkState)
         → Accounted L.state before connection.old.session connection.old.done connection.old.last
-        → Agrees EchoGives connection.new.limit before (L.state connection.new.session.link)
+        → Agrees (plain EchoGives) connection.new.limit before (L.state connection.new.session.link)
         (entries connection.new) }
     ensures served { AllByRecursion (BeganInCall (T.moment clock.old) (T.moment clock.new)
         (L.state connection.old.session.link) (L.state connection.new.session.link))

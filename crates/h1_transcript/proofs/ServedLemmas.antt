@@ -1,5 +1,5 @@
 -- Every end of a connection with valid input is that of one that served it all, or being out of memory.
-use Rattle.std.proofs.Common.{◌≡◌, ◌≢◌, ℕ, ◌+◌, ◌-◌, ◌<◌, ◌⊎◌, inl, inr, List, [], ◌∷◌, ◌++◌, length, option_to_list, Bool, true, false, not, ◌&&◌, Option, Some, None, IfSome, refl, sym, ◌∙◌, ap, subst, append-nil, arith}
+use Rattle.std.proofs.Common.{◌≡◌, ◌≢◌, ℕ, ◌+◌, ◌-◌, ◌<◌, ◌⊎◌, inl, inr, List, [], ◌∷◌, ◌++◌, length, option_to_list, Bool, true, false, not, ◌&&◌, Option, Some, None, IfSome, Ok, refl, sym, ◌∙◌, ap, subst, append-nil, arith}
 use Rattle.h1_transcript.specs.Words.{AllByRecursion, Error, ErrorType, End, LinkState, ResponseView, wish, unfinished, broken, has_reuses, Reply, Entry, Whole}
 use Rattle.std.proofs.lemmas.Bool.{false≢true, true≢false}
 use Rattle.h1_transfer.specs.Deadline.{is_timeout}
@@ -8,7 +8,7 @@ use Rattle.h1_error.specs.declared.progress.End.TheVariants as end
 use Rattle.h1_body.proofs.GrammarRuns.{above}
 use Rattle.h1_transcript.proofs.Words.{AreOf, AfterRead, LastStands, AreServed, IfTold, Message, Begins, Parses, EndsAs, empty, begun}
 use Rattle.h1_transcript.specs.Agrees.{Agrees}
-use Rattle.h1_transcript.specs.Given.{Given}
+use Rattle.h1_transcript.specs.Rules.{Rules}
 use Rattle.h1_transcript.specs.Lawful.{IsLawful}
 use Rattle.h1_transcript.specs.Begun.{AreBegun, reuses_at}
 use Rattle.h1_transcript.specs.Ends.{EndCause, FailureCause, AreAllDone, StopsLast, OfLast, LastAfter, ReadAll}
@@ -39,12 +39,12 @@ some_left None i count within less = refl
 some_left (Some most) i count within less = above 0 (most - i) (omega (arith, within, less))
 
 -- a header that was sent is that of a reply, with its flag
-reply_of : (e : Entry) (head : Option ResponseView) → head ≢ None
-    → IfSome head (λ header. (reply : Reply) × (e.reply ≡ Some reply) × (header ≡ reply.header)
-    × IsLawful header × IsDated e)
+reply_of : (rules : Rules) (e : Entry) (head : Option ResponseView) → head ≢ None
+    → IfSome head (λ header. (reply : Reply) × (e.reply ≡ Some reply)
+    × (rules.filters.header e.head reply ≡ Ok header) × IsLawful header × IsDated e)
     → (reply : Reply) × (e.reply ≡ Some reply) × IsDated e
-reply_of e None some h = absurd (some refl)
-reply_of e (Some header) some h = (h.0, h.1, h.4)
+reply_of rules e None some h = absurd (some refl)
+reply_of rules e (Some header) some h = (h.0, h.1, h.4)
 
 if_some : {A : Type 0} (P : Type 0) (x : Option A) (value : A) → x ≡ Some value
     → IfSome x (λ value. P) → P
@@ -59,7 +59,7 @@ flag_true : (e : Entry) → wish e.head e.both ≡ true → e.left.keep_off ≡ 
 flag_true e wished off left whole =
     rw whole (all_true (wish e.head e.both) e.left.keep_off (has_reuses e.left.reuses) true wished off left refl)
 
-module _ (gives : Given → Reply → Type 0) (limit : Option ℕ) (before old now : LinkState)
+module _ (rules : Rules) (limit : Option ℕ) (before old now : LinkState)
     (input : List ℕ) (requests : List Message) (done : List Entry) where
   -- the premises: valid input, of which the link gave a front, and exchanges that keep the connection
   record Serving (last : Option Entry) : Type 0 where
@@ -67,7 +67,7 @@ module _ (gives : Given → Reply → Type 0) (limit : Option ℕ) (before old n
     gave : GaveOf input before now
     within : AreWithin limit (length requests)
     faultless : NoFault old now
-    agrees : Agrees gives limit before now (done ++ option_to_list last)
+    agrees : Agrees rules limit before now (done ++ option_to_list last)
     keeps : AllByRecursion KeepsOn (done ++ option_to_list last)
 
   parses_since : (last : Option Entry) (s : Serving last)
@@ -78,8 +78,8 @@ module _ (gives : Given → Reply → Type 0) (limit : Option ℕ) (before old n
   replied : (e : Entry) → Serving (Some e) → e.sent_head ≢ None
       → IsDated e × ((e.how ≡ Whole) × (e.left.keep_off ≡ false) × (e.left.pipelining ≡ true))
   replied e s sent =
-      let allowed = all_last (IsAllowed gives) done e s.agrees.allowed in
-      let reply = reply_of e e.sent_head sent allowed.sent_head in
+      let allowed = all_last (IsAllowed rules) done e s.agrees.allowed in
+      let reply = reply_of rules e e.sent_head sent allowed.sent_head in
       let keeps = all_last KeepsOn done e s.keeps in
       (reply.2, if_some _ e.reply reply.0 reply.1 keeps.replied)
 
@@ -91,7 +91,7 @@ module _ (gives : Given → Reply → Type 0) (limit : Option ℕ) (before old n
       s.gave.before_is s.gave.now_is s.agrees.read in
       let wished = last_wished now done e s.gave.since s.gave.rest read.0 requests read.1 read.2
       (parses_since (Some e) s) s.valid.wished in
-      let allowed = all_last (IsAllowed gives) done e s.agrees.allowed in
+      let allowed = all_last (IsAllowed rules) done e s.agrees.allowed in
       let left : has_reuses e.left.reuses ≡ true =
       ap has_reuses (allowed.reuses ∙ begun_last limit 0 false done e s.agrees.begun)
       ∙ some_left limit (0 + length done) (length requests) s.within (omega (arith, wished.1)) in
@@ -206,7 +206,7 @@ module _ (gives : Given → Reply → Type 0) (limit : Option ℕ) (before old n
 
   pub served : (last : Option Entry) (reason : End)
       → IsValid input requests → GaveOf input before now → AreWithin limit (length requests)
-      → NoFault old now → IsInTime now reason → Agrees gives limit before now (done ++ option_to_list last)
+      → NoFault old now → IsInTime now reason → Agrees rules limit before now (done ++ option_to_list last)
       → AllByRecursion KeepsOn (done ++ option_to_list last)
       → EndCause before old now done last reason → ServesAll before now requests done last reason
   served last reason valid gave within faultless in_time agrees keeps cause =

@@ -1,5 +1,5 @@
 -- One exchange: a request, what the application read of it, its reply and what was written.
-use Rattle.std.specs.Prelude.{◌/◌, ◌≡◌, ℕ, ◌<◌, ◌≤◌, List, [], ◌∷◌, ◌++◌, length, take, Bool, true, false, ◌&&◌, not, nat_lt, Option, Some, None, IfSome, IsSome}
+use Rattle.std.specs.Prelude.{◌/◌, ◌≡◌, ℕ, ◌<◌, ◌≤◌, List, [], ◌∷◌, ◌++◌, length, take, Bool, true, false, ◌&&◌, not, nat_lt, Option, Some, None, IfSome, IsSome, Ok}
 use Rattle.h1_error.specs.declared.moment.TheConstants.{YEAR_10000}
 use Rattle.h1_transcript.specs.Words.{RequestView, ResponseView, wish, Framing, Counted, Chunked, UntilClose, out, has_reuses, Reply, Entry, How, Open, Whole, Failed}
 use Rattle.h1_head.specs.Wire.{head_bytes, reply_head}
@@ -7,6 +7,7 @@ use Rattle.h1_head.specs.Date.{IsDateAt}
 use Rattle.h1_body.specs.Writer.{body_bytes}
 use Rattle.h1_transcript.specs.Given.{Given}
 use Rattle.h1_transcript.specs.Lawful.{IsLawful}
+use Rattle.h1_transcript.specs.Rules.{Rules}
 
 -- the payload that goes out: none where the application's body was empty
 abbrev pub shown : Option Reply → List ℕ → List ℕ
@@ -72,15 +73,17 @@ pub record IsDated (e : Entry) : Type 0 where
   pub limit : e.date < YEAR_10000 / 1000
   pub keep : e.keep ≡ may_keep e
 
--- What an exchange may be: no filter changes a head, the application's relation gives the reply,
--- and what is sent is that reply, with one date and one flag.
-pub record IsAllowed (gives : Given → Reply → Type 0) (e : Entry) : Type 0 where
-  pub filtered : IfSome e.filtered (λ filtered. filtered ≡ e.head)
-  pub reply : IfSome e.reply (λ reply. (e.filtered ≡ Some e.head) × gives (given_to e e.head) reply)
+-- What an exchange may be: the filters make the head that the application is given of the one that
+-- was read, the application's relation gives the reply, and what is sent is what the filters make of
+-- that reply, with one date and one flag.
+pub record IsAllowed (rules : Rules) (e : Entry) : Type 0 where
+  pub filtered : IfSome e.filtered (λ filtered. rules.filters.request e.head ≡ Ok filtered)
+  pub reply : IfSome e.reply (λ reply. (filtered : RequestView) × (e.filtered ≡ Some filtered)
+      × rules.gives (given_to e filtered) reply)
   pub sent_head : IfSome e.sent_head (λ header. (reply : Reply) × (e.reply ≡ Some reply)
-      × (header ≡ reply.header) × IsLawful header × IsDated e)
+      × (rules.filters.header e.head reply ≡ Ok header) × IsLawful header × IsDated e)
   pub sent_body : IfSome e.sent_body (λ sent. (reply : Reply) × (e.reply ≡ Some reply)
-      × (sent ≡ reply.body))
+      × (rules.filters.body e.head reply ≡ Ok sent))
   pub handed : e.handed ≤ length e.body
   pub reuses : e.left.reuses ≡ e.began.reuses
   pub owed : e.owed ≡ true → IsSome e.sent_head

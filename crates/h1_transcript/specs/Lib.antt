@@ -1,5 +1,8 @@
 pub mod Given
 pub mod Lawful
+pub mod LawfulLines
+pub mod Rules
+pub mod Refusals
 pub mod Told
 pub mod Ends
 pub mod Entries

@@ -86,7 +86,7 @@ impl Model for Transcript {
 }
 
 impl Transcript {
-    ghost use Rattle.h1_transcript.specs.Entries.{transcript_entries, with_last};
+    ghost use Rattle.h1_transcript.specs.Entries.{new_entry, transcript_entries, with_last};
     ghost use Rattle.h1_transcript.specs.Lending.{LendsLast};
 
     /// No exchange yet.
@@ -100,17 +100,36 @@ impl Transcript {
         }
     }
 
-    /// An exchange begins, where none goes on.
+    /// An exchange begins, where none goes on, with what is set. Its heads are still to be put in
+    /// their places. `both` says whether Content-Length was dropped from the first of them.
     #[inline(always)]
-    pub fn begin(&mut self, entry: Entry) -> Result<(), Error>
+    pub fn begin(&mut self, alloc: Global, settings: Settings, both: bool) -> Result<(), Error>
         requires { self.old.last ≡ None }
-        ensures ok { OnOk result (self.new ≡ with_last self.old entry) }
+        ensures ok { OnOk result (self.new ≡ with_last self.old (new_entry settings both)) }
         ensures err { OnErr result (self.new ≡ self.old) }
         ensures memory { IfErr result (λ error. error ≡ no_memory) }
     {
-        // Room is made first, so that no entry has to come back.
+        // Room is made first, so that no entry has to be taken back.
         self.entries.reserve(1)?;
-        self.entries.push_reserved(entry);
+        self.entries.push_reserved(Entry {
+            head: RequestHeader::new(alloc),
+            filtered: Some(RequestHeader::new(alloc)),
+            body: BodyBytes::new(alloc),
+            handed: 0,
+            body_error: None,
+            how: How::Open,
+            began: settings,
+            left: settings,
+            reply: None,
+            sent_head: None,
+            sent_body: None,
+            written: 0,
+            date: 0,
+            date_text: [0; 29],
+            both,
+            keep: false,
+            owed: false,
+        });
         Ok(())
     }
 

@@ -1,5 +1,5 @@
 //! The application runs, until it has replied.
-ghost use Rattle.std.specs.Prelude.{◌≡◌, ◌+◌, Bool, ◌<◌, ◌≤◌, IsSome, None, Some, false};
+ghost use Rattle.std.specs.Prelude.{◌≡◌, ◌+◌, ◌<◌, ◌≤◌, IsSome, None, Some, false};
 ghost use Rattle.h1_error.specs.declared.moment.TheConstants.{YEAR_10000};
 ghost use Rattle.h1_transcript.specs.declared.transcript.Entry.{Entry};
 ghost use Rattle.h1_head.specs.Views.{RequestView};
@@ -9,10 +9,11 @@ ghost use Rattle.h1_transcript.specs.Exchange.{given_to};
 ghost use Rattle.h1_app.specs.Beginning.{IsAnswerStage};
 ghost use Rattle.h1_app.specs.Asking.{AsksAs, RunsOn, GivesAsked, PendsAsked, IsAskedOf, noted};
 ghost use Rattle.h1_app.specs.Turn.{LeavesBy};
-ghost use Rattle.h1_app.specs.Step.{StepReady, Stepped, Continues};
+ghost use Rattle.h1_app.specs.Filtering.{FiltersStay};
+ghost use Rattle.h1_app.specs.Step.{StepReady, SteppedBy, Continues};
 
 use crate::exchange::{Exchange, Outcome, Stage};
-use crate::{Entry, How, HttpServer, Reply, ServeHttp};
+use crate::{Entry, How, Reply, ServeHttp};
 use futures::task::Poll;
 use h1_body::BodyBytes;
 use h1_error::{End, Error, Waiting};
@@ -22,26 +23,26 @@ use std::alloc::Global;
 use std::mem;
 
 /// Lets the application go on. What it reads of the body joins the exchange.
-pub(super) fn answer<L: Link + Drop, SV: ServeHttp<L, C> + Drop, B: Drop, C: Drop>(
+pub(super) fn answer<L: Link + Drop, SV: ServeHttp<L, C> + Drop, C: Drop>(
     alloc: Global,
-    server: &HttpServer<SV, B>,
+    app: &SV,
     exchange: &mut Exchange<L, SV::Job, C>,
     now: u64,
 ) -> Outcome
-    requires ready { StepReady (SV.gives server.now.app) (SV.runs server.now.app) now exchange.old }
+    requires ready { StepReady (SV.runs app.now) now exchange.old }
     requires at { IsAnswerStage exchange.old.stage }
-    ensures stepped { (shutdown : Bool)
-        → Stepped L.state SV.pends (SV.gives server.now.app) (SV.runs server.now.app) now shutdown
+    ensures stepped { SteppedBy L.state SV.pends (SV.gives app.now) (SV.runs app.now) now
         exchange.old exchange.new result }
     ensures continues { Continues L.state L.same_plan SV.begins SV.pends exchange.old exchange.new
         result }
     ensures leaves { LeavesBy L.state exchange.old exchange.new result }
+    ensures filters { FiltersStay exchange.old.transcript.last exchange.new.transcript.last }
 {
     let entry = exchange.transcript.last_entry();
     let Stage::Answer(job) = &mut exchange.stage else {
         unreachable!()
     };
-    match ask(alloc, &server.app, job, &mut exchange.session, entry, now) {
+    match ask(alloc, app, job, &mut exchange.session, entry, now) {
         Asked::Reads => Outcome::Waits(Waiting::Read),
         Asked::Pends => Outcome::Waits(Waiting::App),
         Asked::Failed(error) => Outcome::Ends(End::Failed(error)),

@@ -1,5 +1,5 @@
 //! The reply is written: what is left of the request's body is read, where the connection is kept.
-ghost use Rattle.std.specs.Prelude.{◌≡◌, Bool, ◌<◌, IsSome, None, true};
+ghost use Rattle.std.specs.Prelude.{◌≡◌, ◌<◌, IsSome, None, true};
 ghost use Rattle.h1_app.specs.declared.exchange.Stage.TheVariants as at;
 ghost use Rattle.h1_transcript.specs.declared.transcript.Entry.{Entry};
 ghost use Rattle.h1_app.specs.Draining.{ReusesAs, CalledForReuse, StandsDrained};
@@ -8,10 +8,11 @@ ghost use Rattle.h1_transfer.specs.Calls.{read_fault_of};
 ghost use Rattle.h1_server.specs.Persistence.{is_replied, keeps_alive};
 ghost use Rattle.h1_transfer.specs.declared.outgoing.Step.TheVariants.{Free};
 ghost use Rattle.h1_app.specs.Turn.{LeavesBy};
-ghost use Rattle.h1_app.specs.Step.{StepReady, Stepped, Continues};
+ghost use Rattle.h1_app.specs.Filtering.{FiltersStay};
+ghost use Rattle.h1_app.specs.Step.{StepReady, SteppedBy, Continues};
 
 use crate::exchange::{Exchange, Outcome, Stage};
-use crate::{Entry, HttpServer, ServeHttp};
+use crate::{Entry, ServeHttp};
 use futures::task::Poll;
 use h1_body::BodyBytes;
 use h1_error::{End, Error, Waiting};
@@ -22,20 +23,20 @@ use std::mem;
 
 /// Reads what the application left unread of the request's body. A connection that isn't kept ends,
 /// and so does one after whose request bytes came where none may.
-pub(super) fn drain<L: Link + Drop, SV: ServeHttp<L, C> + Drop, B: Drop, C: Drop>(
+pub(super) fn drain<L: Link + Drop, SV: ServeHttp<L, C> + Drop, C: Drop>(
     alloc: Global,
-    server: &HttpServer<SV, B>,
+    app: &SV,
     exchange: &mut Exchange<L, SV::Job, C>,
     now: u64,
 ) -> Outcome
-    requires ready { StepReady (SV.gives server.now.app) (SV.runs server.now.app) now exchange.old }
+    requires ready { StepReady (SV.runs app.now) now exchange.old }
     requires at { exchange.old.stage ≡ at.Drain }
-    ensures stepped { (shutdown : Bool)
-        → Stepped L.state SV.pends (SV.gives server.now.app) (SV.runs server.now.app) now shutdown
+    ensures stepped { SteppedBy L.state SV.pends (SV.gives app.now) (SV.runs app.now) now
         exchange.old exchange.new result }
     ensures continues { Continues L.state L.same_plan SV.begins SV.pends exchange.old exchange.new
         result }
     ensures leaves { LeavesBy L.state exchange.old exchange.new result }
+    ensures filters { FiltersStay exchange.old.transcript.last exchange.new.transcript.last }
 {
     let entry = exchange.transcript.last_entry();
     let answer = reuse(alloc, &mut exchange.session, entry, now);

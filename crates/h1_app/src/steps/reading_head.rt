@@ -1,37 +1,52 @@
 //! A head is awaited; with it the exchange begins.
-ghost use Rattle.std.specs.Prelude.{◌≡◌, ◌+◌, ◌<◌, IsSome, IfOk, IfErr, OnOk, None, Some};
+ghost use Rattle.std.specs.Prelude.{◌≡◌, [], IsSome, IfOk, IfErr, IfSome, None, Ok, OnOk, Some, map};
 ghost use Rattle.h1_error.specs.Memory.{no_memory};
-ghost use Rattle.h1_server.specs.Keepalive.{keepalive_set};
-ghost use Rattle.h1_app.specs.Beginning.{StartedAs, BegunAs, head_time};
+ghost use Rattle.h1_head.specs.Views.{RequestView};
+ghost use Rattle.h1_server.specs.declared.settings.Settings.{Settings};
+ghost use Rattle.h1_transcript.specs.Entries.{with_last};
+ghost use Rattle.h1_modules.specs.Filters.{run};
+ghost use Rattle.h1_modules.specs.Outcome.{ErrsBy, refused_by};
+ghost use Rattle.h1_app.specs.Beginning.{BegunAs, BegunFor, HeadFiltered, HeadRefused, IfLast, IsNewEntry, StartedAs, head_time, kept_again};
+ghost use Rattle.h1_app.specs.Filtering.{chain};
+ghost use Rattle.h1_app.specs.FilterSteps.{SteppedWith};
 ghost use Rattle.h1_app.specs.declared.exchange.Stage.TheVariants as at;
 ghost use Rattle.h1_app.specs.Turn.{LeavesBy};
-ghost use Rattle.h1_app.specs.Step.{StepReady, Stepped, Continues};
+ghost use Rattle.h1_app.specs.Step.{StepReady, Continues};
 
+use super::filtering::filter_request;
 use crate::exchange::{Exchange, Outcome, Stage};
-use crate::{Entry, How, HttpServer, ServeHttp, Transcript};
+use crate::{Entry, HttpServer, ServeHttp, Transcript};
 use futures::task::Poll;
-use h1_body::BodyBytes;
 use h1_error::{End, Error, Waiting};
 use h1_head::RequestHeader;
 use h1_link::Link;
+use h1_modules::{HttpModuleBuilder, HttpModuleCtx, HttpModules};
 use h1_server::{HttpSession, ReadRequest, Request, Settings};
 use std::alloc::Global;
 
 /// How long a connection waits for a head, in seconds.
 const KEEPALIVE_SECONDS: u64 = 60;
 
-/// Reads a head, for which there is a minute. With one, the application is started for its request.
-pub(super) fn read_head<L: Link + Drop, SV: ServeHttp<L, C> + Drop, B: Drop, C: Drop>(
+/// Reads a head, for which there is a minute. With one, its filters run and the application is
+/// started for its request.
+pub(super) fn read_head<L, SV, B, C>(
     alloc: Global,
     server: &HttpServer<SV, B>,
+    modules: &mut HttpModuleCtx<B::Module>,
     exchange: &mut Exchange<L, SV::Job, C>,
     now: u64,
     shutdown: bool,
 ) -> Outcome
-    requires ready { StepReady (SV.gives server.now.app) (SV.runs server.now.app) now exchange.old }
+where
+    L: Link + Drop,
+    SV: ServeHttp<L, C> + Drop,
+    B: HttpModuleBuilder + Drop,
+    C: Drop,
+    requires ready { StepReady (SV.runs server.now.app) now exchange.old }
     requires at { exchange.old.stage ≡ at.Head }
-    ensures stepped { Stepped L.state SV.pends (SV.gives server.now.app)
-        (SV.runs server.now.app) now shutdown
+    ensures stepped { SteppedWith L.state SV.pends (SV.gives server.now.app) (SV.runs server.now.app)
+        (chain B.begins B.Module.request_header B.Module.response_header
+        B.Module.response_body server.now.modules) now shutdown modules.new.modules
         exchange.old exchange.new result }
     ensures continues { Continues L.state L.same_plan SV.begins SV.pends exchange.old exchange.new
         result }
@@ -43,6 +58,7 @@ pub(super) fn read_head<L: Link + Drop, SV: ServeHttp<L, C> + Drop, B: Drop, C: 
         Poll::Ready(Ok(ReadRequest::Head(_))) => begin(
             alloc,
             server,
+            modules,
             &mut exchange.session,
             &mut exchange.transcript,
             &mut exchange.stage,
@@ -55,30 +71,31 @@ pub(super) fn read_head<L: Link + Drop, SV: ServeHttp<L, C> + Drop, B: Drop, C: 
 
 /// Begins the exchange of the head that was read.
 #[inline(always)]
-fn begin<L: Link + Drop, SV: ServeHttp<L, C> + Drop, B: Drop, C: Drop>(
+fn begin<L, SV, B, C>(
     alloc: Global,
     server: &HttpServer<SV, B>,
+    modules: &mut HttpModuleCtx<B::Module>,
     session: &mut HttpSession<L, C>,
     transcript: &mut Transcript,
     stage: &mut Stage<SV::Job>,
     shutdown: bool,
 ) -> Outcome
+where
+    L: Link + Drop,
+    SV: ServeHttp<L, C> + Drop,
+    B: HttpModuleBuilder + Drop,
+    C: Drop,
     requires read { IsSome session.old.request }
-    requires unread { (session.old.body.kept ≡ None) × (session.old.body.refused ≡ None) }
     requires at { (stage.old ≡ at.Head) × (transcript.old.last ≡ None) }
-    ensures session { session.new
-        ≡ record session.old
-        { settings = keepalive_set session.old.settings (head_time shutdown) } }
-    ensures begun { BegunAs SV.begins
-        (SV.runs server.now.app) session.new transcript.new.last stage.new result }
+    ensures begun { BegunAs SV.begins (SV.runs server.now.app)
+        (chain B.begins B.Module.request_header B.Module.response_header
+        B.Module.response_body server.now.modules)
+        (kept_again shutdown session.old) session.new modules.new.modules transcript.new.last
+        stage.new result }
     ensures done { transcript.new.done ≡ transcript.old.done }
 {
     session.set_server_keepalive(keepalive(shutdown));
-    let settings = session.settings();
-    let Some(request) = session.request() else {
-        unreachable!()
-    };
-    match start(alloc, &server.app, request, settings, transcript) {
+    match start(alloc, server, modules, session, transcript) {
         Ok(job) => {
             *stage = Stage::Answer(job);
             Outcome::Done
@@ -87,47 +104,61 @@ fn begin<L: Link + Drop, SV: ServeHttp<L, C> + Drop, B: Drop, C: Drop>(
     }
 }
 
-/// Starts the application for a request, and puts the exchange where none goes on.
+/// Puts the exchange of a request where none goes on, and starts the application for what the
+/// filters make of its head. Where one refuses, or there is no memory for it, the exchange stays as
+/// it began, without a head for the application.
 #[inline(always)]
-fn start<L: Link + Drop, SV: ServeHttp<L, C> + Drop, C: Drop>(
+fn start<L, SV, B, C>(
     alloc: Global,
-    app: &SV,
+    server: &HttpServer<SV, B>,
+    modules: &mut HttpModuleCtx<B::Module>,
+    session: &mut HttpSession<L, C>,
+    transcript: &mut Transcript,
+) -> Result<SV::Job, Error>
+where
+    L: Link + Drop,
+    SV: ServeHttp<L, C> + Drop,
+    B: HttpModuleBuilder + Drop,
+    C: Drop,
+    requires read { IsSome session.old.request }
+    requires last { transcript.old.last ≡ None }
+    ensures started { StartedAs SV.begins (SV.runs server.now.app)
+        (chain B.begins B.Module.request_header B.Module.response_header
+        B.Module.response_body server.now.modules) session.old session.new
+        modules.new.modules transcript.new.last result }
+    ensures done { transcript.new.done ≡ transcript.old.done }
+{
+    let settings = session.settings();
+    let Some(request) = session.request() else {
+        unreachable!()
+    };
+    begin_entry(alloc, request, settings, transcript)?;
+    filter_head(alloc, &server.modules, modules, session, transcript)?;
+    start_job(alloc, &server.app, transcript)
+}
+
+/// An exchange begins with the head of this request, which stands in the place of the head for the
+/// application too.
+#[inline(always)]
+fn begin_entry(
+    alloc: Global,
     request: &Request,
     settings: Settings,
     transcript: &mut Transcript,
-) -> Result<SV::Job, Error>
+) -> Result<(), Error>
     requires { transcript.old.last ≡ None }
-    ensures ok { IfOk result (λ job. StartedAs SV.begins (SV.runs app.now) request.now settings
-        transcript.new.last job) }
+    ensures ok { IfOk result (λ done. IfLast transcript.new.last (λ e.
+        IsNewEntry request.now settings e × (e.filtered ≡ Some request.now.header))) }
     ensures err { IfErr result (λ error. (error ≡ no_memory) × (transcript.new.last ≡ None)) }
     ensures done { transcript.new.done ≡ transcript.old.done }
 {
-    let job = app.start(alloc)?;
-    transcript.begin(Entry {
-        head: RequestHeader::new(alloc),
-        filtered: Some(RequestHeader::new(alloc)),
-        body: BodyBytes::new(alloc),
-        handed: 0,
-        body_error: None,
-        how: How::Open,
-        began: settings,
-        left: settings,
-        reply: None,
-        sent_head: None,
-        sent_body: None,
-        written: 0,
-        date: 0,
-        date_text: [0; 29],
-        both: request.both,
-        keep: false,
-        owed: false,
-    })?;
+    transcript.begin(alloc, settings, request.both)?;
     // The heads are copied to their places in the list, so that neither is moved.
     if let Err(error) = note_heads(transcript.last_entry(), &request.header) {
         transcript.drop_last();
         return Err(error);
     }
-    Ok(job)
+    Ok(())
 }
 
 /// Puts the head of the request in the places for it. With an error what stands there has no
@@ -144,6 +175,118 @@ fn note_heads(entry: &mut Entry, header: &RequestHeader) -> Result<(), Error>
         unreachable!()
     };
     header.copy_to(filtered)
+}
+
+/// Filters the head of the exchange that began, where there are modules, or were. Where one refuses,
+/// the exchange stays without a head for the application.
+#[inline(always)]
+fn filter_head<L, B, C>(
+    alloc: Global,
+    builders: &HttpModules<B>,
+    modules: &mut HttpModuleCtx<B::Module>,
+    session: &mut HttpSession<L, C>,
+    transcript: &mut Transcript,
+) -> Result<(), Error>
+where
+    L: Link + Drop,
+    B: HttpModuleBuilder + Drop,
+    C: Drop,
+    requires { BegunFor session.old.request transcript.old.last }
+    ensures ok { OnOk result (HeadFiltered (chain B.begins B.Module.request_header
+        B.Module.response_header B.Module.response_body builders.now) session.old session.new
+        modules.new.modules transcript.old transcript.new) }
+    ensures err { IfErr result (HeadRefused (chain B.begins B.Module.request_header
+        B.Module.response_header B.Module.response_body builders.now) session.old session.new
+        transcript.old transcript.new) }
+{
+    if builders.is_empty() && modules.is_empty() {
+        return Ok(());
+    }
+    let entry = transcript.last_entry();
+    let head = session.req_header_mut();
+    filter_noted(alloc, builders, modules, head, &mut entry.filtered)
+}
+
+/// The filters are given the head, and what they make of it is noted.
+#[cold]
+#[inline(never)]
+fn filter_noted<B: HttpModuleBuilder + Drop>(
+    alloc: Global,
+    builders: &HttpModules<B>,
+    modules: &mut HttpModuleCtx<B::Module>,
+    head: &mut RequestHeader,
+    filtered: &mut Option<RequestHeader>,
+) -> Result<(), Error>
+    requires { IsSome filtered.old }
+    ensures ok { OnOk result ((filtered.new ≡ Some head.new)
+        × (run B.Module.request_header (map B.begins builders.now) head.old
+        ≡ Ok (modules.new.modules, head.new))) }
+    ensures err { IfErr result (λ error. (filtered.new ≡ None) × ErrsBy refused_by
+        (run B.Module.request_header (map B.begins builders.now) head.old) error) }
+{
+    let noted = filter_and_note(alloc, builders, modules, head, filtered);
+    if noted.is_err() {
+        *filtered = None;
+    }
+    noted
+}
+
+/// The same, where what is noted has no meaning with an error.
+fn filter_and_note<B: HttpModuleBuilder + Drop>(
+    alloc: Global,
+    builders: &HttpModules<B>,
+    modules: &mut HttpModuleCtx<B::Module>,
+    head: &mut RequestHeader,
+    filtered: &mut Option<RequestHeader>,
+) -> Result<(), Error>
+    requires { IsSome filtered.old }
+    ensures ok { OnOk result ((filtered.new ≡ Some head.new)
+        × (run B.Module.request_header (map B.begins builders.now) head.old
+        ≡ Ok (modules.new.modules, head.new))) }
+    ensures err { IfErr result (ErrsBy refused_by
+        (run B.Module.request_header (map B.begins builders.now) head.old)) }
+{
+    filter_request(alloc, builders, modules, head)?;
+    let Some(place) = filtered else {
+        unreachable!()
+    };
+    head.copy_to(place)
+}
+
+/// The application is started for the head that was noted. Where there is no memory for that, the
+/// exchange stays without a head for it.
+#[inline(always)]
+fn start_job<L, SV, C>(
+    alloc: Global,
+    app: &SV,
+    transcript: &mut Transcript,
+) -> Result<SV::Job, Error>
+where
+    L: Link + Drop,
+    SV: ServeHttp<L, C> + Drop,
+    C: Drop,
+    requires { IsSome transcript.old.last }
+    ensures ok { IfOk result (λ job. (transcript.new ≡ transcript.old) × SV.begins job
+        × ((head : RequestView) (began : Settings) → SV.runs app.now job head began began [])) }
+    ensures err { IfErr result (λ error. (error ≡ no_memory)
+        × IfSome transcript.old.last (λ e.
+        transcript.new ≡ with_last transcript.old (record e { filtered = None }))) }
+{
+    let job = app.start(alloc);
+    if job.is_err() {
+        forget(transcript.last_entry());
+    }
+    job
+}
+
+/// The exchange stays without a head for the application. It stands apart from what runs for each
+/// request.
+#[cold]
+#[inline(never)]
+fn forget(entry: &mut Entry)
+    ensures { entry.new ≡ record entry.old { filtered = None } }
+{
+    entry.filtered = None;
 }
 
 /// Keep-alive with the time for the next head, or off.

@@ -1,42 +1,59 @@
 //! The reply is written: its header, its body, and the end of its body.
-ghost use Rattle.std.specs.Prelude.{◌≡◌, Bool, ◌/◌, IsSome, IfSome, IfOk, IfErr, None, Some};
+ghost use Rattle.std.specs.Prelude.{◌≡◌, Bool, Ok, ◌/◌, IsSome, IfSome, IfOk, IfErr, None, Some, true, unwrap_or, []};
 ghost use Rattle.h1_head.specs.Date.{IsDateAt};
 ghost use Rattle.h1_error.specs.Memory.{no_memory};
 ghost use Rattle.h1_app.specs.declared.exchange.Stage.TheVariants as at;
 ghost use Rattle.h1_transcript.specs.declared.transcript.Entry.{Entry};
 ghost use Rattle.h1_app.specs.Beginning.{IsPieceOf, failure_of};
 ghost use Rattle.h1_app.specs.Turn.{LeavesBy};
-ghost use Rattle.h1_app.specs.Step.{StepReady, Stepped, Continues};
-ghost use Rattle.h1_app.specs.Replying.{NotesHeader, StandsAfter};
+ghost use Rattle.h1_app.specs.Filtering.{FiltersStay, chain};
+ghost use Rattle.h1_app.specs.FilterSteps.{FilterReady, SteppedWith};
+ghost use Rattle.h1_app.specs.Step.{StepReady, SteppedBy, Continues};
+ghost use Rattle.h1_app.specs.Replying.{NotesBody, NotesHeader, StandsAfter, going};
+ghost use Rattle.h1_modules.specs.Filters.{run};
+ghost use Rattle.h1_modules.specs.Outcome.{ErrsBy, Piece, refused_by};
 ghost use Rattle.h1_server.specs.Replies.{kept_by};
 
+use super::filtering::{filter_body, sent_header};
 use crate::exchange::{Exchange, Outcome, Stage};
-use crate::{Entry, HttpServer, Reply, ServeHttp};
+use crate::{Entry, HttpServer, LawfulFor, Reply, ServeHttp};
 use bytes::Bytes;
 use futures::task::Poll;
 use h1_body::BodyBytes;
 use h1_error::{End, Error, ErrorType, Waiting};
 use h1_head::ResponseHeader;
 use h1_link::Link;
+use h1_modules::{HttpModule, HttpModuleCtx};
 use std::alloc::Global;
 
-/// Takes up the reply's header, with the date and the flag of this poll.
-pub(super) fn take_header<L: Link + Drop, SV: ServeHttp<L, C> + Drop, B: Drop, C: Drop>(
+/// Takes up what the modules make of the reply's header, with the date and the flag of this poll.
+pub(super) fn take_header<L, SV, B, C>(
+    alloc: Global,
     server: &HttpServer<SV, B>,
+    modules: &mut HttpModuleCtx<B::Module>,
     exchange: &mut Exchange<L, SV::Job, C>,
     now: u64,
 ) -> Outcome
-    requires ready { StepReady (SV.gives server.now.app) (SV.runs server.now.app) now exchange.old }
+where
+    L: Link + Drop,
+    SV: ServeHttp<L, C> + Drop,
+    B: LawfulFor<L, C, SV> + Drop,
+    C: Drop,
+    requires ready { FilterReady (SV.gives server.now.app) (SV.runs server.now.app)
+        (chain B.begins B.Module.request_header B.Module.response_header
+        B.Module.response_body server.now.modules) now modules.old.modules exchange.old }
     requires at { exchange.old.stage ≡ at.TakeHeader }
     ensures stepped { (shutdown : Bool)
-        → Stepped L.state SV.pends (SV.gives server.now.app) (SV.runs server.now.app) now shutdown
+        → SteppedWith L.state SV.pends (SV.gives server.now.app) (SV.runs server.now.app)
+        (chain B.begins B.Module.request_header B.Module.response_header
+        B.Module.response_body server.now.modules) now shutdown modules.new.modules
         exchange.old exchange.new result }
     ensures continues { Continues L.state L.same_plan SV.begins SV.pends exchange.old exchange.new
         result }
     ensures leaves { LeavesBy L.state exchange.old exchange.new result }
 {
     let entry = exchange.transcript.last_entry();
-    let sent = match header_of(entry) {
+    let sent = match sent_header(alloc, entry, modules) {
         Ok(header) => header,
         Err(error) => return Outcome::Ends(End::Failed(error)),
     };
@@ -52,19 +69,19 @@ pub(super) fn take_header<L: Link + Drop, SV: ServeHttp<L, C> + Drop, B: Drop, C
 }
 
 /// Goes on with the header.
-pub(super) fn write_header<L: Link + Drop, SV: ServeHttp<L, C> + Drop, B: Drop, C: Drop>(
-    server: &HttpServer<SV, B>,
+pub(super) fn write_header<L: Link + Drop, SV: ServeHttp<L, C> + Drop, C: Drop>(
+    app: &SV,
     exchange: &mut Exchange<L, SV::Job, C>,
     now: u64,
 ) -> Outcome
-    requires ready { StepReady (SV.gives server.now.app) (SV.runs server.now.app) now exchange.old }
+    requires ready { StepReady (SV.runs app.now) now exchange.old }
     requires at { exchange.old.stage ≡ at.Header }
-    ensures stepped { (shutdown : Bool)
-        → Stepped L.state SV.pends (SV.gives server.now.app) (SV.runs server.now.app) now shutdown
+    ensures stepped { SteppedBy L.state SV.pends (SV.gives app.now) (SV.runs app.now) now
         exchange.old exchange.new result }
     ensures continues { Continues L.state L.same_plan SV.begins SV.pends exchange.old exchange.new
         result }
     ensures leaves { LeavesBy L.state exchange.old exchange.new result }
+    ensures filters { FiltersStay exchange.old.transcript.last exchange.new.transcript.last }
 {
     let entry = exchange.transcript.last_entry();
     let mut taken = None;
@@ -73,24 +90,34 @@ pub(super) fn write_header<L: Link + Drop, SV: ServeHttp<L, C> + Drop, B: Drop, 
     stand(&mut exchange.stage, &answer, Stage::Header, Stage::TakeBody)
 }
 
-/// Takes up the reply's body, where it has bytes.
-pub(super) fn take_body<L: Link + Drop, SV: ServeHttp<L, C> + Drop, B: Drop, C: Drop>(
+/// Takes up what the modules make of the reply's body, where it has bytes.
+pub(super) fn take_body<L, SV, B, C>(
     alloc: Global,
     server: &HttpServer<SV, B>,
+    modules: &mut HttpModuleCtx<B::Module>,
     exchange: &mut Exchange<L, SV::Job, C>,
     now: u64,
 ) -> Outcome
-    requires ready { StepReady (SV.gives server.now.app) (SV.runs server.now.app) now exchange.old }
+where
+    L: Link + Drop,
+    SV: ServeHttp<L, C> + Drop,
+    B: LawfulFor<L, C, SV> + Drop,
+    C: Drop,
+    requires ready { FilterReady (SV.gives server.now.app) (SV.runs server.now.app)
+        (chain B.begins B.Module.request_header B.Module.response_header
+        B.Module.response_body server.now.modules) now modules.old.modules exchange.old }
     requires at { exchange.old.stage ≡ at.TakeBody }
     ensures stepped { (shutdown : Bool)
-        → Stepped L.state SV.pends (SV.gives server.now.app) (SV.runs server.now.app) now shutdown
+        → SteppedWith L.state SV.pends (SV.gives server.now.app) (SV.runs server.now.app)
+        (chain B.begins B.Module.request_header B.Module.response_header
+        B.Module.response_body server.now.modules) now shutdown modules.new.modules
         exchange.old exchange.new result }
     ensures continues { Continues L.state L.same_plan SV.begins SV.pends exchange.old exchange.new
         result }
     ensures leaves { LeavesBy L.state exchange.old exchange.new result }
 {
     let entry = exchange.transcript.last_entry();
-    let mut piece = match note_body(alloc, entry) {
+    let mut piece = match note_body(alloc, entry, modules) {
         Ok(piece) => piece,
         Err(error) => return Outcome::Ends(End::Failed(error)),
     };
@@ -104,19 +131,19 @@ pub(super) fn take_body<L: Link + Drop, SV: ServeHttp<L, C> + Drop, B: Drop, C: 
 }
 
 /// Goes on with the body.
-pub(super) fn write_body<L: Link + Drop, SV: ServeHttp<L, C> + Drop, B: Drop, C: Drop>(
-    server: &HttpServer<SV, B>,
+pub(super) fn write_body<L: Link + Drop, SV: ServeHttp<L, C> + Drop, C: Drop>(
+    app: &SV,
     exchange: &mut Exchange<L, SV::Job, C>,
     now: u64,
 ) -> Outcome
-    requires ready { StepReady (SV.gives server.now.app) (SV.runs server.now.app) now exchange.old }
+    requires ready { StepReady (SV.runs app.now) now exchange.old }
     requires at { exchange.old.stage ≡ at.Body }
-    ensures stepped { (shutdown : Bool)
-        → Stepped L.state SV.pends (SV.gives server.now.app) (SV.runs server.now.app) now shutdown
+    ensures stepped { SteppedBy L.state SV.pends (SV.gives app.now) (SV.runs app.now) now
         exchange.old exchange.new result }
     ensures continues { Continues L.state L.same_plan SV.begins SV.pends exchange.old exchange.new
         result }
     ensures leaves { LeavesBy L.state exchange.old exchange.new result }
+    ensures filters { FiltersStay exchange.old.transcript.last exchange.new.transcript.last }
 {
     let entry = exchange.transcript.last_entry();
     let mut taken = None;
@@ -126,19 +153,19 @@ pub(super) fn write_body<L: Link + Drop, SV: ServeHttp<L, C> + Drop, B: Drop, C:
 }
 
 /// Ends the reply. An error of the request's body is the connection's end after it.
-pub(super) fn finish<L: Link + Drop, SV: ServeHttp<L, C> + Drop, B: Drop, C: Drop>(
-    server: &HttpServer<SV, B>,
+pub(super) fn finish<L: Link + Drop, SV: ServeHttp<L, C> + Drop, C: Drop>(
+    app: &SV,
     exchange: &mut Exchange<L, SV::Job, C>,
     now: u64,
 ) -> Outcome
-    requires ready { StepReady (SV.gives server.now.app) (SV.runs server.now.app) now exchange.old }
+    requires ready { StepReady (SV.runs app.now) now exchange.old }
     requires at { exchange.old.stage ≡ at.Finish }
-    ensures stepped { (shutdown : Bool)
-        → Stepped L.state SV.pends (SV.gives server.now.app) (SV.runs server.now.app) now shutdown
+    ensures stepped { SteppedBy L.state SV.pends (SV.gives app.now) (SV.runs app.now) now
         exchange.old exchange.new result }
     ensures continues { Continues L.state L.same_plan SV.begins SV.pends exchange.old exchange.new
         result }
     ensures leaves { LeavesBy L.state exchange.old exchange.new result }
+    ensures filters { FiltersStay exchange.old.transcript.last exchange.new.transcript.last }
 {
     let entry = exchange.transcript.last_entry();
     let answer = exchange.session.poll_finish_body(now);
@@ -169,20 +196,6 @@ fn failure(body_error: Option<Error>, error: Error) -> Error
     }
 }
 
-/// A copy of the reply's header.
-#[inline(always)]
-fn header_of(entry: &Entry) -> Result<ResponseHeader, Error>
-    requires { IsSome entry.now.reply }
-    ensures ok { IfOk result
-        (λ header. IfSome entry.now.reply (λ reply. header ≡ reply.header)) }
-    ensures err { IfErr result (λ error. error ≡ no_memory) }
-{
-    let Some(reply) = &entry.reply else {
-        unreachable!()
-    };
-    reply.header.copy()
-}
-
 /// Notes a header that was taken up in a poll at this moment, with its date. One behind which no
 /// final header is taken up was not.
 #[inline(always)]
@@ -208,24 +221,73 @@ fn note_header(
     }
 }
 
-/// Notes the reply's body, and hands it out where it has bytes. None of them is copied.
+/// Notes what the modules make of the reply's body, and hands out what goes of it, where that has
+/// bytes: nothing where the reply's own body is empty. None of them is copied.
 #[inline(always)]
-fn note_body(alloc: Global, entry: &mut Entry) -> Result<Option<Bytes>, Error>
+fn note_body<M: HttpModule + Drop>(
+    alloc: Global,
+    entry: &mut Entry,
+    modules: &mut HttpModuleCtx<M>,
+) -> Result<Option<Bytes>, Error>
     requires { IsSome entry.old.reply }
-    ensures ok { IfOk result
-        (λ piece. IfSome entry.old.reply (λ reply. IsPieceOf reply.body piece
-        × (entry.new ≡ record entry.old { sent_body = Some reply.body }))) }
-    ensures err { IfErr result
-        (λ error. (error ≡ no_memory) × (entry.new ≡ entry.old)) }
+    ensures ok { IfOk result (λ piece. IfSome entry.old.reply (λ reply. (sent : Piece)
+        × (run (M.response_body true) modules.old.modules (Some reply.body)
+        ≡ Ok (modules.new.modules, sent))
+        × NotesBody reply (unwrap_or sent []) piece entry.old entry.new)) }
+    ensures err { IfErr result (λ error. (entry.new ≡ entry.old) × IfSome entry.old.reply
+        (λ reply. ErrsBy refused_by
+        (run (M.response_body true) modules.old.modules (Some reply.body)) error)) }
 {
-    let sent = shared_body(&mut entry.reply)?;
-    let piece = if sent.is_empty() {
+    let body = shared_body(&mut entry.reply)?;
+    if !modules.is_empty() {
+        return note_filtered(alloc, entry, modules, body);
+    }
+    let piece = if body.is_empty() {
         None
     } else {
-        Some(sent.clone()?)
+        Some(body.clone()?)
     };
+    entry.sent_body = Some(BodyBytes::from_shared(alloc, body));
+    Ok(piece)
+}
+
+/// The same where there are modules.
+#[cold]
+#[inline(never)]
+fn note_filtered<M: HttpModule + Drop>(
+    alloc: Global,
+    entry: &mut Entry,
+    modules: &mut HttpModuleCtx<M>,
+    body: Bytes,
+) -> Result<Option<Bytes>, Error>
+    requires reply { IsSome entry.old.reply }
+    requires body { IfSome entry.old.reply (λ reply. body ≡ reply.body) }
+    ensures ok { IfOk result (λ piece. IfSome entry.old.reply (λ reply. (sent : Piece)
+        × (run (M.response_body true) modules.old.modules (Some reply.body)
+        ≡ Ok (modules.new.modules, sent))
+        × NotesBody reply (unwrap_or sent []) piece entry.old entry.new)) }
+    ensures err { IfErr result (λ error. (entry.new ≡ entry.old) × IfSome entry.old.reply
+        (λ reply. ErrsBy refused_by
+        (run (M.response_body true) modules.old.modules (Some reply.body)) error)) }
+{
+    let sent = filter_body(alloc, body, modules)?;
+    let piece = going_piece(&entry.reply, &sent)?;
     entry.sent_body = Some(BodyBytes::from_shared(alloc, sent));
     Ok(piece)
+}
+
+/// What goes of a reply's body, of which the modules made these bytes, where that has any.
+fn going_piece(reply: &Option<Reply>, sent: &Bytes) -> Result<Option<Bytes>, Error>
+    requires { IsSome reply.now }
+    ensures ok { IfOk result (λ piece. IfSome reply.now (λ reply.
+        IsPieceOf (going reply sent.now) piece)) }
+    ensures err { IfErr result (λ error. error ≡ no_memory) }
+{
+    let Some(made) = reply else { unreachable!() };
+    if made.body.is_empty() || sent.is_empty() {
+        return Ok(None);
+    }
+    Ok(Some(sent.clone()?))
 }
 
 /// The reply's body, to be held by others too.

@@ -29,7 +29,7 @@ fn what_is_set_goes_on_to_the_next_session(rt: HostRuntime) -> Result<(), Fail> 
 
 #[test]
 fn a_plain_server_has_nothing_set(rt: HostRuntime) -> Result<(), Fail> {
-    let plain = Plain::new(EchoApp);
+    let plain = Plain::new(rt.alloc(), EchoApp);
     assert!(rt; HttpServerApp::<MemLink, ()>::server_options(&plain).is_none());
     let mut server = plain.into_server();
     server.server_options = Some(HttpServerOptions {

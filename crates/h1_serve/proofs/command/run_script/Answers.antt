@@ -2,13 +2,18 @@ use Rattle.std.proofs.Common.{◌≡◌, ap, ◌∙◌, subst, sym}
 use Rattle.h1_words.specs.Script.{script_of, commands, faulty_at}
 use Rattle.h1_serve.specs.Input.{ReadsScript}
 use Rattle.h1_serve.specs.Report.{IsTextOf}
-use Rattle.h1_serve.proofs.OrderLemmas.{commands_in_order}
+use Rattle.h1_serve.proofs.OrderLemmas.{commands_in_order, commands_few}
 use Rattle.h1_serve.proofs.StatusLemmas.{reported, refused}
 use Rattle.h1_serve.proofs.command.run_script.Goals as goal
 
-pub report_of-requires : goal.report_of-requires
-report_of-requires g c =
+pub report_of-requires-clause-order : goal.report_of-requires-clause-order
+report_of-requires-clause-order g c =
     commands_in_order c.deref.result.now c.commands.result.now
+    (c.in-Ok-parse_script.ensures ∙ ap commands (sym c.commands.ensures))
+
+pub report_of-requires-clause-few : goal.report_of-requires-clause-few
+report_of-requires-clause-few g c =
+    commands_few c.deref.result.now c.commands.result.now
     (c.in-Ok-parse_script.ensures ∙ ap commands (sym c.commands.ensures))
 
 pub returns-in-Ok-report_of : goal.returns-in-Ok-report_of

@@ -14,7 +14,7 @@ returns-clause-answer g c =
     let s = c.serve_link-answer.ensures in
     let limit =
     fresh.limit ∙ ap (λ s. limit_of s.server_options) c.in_ok-server.ensures.ok
-    ∙ c.echo_server.ensures in
+    ∙ c.options_of-server.ensures in
     served_of g.L.Link.state g.L.Link.same_plan _ _ c.args.link _ _ _ fresh.link limit
     (record { done = fresh.done; last = fresh.last; work = fresh.work; end = fresh.end })
     c.in_ok-connection.ensures.accounted s.kept s.agrees s.answer

@@ -1,6 +1,6 @@
 use Rattle.std.proofs.Common.{ap, sym, ◌∙◌}
 use Rattle.h1_words.specs.declared.command.Command.TheVariants as command
-use Rattle.h1_serve.proofs.LineLemmas.{on_ok, shuts_line, limits_line}
+use Rattle.h1_serve.proofs.LineLemmas.{on_ok, shuts_line, made_line}
 use Rattle.h1_serve.proofs.LinkLineLemmas.{gives_line, ends_line, room_line, block_line, read_fault_line, write_fault_line}
 use Rattle.h1_serve.proofs.scripted.obey.Goals as goal
 
@@ -44,4 +44,4 @@ returns-in-Shutdown c = λ place may running.
 
 pub returns-in-Limit : goal.returns-in-Limit
 returns-in-Limit c = λ place may running.
-    limits_line place c.args.scripted.now c.args.command.now _ c.args.text.now c.in-Limit.is running
+    made_line place c.args.scripted.now c.args.command.now c.args.text.now c.in-Limit.is running

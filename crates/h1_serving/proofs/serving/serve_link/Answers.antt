@@ -1,6 +1,7 @@
 use Rattle.std.proofs.Common.{arith}
 use Rattle.std.specs.Prelude.{⊤}
 use Rattle.h1_echo.specs.declared.echo.EchoJob.{EchoJob}
+use Rattle.h1_app.specs.NoModulesLaw.{none_plain}
 use Rattle.h1_serving.specs.declared.serving.TheConstants.{MOST_POLLS}
 use Rattle.h1_serving.proofs.WaitLemmas.{poll_leaves}
 use Rattle.h1_serving.proofs.ServeLemmas.{poll_of, serving_none, serving_on, call_of, waiting_of, never_waits}
@@ -22,7 +23,7 @@ loop-preserved g c =
     (g.T.Clock.moment c.now-now.new.self) c.args.connection.now
     c.loop.connection c.poll-answer.new.self c.poll-answer.result
     g.met.L.Link.plan_on (omega (arith, at.moment, at.later)) c.loop.invariant
-    (poll_of at.moment p.app p.later
+    (poll_of _ (none_plain c.poll-answer.new.self.served.builders) at.moment p.served p.later
     (poll_leaves p.leaves p.ended p.moves p.reads_not_ready p.others)
     p.plan p.accounted p.agrees p.extends p.cause p.timely)
     (waiting_of c.poll-answer.result c.in_default.not-Ready)
@@ -42,7 +43,7 @@ returns-in-Ready g c =
     (λ waits. absurd
     (never_waits c.poll-answer.result c.in-Ready.field-0 c.in-Ready.is waits))
     (omega (arith, c.loop-test.true)) c.loop.invariant
-    (poll_of at.moment p.app p.later
+    (poll_of _ (none_plain c.poll-answer.new.self.served.builders) at.moment p.served p.later
     (poll_leaves p.leaves p.ended p.moves p.reads_not_ready p.others)
     p.plan p.accounted p.agrees p.extends p.cause p.timely) in
     record {
@@ -69,7 +70,7 @@ returns g c =
     g.met.L.Link.plan_on (omega (arith, at.moment, at.later))
     (λ waits. omega (arith, c.loop-test.false, c.loop.auto.counter-end))
     (omega (arith, c.loop-test.false, c.loop.auto.counter-end)) c.loop.invariant
-    (poll_of at.moment p.app p.later
+    (poll_of _ (none_plain c.poll.new.self.served.builders) at.moment p.served p.later
     (poll_leaves p.leaves p.ended p.moves p.reads_not_ready p.others)
     p.plan p.accounted p.agrees p.extends p.cause p.timely) in
     record {

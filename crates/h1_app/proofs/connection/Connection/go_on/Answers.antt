@@ -1,6 +1,6 @@
 -- The way goes on with each step that is done, and ends where one waits or ends the connection.
 use Rattle.std.proofs.Common.{refl}
-use Rattle.h1_app.proofs.GoneLemmas.{end_back, poll_waits, turned_on, way_itself, way_on}
+use Rattle.h1_app.proofs.GoneLemmas.{ends_back, poll_waits, turned_on, way_itself, way_on}
 use Rattle.h1_app.proofs.WorkLemmas.{poll_ends_in_time, poll_waits_in_time}
 use Rattle.h1_app.proofs.connection.Connection.go_on.Goals as goal
 
@@ -38,7 +38,7 @@ returns-in-Ends-clause-cause g c = λ before s.
     let since = c.turn.ensures.turned.gone.accounted before
     (c.loop-what.invariant.turned.gone.accounted before s) in (
       c.in-Ends.ensures.end,
-      end_back before _ _ _ c.loop-what.invariant.turned.gone.moves.moved.later _ _ c.in-Ends.end
+      ends_back _ before _ _ _ c.loop-what.invariant.turned.gone.moves.moved.later _ _ c.in-Ends.end
           (c.in-Ends.ensures.outcome.1 before since),
     )
 

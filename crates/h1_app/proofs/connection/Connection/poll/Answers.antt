@@ -1,20 +1,20 @@
 -- A poll is its steps, with the budget set before them.
 use Rattle.std.proofs.Common.{Some, refl}
-use Rattle.h1_app.proofs.Words.{view_of, limit_of}
+use Rattle.h1_app.proofs.Words.{view_of, limit_of, served_by}
 use Rattle.h1_app.specs.Words.{arc_value}
 use Rattle.h1_app.proofs.AgreesLemmas.{agrees_sound}
 use Rattle.h1_app.proofs.GoneLemmas.{cause_same}
 use Rattle.h1_app.proofs.WorkLemmas.{timely_same}
 use Rattle.h1_app.proofs.LeavesLemmas.{given_none}
 use Rattle.h1_app.proofs.LinkedLemmas.{accounted_budget}
-use Rattle.h1_app.proofs.SoundLemmas.{sound_linked}
+use Rattle.h1_app.proofs.SoundLemmas.{given_while, sound_linked_with}
 use Rattle.h1_transcript.proofs.GrowthLemmas.{extends_itself}
 use Rattle.h1_transcript.proofs.AloneLemmas.{join_none}
 use Rattle.h1_app.proofs.connection.Connection.poll.Goals as goal
 
 pub returns-in-Some-clause-agrees : goal.returns-in-Some-clause-agrees
 returns-in-Some-clause-agrees g c = λ before s.
-    rw (← c.self.view_is) (agrees_sound _ _ _ g.L.Link.state _ _ _ _ _ before c.self.invariant
+    rw (← c.self.view_is) (agrees_sound _ _ _ g.L.Link.state _ _ _ _ _ before c.self.invariant.sound
     (rw (← c.self.view_is) at s))
 
 pub returns-in-Some-clause-extends : goal.returns-in-Some-clause-extends
@@ -27,7 +27,7 @@ returns-in-Some-clause-alone g c = λ before s. rw (← c.self.view_is)
 
 pub invariant_of-self : goal.invariant_of-self
 invariant_of-self g c =
-    rw c.set_poll_budget.ensures (sound_linked _ _ _ _ _ _ _ _ _ _ c.self.invariant)
+    rw c.set_poll_budget.ensures (sound_linked_with _ _ _ _ _ _ _ _ _ c.self.invariant)
 
 pub returns-clause-accounted : goal.returns-clause-accounted
 returns-clause-accounted g c = λ before s.
@@ -48,8 +48,8 @@ returns-clause-alone g c = λ before s.
 pub returns-clause-cause : goal.returns-clause-cause
 returns-clause-cause g c = rw (← c.self.view_is) (given_none c.self.inside.end _ (λ before s.
     let server = arc_value c.self.inside.server in
-    cause_same g.L.Link.state g.SV.ServeHttp.begins g.SV.ServeHttp.pends before
-    (view_of server.app (limit_of server.server_options) c.self.inside.exchange c.self.inside.end)
+    cause_same _ g.L.Link.state g.SV.ServeHttp.begins g.SV.ServeHttp.pends before
+    (view_of (served_by server.app server.modules) (limit_of server.server_options) c.self.inside.exchange c.self.inside.end)
     c.go_on.new.self (Some 64) c.go_on.result
     (rw c.set_poll_budget.ensures at c.go_on.ensures.cause before
     (accounted_budget g.L.Link.state c.self.inside.exchange.session _ _ _ before _ refl s))))
@@ -66,6 +66,9 @@ pub returns-clause-timely : goal.returns-clause-timely
 returns-clause-timely g c = rw (← c.self.view_is) (given_none c.self.inside.end _
     (let server = arc_value c.self.inside.server in
     timely_same g.L.Link.state c.args.now
-    (view_of server.app (limit_of server.server_options) c.self.inside.exchange c.self.inside.end)
+    (view_of (served_by server.app server.modules) (limit_of server.server_options) c.self.inside.exchange c.self.inside.end)
     c.go_on.new.self (Some 64) c.go_on.result
     (rw c.set_poll_budget.ensures at c.go_on.ensures.timely)))
+
+pub returns-clause-given : goal.returns-clause-given
+returns-clause-given g c = given_while _ _ _ _ _ _ _ _ c.go_on.ensures.sound

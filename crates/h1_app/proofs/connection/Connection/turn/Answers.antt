@@ -1,9 +1,10 @@
 -- A step of the exchange that is last, or the one to the next exchange.
 use Rattle.std.proofs.Common.{◌≡◌, None}
 use Rattle.h1_app.specs.Words.{arc_value}
-use Rattle.h1_app.proofs.Words.{limit_of}
-use Rattle.h1_app.proofs.NextLemmas.{sound_next, turned_next, caused_next, over_next, timely_next}
-use Rattle.h1_app.proofs.TurnLemmas.{sound_stepped, turned_stepped, caused_stepped}
+use Rattle.h1_app.specs.Filtering.{chain_of}
+use Rattle.h1_app.proofs.Words.{filters_of, limit_of, served_by}
+use Rattle.h1_app.proofs.NextLemmas.{sound_next_with, turned_next, caused_next, over_next, timely_next}
+use Rattle.h1_app.proofs.TurnLemmas.{sound_stepped_with, turned_stepped, caused_stepped}
 use Rattle.h1_app.proofs.connection.Connection.turn.Goals.{in-Next, in_default}
 use Rattle.h1_app.proofs.connection.Connection.turn.Goals as goal
 
@@ -14,23 +15,24 @@ invariant_of-self g c =
     let old = c.self.inside.exchange in
     elim c.match-self.branch [
       | in-Next w ↦ rw (c.keep_end.ensures, w.outcome-is, w.self-inside-is)
-          (sound_next _ _ _ old w.next_exchange.new.exchange sound w.in-Next.is
+          (sound_next_with _ _ _ _ old w.next_exchange.new.exchange _ sound w.in-Next.is
           w.next_exchange.ensures)
       | in_default w ↦ rw (c.keep_end.ensures, w.outcome-is, w.self-inside-is)
-          (sound_stepped _ _ _ g.L.Link.state g.SV.ServeHttp.pends c.args.now c.args.shutdown old
-          w.step-outcome.new.exchange w.step-outcome.result sound
+          (sound_stepped_with _ _ _ _ g.L.Link.state g.SV.ServeHttp.pends c.args.now c.args.shutdown old
+          w.step-outcome.new.exchange _ _ w.step-outcome.result sound
           (rw w.deref.ensures at w.step-outcome.ensures.stepped)
           w.step-outcome.ensures.continues.done)
     ]
 
 pub returns-clause-sound : goal.returns-clause-sound
-returns-clause-sound g c = invariant_of-self g c
+returns-clause-sound g c = (invariant_of-self g c).sound
 
 pub returns-clause-turned : goal.returns-clause-turned
 returns-clause-turned g c =
     let alive : c.self.inside.end ≡ None = rw (← c.self.view_is) at c.requires.alive in
     let sound = rw alive at c.self.invariant in
     let server = arc_value c.self.inside.server in
+    let served = served_by server.app server.modules in
     let old = c.self.inside.exchange in
     elim c.match-self.branch [
       | in-Next w ↦ rw (
@@ -39,9 +41,9 @@ returns-clause-turned g c =
         w.outcome-is,
         w.self-inside-is,
       ) (turned_next g.L.Link.state g.L.Link.same_plan c.args.now
-          c.args.shutdown server.app (limit_of server.server_options) old
+          c.args.shutdown served (limit_of server.server_options) old
           w.next_exchange.new.exchange c.self.inside.end
-          (g.met.L.Link.plan_itself _) (over_next _ _ _ _ _ _ _ sound w.in-Next.is) w.in-Next.is
+          (g.met.L.Link.plan_itself _) (over_next _ _ _ _ _ _ _ sound.sound w.in-Next.is) w.in-Next.is
           w.next_exchange.ensures)
       | in_default w ↦ rw (
         ← c.self.view_is,
@@ -49,9 +51,9 @@ returns-clause-turned g c =
         w.outcome-is,
         w.self-inside-is,
       ) (turned_stepped g.L.Link.state g.SV.ServeHttp.begins
-          g.SV.ServeHttp.pends g.L.Link.same_plan c.args.now c.args.shutdown server.app (limit_of server.server_options)
-          old w.step-outcome.new.exchange c.self.inside.end w.step-outcome.result sound.stage
-          (rw w.deref.ensures at w.step-outcome.ensures.stepped) w.step-outcome.ensures.continues
+          g.SV.ServeHttp.pends g.L.Link.same_plan c.args.now c.args.shutdown served (limit_of server.server_options)
+          old w.step-outcome.new.exchange c.self.inside.end w.step-outcome.result sound.sound.stage
+          (rw w.deref.ensures at w.step-outcome.ensures.stepped.stepped) w.step-outcome.ensures.continues
           w.step-outcome.ensures.leaves)
     ]
 
@@ -60,19 +62,21 @@ returns-clause-outcome g c =
     let alive : c.self.inside.end ≡ None = rw (← c.self.view_is) at c.requires.alive in
     let sound = rw alive at c.self.invariant in
     let server = arc_value c.self.inside.server in
+    let served = served_by server.app server.modules in
+    let filters = filters_of (chain_of g.B.HttpModuleBuilder g.B.Module.HttpModule server.modules) in
     let old = c.self.inside.exchange in
     elim c.match-self.branch [
       | in-Next w ↦ rw (← c.self.view_is, w.outcome-is, w.self-inside-is)
-          (caused_next g.L.Link.state g.SV.ServeHttp.begins g.SV.ServeHttp.pends server.app
+          (caused_next filters g.L.Link.state g.SV.ServeHttp.begins g.SV.ServeHttp.pends served
           (limit_of server.server_options) old w.next_exchange.new.exchange
           c.self.inside.end c.keep_end.new.end
-          (over_next _ _ _ _ _ _ _ sound w.in-Next.is) w.in-Next.is w.next_exchange.ensures)
+          (over_next _ _ _ _ _ _ _ sound.sound w.in-Next.is) w.in-Next.is w.next_exchange.ensures)
       | in_default w ↦ rw (← c.self.view_is, w.outcome-is, w.self-inside-is)
-          (caused_stepped g.L.Link.state g.SV.ServeHttp.begins g.SV.ServeHttp.pends
-          (g.SV.ServeHttp.runs w.deref.result.now.app) _ server.app
+          (caused_stepped filters g.L.Link.state g.SV.ServeHttp.begins g.SV.ServeHttp.pends
+          (g.SV.ServeHttp.runs server.app) _ served
           (limit_of server.server_options) old w.step-outcome.new.exchange c.self.inside.end
           c.keep_end.new.end w.step-outcome.result w.step-outcome.ensures.continues
-          w.step-outcome.ensures.stepped.outcome)
+          (rw w.deref.ensures at w.step-outcome.ensures.stepped.stepped.outcome))
     ]
 
 pub returns-clause-timely : goal.returns-clause-timely
@@ -82,5 +86,5 @@ returns-clause-timely g c =
       | in-Next w ↦ rw (← c.self.view_is, w.outcome-is, w.self-inside-is)
           (timely_next g.L.Link.state c.args.now old w.next_exchange.new.exchange w.next_exchange.ensures)
       | in_default w ↦ rw (← c.self.view_is, w.outcome-is, w.self-inside-is)
-          (w.step-outcome.ensures.stepped.timely)
+          (w.step-outcome.ensures.stepped.stepped.timely)
     ]

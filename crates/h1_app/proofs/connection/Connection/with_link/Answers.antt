@@ -1,6 +1,6 @@
 use Rattle.std.proofs.Common.{ap}
 use Rattle.h1_app.proofs.LinkedLemmas.{accounted_linked}
-use Rattle.h1_app.proofs.SoundLemmas.{sound_linked}
+use Rattle.h1_app.proofs.SoundLemmas.{sound_linked_with}
 use Rattle.h1_app.proofs.connection.Connection.with_link.Goals as goal
 
 pub with_link-requires-clause-keeps : goal.with_link-requires-clause-keeps
@@ -16,4 +16,4 @@ returns-clause-accounted g c = λ before s.
     (rw (← c.self.view_is) at s)
 
 pub invariant_of-self : goal.invariant_of-self
-invariant_of-self g c = rw c.with_link.ensures.rest (sound_linked _ _ _ _ _ _ _ _ _ _ c.self.invariant)
+invariant_of-self g c = rw c.with_link.ensures.rest (sound_linked_with _ _ _ _ _ _ _ _ _ c.self.invariant)

@@ -1,42 +1,60 @@
-use Rattle.std.proofs.Common.{Some, ap, refl, rules}
-use Rattle.h1_app.specs.Words.{Error}
-use Rattle.h1_error.specs.declared.progress.End.TheVariants as end
+use Rattle.std.proofs.Common.{Some, refl}
+use Rattle.h1_app.specs.declared.steps.answering.Asked.TheVariants as asked
 use Rattle.h1_app.proofs.LeavesLemmas.{asked_leaves, asked_fails}
-use Rattle.h1_app.proofs.AnswerLemmas.{at_answer, asked_stepped, reads_why, still_answers}
+use Rattle.h1_app.proofs.AnswerLemmas.{asked_filters, asked_stepped}
 use Rattle.h1_app.proofs.steps.answering.answer.Goals as goal
 
 pub returns-in-Reads-clause-stepped : goal.returns-in-Reads-clause-stepped
-returns-in-Reads-clause-stepped g c = λ shutdown.
-    let state = g.L.Link.state in
-    let runs = g.SV.ServeHttp.runs c.args.server.now.app in
-    let s = at_answer runs c.args.exchange.now.session _ _ _ _ c.requires.ready.sound c.in-Answer.is
-    c.last_entry-entry.ensures.value in
-    asked_stepped state _ _ runs c.args.now shutdown _ _ c.last_entry-entry.result.now c.ask.new.entry
-    c.ask.new.entry _ _ _ c.requires.ready c.in-Answer.is c.last_entry-entry.ensures.value refl refl
-    c.ask.ensures.asks (search rules) (search rules) (search rules) (_, refl) (
-      (c.ask.new.entry, refl, still_answers state _ _ _ _ _ s.0 c.ask.ensures.asks, search rules),
-      reads_why state _ _ _ _ _ s.0 c.ask.ensures.asks c.in-Reads.is,
-    )
+returns-in-Reads-clause-stepped g c = λ filters shutdown allowed.
+    asked_stepped g.L.Link.state g.SV.ServeHttp.pends _ (g.SV.ServeHttp.runs c.args.app.now) c.args.now
+    shutdown c.args.exchange.now _ c.last_entry-entry.result.now c.ask.new.entry c.in-Answer.job c.ask.new.job
+    asked.Reads c.requires.ready allowed c.in-Answer.is c.last_entry-entry.ensures.value refl refl
+    c.in-Reads.ensures.asks c.in-Reads.ensures.runs c.in-Reads.ensures.gives c.in-Reads.ensures.pends
 
 pub returns-in-Pends-clause-stepped : goal.returns-in-Pends-clause-stepped
-returns-in-Pends-clause-stepped g c = λ shutdown.
-    asked_stepped g.L.Link.state _ _ _ c.args.now shutdown _ _ c.last_entry-entry.result.now c.ask.new.entry
-    c.ask.new.entry _ _ _ c.requires.ready c.in-Answer.is c.last_entry-entry.ensures.value refl refl
-    c.ask.ensures.asks (search rules) (search rules) (search rules) (_, refl) (search rules)
+returns-in-Pends-clause-stepped g c = λ filters shutdown allowed.
+    asked_stepped g.L.Link.state g.SV.ServeHttp.pends _ (g.SV.ServeHttp.runs c.args.app.now) c.args.now
+    shutdown c.args.exchange.now _ c.last_entry-entry.result.now c.ask.new.entry c.in-Answer.job c.ask.new.job
+    asked.Pends c.requires.ready allowed c.in-Answer.is c.last_entry-entry.ensures.value refl refl
+    c.in-Pends.ensures.asks c.in-Pends.ensures.runs c.in-Pends.ensures.gives c.in-Pends.ensures.pends
 
 pub returns-in-Failed-clause-stepped : goal.returns-in-Failed-clause-stepped
-returns-in-Failed-clause-stepped g c = λ shutdown.
-    asked_stepped g.L.Link.state _ _ _ c.args.now shutdown _ _ c.last_entry-entry.result.now c.ask.new.entry
-    c.ask.new.entry _ _ _ c.requires.ready c.in-Answer.is c.last_entry-entry.ensures.value refl refl
-    c.ask.ensures.asks (search rules) (search rules) (search rules)
-    ((_, refl), ap (λ (x : Error). end.Failed x) (search rules)) (search rules)
+returns-in-Failed-clause-stepped g c = λ filters shutdown allowed.
+    asked_stepped g.L.Link.state g.SV.ServeHttp.pends _ (g.SV.ServeHttp.runs c.args.app.now) c.args.now
+    shutdown c.args.exchange.now _ c.last_entry-entry.result.now c.ask.new.entry c.in-Answer.job c.ask.new.job
+    (asked.Failed c.in-Failed.error) c.requires.ready allowed c.in-Answer.is c.last_entry-entry.ensures.value refl refl
+    c.in-Failed.ensures.asks c.in-Failed.ensures.runs c.in-Failed.ensures.gives c.in-Failed.ensures.pends
 
 pub returns-in-Replied-clause-stepped : goal.returns-in-Replied-clause-stepped
-returns-in-Replied-clause-stepped g c = λ shutdown.
-    asked_stepped g.L.Link.state _ _ _ c.args.now shutdown _ _ c.last_entry-entry.result.now c.ask.new.entry
-    (record c.ask.new.entry { reply = Some c.in-Replied.reply }) _ _ _
-    c.requires.ready c.in-Answer.is c.last_entry-entry.ensures.value refl refl c.ask.ensures.asks (search rules)
-    (search rules) (search rules) refl (search rules)
+returns-in-Replied-clause-stepped g c = λ filters shutdown allowed.
+    asked_stepped g.L.Link.state g.SV.ServeHttp.pends _ (g.SV.ServeHttp.runs c.args.app.now) c.args.now
+    shutdown c.args.exchange.now _ c.last_entry-entry.result.now c.ask.new.entry c.in-Answer.job c.ask.new.job
+    (asked.Replied c.in-Replied.reply) c.requires.ready allowed c.in-Answer.is c.last_entry-entry.ensures.value refl refl
+    c.in-Replied.ensures.asks c.in-Replied.ensures.runs c.in-Replied.ensures.gives c.in-Replied.ensures.pends
+
+pub returns-in-Reads-clause-filters : goal.returns-in-Reads-clause-filters
+returns-in-Reads-clause-filters g c =
+    asked_filters g.L.Link.state (g.SV.ServeHttp.runs c.args.app.now) c.args.now c.args.exchange.now
+    c.ask.new.session c.last_entry-entry.result.now c.ask.new.entry c.in-Answer.job asked.Reads c.requires.ready c.in-Answer.is
+    c.last_entry-entry.ensures.value c.in-Reads.ensures.asks
+
+pub returns-in-Pends-clause-filters : goal.returns-in-Pends-clause-filters
+returns-in-Pends-clause-filters g c =
+    asked_filters g.L.Link.state (g.SV.ServeHttp.runs c.args.app.now) c.args.now c.args.exchange.now
+    c.ask.new.session c.last_entry-entry.result.now c.ask.new.entry c.in-Answer.job asked.Pends c.requires.ready c.in-Answer.is
+    c.last_entry-entry.ensures.value c.in-Pends.ensures.asks
+
+pub returns-in-Failed-clause-filters : goal.returns-in-Failed-clause-filters
+returns-in-Failed-clause-filters g c =
+    asked_filters g.L.Link.state (g.SV.ServeHttp.runs c.args.app.now) c.args.now c.args.exchange.now
+    c.ask.new.session c.last_entry-entry.result.now c.ask.new.entry c.in-Answer.job (asked.Failed c.in-Failed.error) c.requires.ready c.in-Answer.is
+    c.last_entry-entry.ensures.value c.in-Failed.ensures.asks
+
+pub returns-in-Replied-clause-filters : goal.returns-in-Replied-clause-filters
+returns-in-Replied-clause-filters g c =
+    asked_filters g.L.Link.state (g.SV.ServeHttp.runs c.args.app.now) c.args.now c.args.exchange.now
+    c.ask.new.session c.last_entry-entry.result.now c.ask.new.entry c.in-Answer.job (asked.Replied c.in-Replied.reply) c.requires.ready c.in-Answer.is
+    c.last_entry-entry.ensures.value c.in-Replied.ensures.asks
 
 pub returns-in-Reads-clause-leaves : goal.returns-in-Reads-clause-leaves
 returns-in-Reads-clause-leaves g c =

@@ -1,35 +1,33 @@
-use Rattle.std.proofs.Common.{ap, sym, refl, rules, ◌∙◌, Option}
-use Rattle.std.specs.Prelude.{unwrap_or}
-use Rattle.h1_app.specs.Words.{Entry, TranscriptView}
+-- The application is started for what the filters made of the head, or not.
+use Rattle.std.proofs.lemmas.Result.{err_from_is_err_and}
+use Rattle.h1_app.proofs.Words.{chain}
+use Rattle.h1_app.proofs.StartLemmas.{begun_for, refused_as, started_as}
 use Rattle.h1_app.proofs.steps.reading_head.start.Goals as goal
 
-pub returns-clause-ok : goal.returns-clause-ok
-returns-clause-ok g c =
-    let begun =
-    ap (λ (last : Option Entry). unwrap_or last c.last_entry.result.now)
-    (sym c.last_entry.ensures.value
-    ∙ ap (λ (transcript : TranscriptView). transcript.last) c.in_ok-begin.ensures.ok) in (
-      c.note_heads.new.entry,
-      refl,
-      rw (c.in_default.ensures.ok, begun) record {
-        head = refl;
-        both = refl;
-        filtered = refl;
-        body = search rules;
-        handed = refl;
-        body_error = refl;
-        reply = refl;
-        sent_head = refl;
-        sent_body = refl;
-        date = refl;
-        date_text = refl;
-        keep = refl;
-        written = refl;
-        how = refl;
-        owed = refl;
-        began = refl;
-        left = refl;
-      },
-      c.in_ok-job.ensures.begins,
-      c.in_ok-job.ensures.runs c.args.request.now.header c.args.settings,
-    )
+pub filter_head-requires : goal.filter_head-requires
+filter_head-requires g c =
+    begun_for c.in-Some.request.now c.settings-settings.result c.args.session.now.request
+    c.begin_entry.new.transcript.last c.in-Some.ensures c.in_ok-begin_entry.ensures.ok
+
+pub returns-in_err-filter_head-clause-started : goal.returns-in_err-filter_head-clause-started
+returns-in_err-filter_head-clause-started g c =
+    let modules = g.B.Module.HttpModule in
+    let from = c.from_residual-in_err-filter_head in
+    let p = err_from_is_err_and from.result from.ensures.1 in
+    rw (p.1, p.2) (refused_as g.SV.ServeHttp.begins (g.SV.ServeHttp.runs c.args.server.now.app)
+    (chain g.B.HttpModuleBuilder.begins modules.request_header modules.response_header
+    modules.response_body c.args.server.now.modules) c.args.session.now c.filter_head.new.session
+    c.filter_head.new.modules.modules c.begin_entry.new.transcript c.in-Some.request.now
+    c.in-Some.ensures (rw c.settings-settings.ensures at c.in_ok-begin_entry.ensures.ok)
+    c.filter_head.new.transcript _ c.in_err-filter_head.ensures.err)
+
+pub returns-clause-started : goal.returns-clause-started
+returns-clause-started g c =
+    let modules = g.B.Module.HttpModule in
+    started_as g.SV.ServeHttp.begins (g.SV.ServeHttp.runs c.args.server.now.app)
+    (chain g.B.HttpModuleBuilder.begins modules.request_header modules.response_header
+    modules.response_body c.args.server.now.modules) c.args.session.now c.filter_head.new.session
+    c.filter_head.new.modules.modules c.begin_entry.new.transcript c.in-Some.request.now
+    c.in-Some.ensures (rw c.settings-settings.ensures at c.in_ok-begin_entry.ensures.ok)
+    c.filter_head.new.transcript c.start_job.new.transcript c.start_job.result
+    c.in_ok-filter_head.ensures.ok c.start_job.ensures.ok c.start_job.ensures.err

@@ -2,35 +2,40 @@
 use Rattle.std.proofs.Common.{refl}
 use Rattle.h1_app.proofs.LeavesLemmas.{finish_fails}
 use Rattle.h1_app.proofs.EndSteps.{finish_stepped}
+use Rattle.h1_app.proofs.StepLemmas.{allowed_ready}
 use Rattle.h1_app.proofs.steps.replying.finish.Goals as goal
 
 pub returns-in-Pending-clause-stepped : goal.returns-in-Pending-clause-stepped
-returns-in-Pending-clause-stepped g c = λ shutdown.
-    finish_stepped g.L.Link.state _ _ _ c.args.now shutdown _ _ _ _ _ c.requires.ready
+returns-in-Pending-clause-stepped g c = λ filters shutdown allowed.
+    finish_stepped g.L.Link.state _ _ _ c.args.now shutdown _ _ _ _ _
+    (allowed_ready _ _ _ _ c.requires.ready allowed)
     (rw c.requires.at at c.requires.ready.sound) c.requires.at
     c.poll_finish_body-answer.ensures.writes c.written_bytes-entry.ensures
     (rw (c.last_entry-entry.ensures.value, c.in-Pending.is) (refl, refl, refl))
 
 pub returns-in-Some-clause-stepped : goal.returns-in-Some-clause-stepped
-returns-in-Some-clause-stepped g c = λ shutdown.
+returns-in-Some-clause-stepped g c = λ filters shutdown allowed.
     let told = rw c.in-Ready-Ok.is at c.in-Ready-Ok.field-0-is in
-    finish_stepped g.L.Link.state _ _ _ c.args.now shutdown _ _ _ _ _ c.requires.ready
+    finish_stepped g.L.Link.state _ _ _ c.args.now shutdown _ _ _ _ _
+    (allowed_ready _ _ _ _ c.requires.ready allowed)
     (rw c.requires.at at c.requires.ready.sound) c.requires.at
     c.poll_finish_body-answer.ensures.writes c.written_bytes-entry.ensures
     (rw (c.last_entry-entry.ensures.value, c.in-Ready-Ok.is, told) (refl, rw c.in-Some.is (refl, refl)))
 
 pub returns-in-None-clause-stepped : goal.returns-in-None-clause-stepped
-returns-in-None-clause-stepped g c = λ shutdown.
+returns-in-None-clause-stepped g c = λ filters shutdown allowed.
     let told = rw c.in-Ready-Ok.is at c.in-Ready-Ok.field-0-is in
-    finish_stepped g.L.Link.state _ _ _ c.args.now shutdown _ _ _ _ _ c.requires.ready
+    finish_stepped g.L.Link.state _ _ _ c.args.now shutdown _ _ _ _ _
+    (allowed_ready _ _ _ _ c.requires.ready allowed)
     (rw c.requires.at at c.requires.ready.sound) c.requires.at
     c.poll_finish_body-answer.ensures.writes c.written_bytes-entry.ensures
     (rw (c.last_entry-entry.ensures.value, c.in-Ready-Ok.is, told) (refl, rw c.in-None.is (refl, refl)))
 
 pub returns-in-Ready-Err-clause-stepped : goal.returns-in-Ready-Err-clause-stepped
-returns-in-Ready-Err-clause-stepped g c = λ shutdown.
+returns-in-Ready-Err-clause-stepped g c = λ filters shutdown allowed.
     let told = rw c.in-Ready-Err.is at c.in-Ready-Err.field-0-is in
-    finish_stepped g.L.Link.state _ _ _ c.args.now shutdown _ _ _ _ _ c.requires.ready
+    finish_stepped g.L.Link.state _ _ _ c.args.now shutdown _ _ _ _ _
+    (allowed_ready _ _ _ _ c.requires.ready allowed)
     (rw c.requires.at at c.requires.ready.sound) c.requires.at
     c.poll_finish_body-answer.ensures.writes c.written_bytes-entry.ensures
     (rw (c.last_entry-entry.ensures.value, c.in-Ready-Err.is, told) (refl, refl, rw c.failure.ensures refl))

@@ -2,14 +2,17 @@
 use Rattle.std.proofs.Common.{refl, arith}
 use Rattle.h1_app.specs.declared.exchange.Stage.TheVariants as at
 use Rattle.h1_app.proofs.CallSteps.{call_continues, call_leaves}
-use Rattle.h1_app.proofs.ReplySteps.{body_stepped}
+use Rattle.h1_app.proofs.BodySteps.{body_stepped}
+use Rattle.h1_app.proofs.StepLemmas.{allowed_ready}
 use Rattle.h1_app.proofs.steps.replying.write_body.Goals as goal
 
 pub returns-clause-stepped : goal.returns-clause-stepped
-returns-clause-stepped g c = λ shutdown.
-    body_stepped g.L.Link.state _ _ _ c.args.now shutdown _ _ _ c.requires.ready _ _ _
-    (rw c.requires.at at c.requires.ready.sound) c.requires.at (rw c.last_entry-entry.ensures.value refl)
-    c.poll_write_body-answer.ensures.writes c.written_bytes-entry.ensures c.stand.ensures
+returns-clause-stepped g c = λ filters shutdown allowed.
+    body_stepped g.L.Link.state _ _ _ c.args.now shutdown _ _ _
+    (allowed_ready _ _ _ _ c.requires.ready allowed) _ _ _
+    (rw c.requires.at at c.requires.ready.sound) c.requires.at
+    (rw c.last_entry-entry.ensures.value refl) c.poll_write_body-answer.ensures.writes
+    c.written_bytes-entry.ensures c.stand.ensures
 
 pub returns-clause-continues : goal.returns-clause-continues
 returns-clause-continues g c =

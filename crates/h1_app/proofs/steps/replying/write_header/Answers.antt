@@ -2,13 +2,17 @@
 use Rattle.std.proofs.Common.{refl, false, arith}
 use Rattle.h1_app.specs.declared.exchange.Stage.TheVariants as at
 use Rattle.h1_app.proofs.CallSteps.{call_continues, call_leaves}
+use Rattle.h1_app.proofs.FilterLemmas.{filters_written}
 use Rattle.h1_app.proofs.ReplySteps.{header_stepped}
+use Rattle.h1_app.proofs.StepLemmas.{allowed_ready}
 use Rattle.h1_app.proofs.steps.replying.write_header.Goals as goal
 
 pub returns-clause-stepped : goal.returns-clause-stepped
-returns-clause-stepped g c = λ shutdown.
-    header_stepped g.L.Link.state _ _ _ c.args.now shutdown _ _ _ c.requires.ready _ _ _
-    (rw c.requires.at at c.requires.ready.sound) c.requires.at (rw c.last_entry-entry.ensures.value refl)
+returns-clause-stepped g c = λ filters shutdown allowed.
+    header_stepped g.L.Link.state _ _ _ c.args.now shutdown _ _ _
+    (allowed_ready _ _ c.args.now _ c.requires.ready allowed) _ _ _
+    (rw c.requires.at at c.requires.ready.sound) c.requires.at
+    (rw c.last_entry-entry.ensures.value refl)
     c.poll_write_response_header-answer.ensures.writes c.written_bytes-entry.ensures c.stand.ensures
 
 pub returns-clause-continues : goal.returns-clause-continues
@@ -22,3 +26,6 @@ pub returns-clause-leaves : goal.returns-clause-leaves
 returns-clause-leaves g c =
     call_leaves _ _ _ _ _ _ _ _ _ _ c.poll_write_response_header-answer.ensures.calls
     c.stand.ensures
+
+pub returns-clause-filters : goal.returns-clause-filters
+returns-clause-filters g c = filters_written _ _ c.last_entry-entry.ensures.value _

@@ -1,0 +1,11 @@
+//! The modules that a script can add to a server of the echo application: one marks its replies,
+//! one refuses the requests for one target.
+#![tactic(auto)]
+
+mod builder;
+mod marking;
+#[cfg(test)]
+mod tests;
+
+pub use builder::MarkingBuilder;
+pub use marking::Marking;
