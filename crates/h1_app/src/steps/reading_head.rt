@@ -7,7 +7,7 @@ ghost use Rattle.h1_transcript.specs.Entries.{with_last};
 ghost use Rattle.h1_modules.specs.Filters.{run};
 ghost use Rattle.h1_modules.specs.Outcome.{ErrsBy, refused_by};
 ghost use Rattle.h1_app.specs.Beginning.{BegunAs, BegunFor, HeadFiltered, HeadRefused, IfLast, IsNewEntry, StartedAs, head_time, kept_again};
-ghost use Rattle.h1_app.specs.Filtering.{chain};
+ghost use Rattle.h1_app.specs.Filtering.{chain_of};
 ghost use Rattle.h1_app.specs.FilterSteps.{SteppedWith};
 ghost use Rattle.h1_app.specs.declared.exchange.Stage.TheVariants as at;
 ghost use Rattle.h1_app.specs.Turn.{LeavesBy};
@@ -45,8 +45,7 @@ where
     requires ready { StepReady (SV.runs server.now.app) now exchange.old }
     requires at { exchange.old.stage ≡ at.Head }
     ensures stepped { SteppedWith L.state SV.pends (SV.gives server.now.app) (SV.runs server.now.app)
-        (chain B.begins B.Module.request_header B.Module.response_header
-        B.Module.response_body server.now.modules) now shutdown modules.new.modules
+        (chain_of B.HttpModuleBuilder B.Module.HttpModule server.now.modules) now shutdown modules.new.modules
         exchange.old exchange.new result }
     ensures continues { Continues L.state L.same_plan SV.begins SV.pends exchange.old exchange.new
         result }
@@ -88,8 +87,7 @@ where
     requires read { IsSome session.old.request }
     requires at { (stage.old ≡ at.Head) × (transcript.old.last ≡ None) }
     ensures begun { BegunAs SV.begins (SV.runs server.now.app)
-        (chain B.begins B.Module.request_header B.Module.response_header
-        B.Module.response_body server.now.modules)
+        (chain_of B.HttpModuleBuilder B.Module.HttpModule server.now.modules)
         (kept_again shutdown session.old) session.new modules.new.modules transcript.new.last
         stage.new result }
     ensures done { transcript.new.done ≡ transcript.old.done }
@@ -123,8 +121,7 @@ where
     requires read { IsSome session.old.request }
     requires last { transcript.old.last ≡ None }
     ensures started { StartedAs SV.begins (SV.runs server.now.app)
-        (chain B.begins B.Module.request_header B.Module.response_header
-        B.Module.response_body server.now.modules) session.old session.new
+        (chain_of B.HttpModuleBuilder B.Module.HttpModule server.now.modules) session.old session.new
         modules.new.modules transcript.new.last result }
     ensures done { transcript.new.done ≡ transcript.old.done }
 {
@@ -192,11 +189,9 @@ where
     B: HttpModuleBuilder + Drop,
     C: Drop,
     requires { BegunFor session.old.request transcript.old.last }
-    ensures ok { OnOk result (HeadFiltered (chain B.begins B.Module.request_header
-        B.Module.response_header B.Module.response_body builders.now) session.old session.new
+    ensures ok { OnOk result (HeadFiltered (chain_of B.HttpModuleBuilder B.Module.HttpModule builders.now) session.old session.new
         modules.new.modules transcript.old transcript.new) }
-    ensures err { IfErr result (HeadRefused (chain B.begins B.Module.request_header
-        B.Module.response_header B.Module.response_body builders.now) session.old session.new
+    ensures err { IfErr result (HeadRefused (chain_of B.HttpModuleBuilder B.Module.HttpModule builders.now) session.old session.new
         transcript.old transcript.new) }
 {
     if builders.is_empty() && modules.is_empty() {
@@ -207,7 +202,8 @@ where
     filter_noted(alloc, builders, modules, head, &mut entry.filtered)
 }
 
-/// The filters are given the head, and what they make of it is noted.
+/// The filters are given the head, and what they make of it is noted. With an error there is no head
+/// for the application.
 #[cold]
 #[inline(never)]
 fn filter_noted<B: HttpModuleBuilder + Drop>(
@@ -224,33 +220,17 @@ fn filter_noted<B: HttpModuleBuilder + Drop>(
     ensures err { IfErr result (λ error. (filtered.new ≡ None) × ErrsBy refused_by
         (run B.Module.request_header (map B.begins builders.now) head.old) error) }
 {
-    let noted = filter_and_note(alloc, builders, modules, head, filtered);
+    let mut noted = filter_request(alloc, builders, modules, head);
+    if noted.is_ok() {
+        let Some(place) = filtered else {
+            unreachable!()
+        };
+        noted = head.copy_to(place);
+    }
     if noted.is_err() {
         *filtered = None;
     }
     noted
-}
-
-/// The same, where what is noted has no meaning with an error.
-fn filter_and_note<B: HttpModuleBuilder + Drop>(
-    alloc: Global,
-    builders: &HttpModules<B>,
-    modules: &mut HttpModuleCtx<B::Module>,
-    head: &mut RequestHeader,
-    filtered: &mut Option<RequestHeader>,
-) -> Result<(), Error>
-    requires { IsSome filtered.old }
-    ensures ok { OnOk result ((filtered.new ≡ Some head.new)
-        × (run B.Module.request_header (map B.begins builders.now) head.old
-        ≡ Ok (modules.new.modules, head.new))) }
-    ensures err { IfErr result (ErrsBy refused_by
-        (run B.Module.request_header (map B.begins builders.now) head.old)) }
-{
-    filter_request(alloc, builders, modules, head)?;
-    let Some(place) = filtered else {
-        unreachable!()
-    };
-    head.copy_to(place)
 }
 
 /// The application is started for the head that was noted. Where there is no memory for that, the

@@ -6,7 +6,7 @@ ghost use Rattle.h1_app.specs.declared.exchange.Stage.TheVariants as at;
 ghost use Rattle.h1_transcript.specs.declared.transcript.Entry.{Entry};
 ghost use Rattle.h1_app.specs.Beginning.{IsPieceOf, failure_of};
 ghost use Rattle.h1_app.specs.Turn.{LeavesBy};
-ghost use Rattle.h1_app.specs.Filtering.{FiltersStay, chain};
+ghost use Rattle.h1_app.specs.Filtering.{FiltersStay, chain_of};
 ghost use Rattle.h1_app.specs.FilterSteps.{FilterReady, SteppedWith};
 ghost use Rattle.h1_app.specs.Step.{StepReady, SteppedBy, Continues};
 ghost use Rattle.h1_app.specs.Replying.{NotesBody, NotesHeader, StandsAfter, going};
@@ -40,13 +40,11 @@ where
     B: LawfulFor<L, C, SV> + Drop,
     C: Drop,
     requires ready { FilterReady (SV.gives server.now.app) (SV.runs server.now.app)
-        (chain B.begins B.Module.request_header B.Module.response_header
-        B.Module.response_body server.now.modules) now modules.old.modules exchange.old }
+        (chain_of B.HttpModuleBuilder B.Module.HttpModule server.now.modules) now modules.old.modules exchange.old }
     requires at { exchange.old.stage ≡ at.TakeHeader }
     ensures stepped { (shutdown : Bool)
         → SteppedWith L.state SV.pends (SV.gives server.now.app) (SV.runs server.now.app)
-        (chain B.begins B.Module.request_header B.Module.response_header
-        B.Module.response_body server.now.modules) now shutdown modules.new.modules
+        (chain_of B.HttpModuleBuilder B.Module.HttpModule server.now.modules) now shutdown modules.new.modules
         exchange.old exchange.new result }
     ensures continues { Continues L.state L.same_plan SV.begins SV.pends exchange.old exchange.new
         result }
@@ -104,13 +102,11 @@ where
     B: LawfulFor<L, C, SV> + Drop,
     C: Drop,
     requires ready { FilterReady (SV.gives server.now.app) (SV.runs server.now.app)
-        (chain B.begins B.Module.request_header B.Module.response_header
-        B.Module.response_body server.now.modules) now modules.old.modules exchange.old }
+        (chain_of B.HttpModuleBuilder B.Module.HttpModule server.now.modules) now modules.old.modules exchange.old }
     requires at { exchange.old.stage ≡ at.TakeBody }
     ensures stepped { (shutdown : Bool)
         → SteppedWith L.state SV.pends (SV.gives server.now.app) (SV.runs server.now.app)
-        (chain B.begins B.Module.request_header B.Module.response_header
-        B.Module.response_body server.now.modules) now shutdown modules.new.modules
+        (chain_of B.HttpModuleBuilder B.Module.HttpModule server.now.modules) now shutdown modules.new.modules
         exchange.old exchange.new result }
     ensures continues { Continues L.state L.same_plan SV.begins SV.pends exchange.old exchange.new
         result }
