@@ -126,14 +126,14 @@ never_late filters e error (inr refused) = rw refused.1 refl
 none_ends : {L C J : Type 0} (state : L → LinkState) (pends : J → ℕ)
     (runs : J → RequestView → Settings → Settings → List ℕ → Type 0) (filters : Filters)
     (old new : SessionView L C) (e : Entry) (error : Error) (from to : Stage J)
-    → WhyNone filters e error
+    → WhyNone filters e error → new.reply.owed ≡ [] → e.sent_body ≡ None
     → OutcomeCause state pends runs old new (Some e) from to (outcome.Ends (end.Failed error))
-    ⊎ StepRefuses filters (Some e) (outcome.Ends (end.Failed error))
-none_ends state pends runs filters old new e error from to (inl is) =
+    ⊎ StepRefuses filters new (Some e) (outcome.Ends (end.Failed error))
+none_ends state pends runs filters old new e error from to (inl is) unowed unsent =
     inl (λ before done s. memory_ends before (state old.link) (state new.link) done (Some e)
     (end.Failed error) (ap (λ (x : Error). end.Failed x) is))
-none_ends state pends runs filters old new e error from to (inr refused) =
-    inr (rw refused.1 refl, (refused.0, rw refused.1 refl, refused.2))
+none_ends state pends runs filters old new e error from to (inr refused) unowed unsent =
+    inr ((rw refused.1 refl, (refused.0, rw refused.1 refl, refused.2)), unowed, unsent)
 
 -- a head was read, and keep-alive was set again behind it
 module _ {L C J M : Type 0} (state : L → LinkState) (begins : J → Type 0) (pends : J → ℕ)
@@ -172,7 +172,8 @@ module _ {L C J M : Type 0} (state : L → LinkState) (begins : J → Type 0) (p
       → StepsInTime state now x.stage to x.session (with_filtered again request head) (Some e)
       result
       → OutcomeCause state pends runs x.session (with_filtered again request head) (Some e) x.stage
-      to result ⊎ StepRefuses (filters_of chain) (Some e) result
+      to result
+      ⊎ StepRefuses (filters_of chain) (with_filtered again request head) (Some e) result
       → Stepped state pends (rules_with gives chain) runs now shutdown x
       (behind (with_filtered again request head) to) result
   begins_stepped to result request e head last asked entry filtered timely cause =
@@ -251,7 +252,8 @@ module _ {L C J M : Type 0} (state : L → LinkState) (begins : J → Type 0) (p
       (received_moves behind_it refl refl refl) (omega arith) error
       (never_late (filters_of chain) e error why)))
       (none_ends state pends runs (filters_of chain) x.session behind_it e error x.stage stage.Head
-      why))
+      why (ap (λ (r : Outgoing). r.owed) reply_stays ∙ h.awaiting.unwritten.owed)
+      s.begun.entry.sent_body))
 
   -- there is no memory for an exchange
   unbegun : (new : SessionView L C) (error : Error) → NotBegun again new transcript.last error

@@ -1,8 +1,8 @@
 -- How a connection stands once its reply is written, and why it ends.
-use Rattle.std.proofs.Common.{◌≡◌, ℕ, ◌+◌, ◌-◌, ◌^◌, ◌<◌, ◌⊎◌, inl, inr, min, List, [], ◌∷◌, ◌++◌, length, take, Bool, true, false, cond, nat_lt, nat_le, Some, refl, sym, ◌∙◌, ap, subst, append-nil, length-take, arith, codes}
+use Rattle.std.proofs.Common.{Option, None, ◌≡◌, ℕ, ◌+◌, ◌-◌, ◌^◌, ◌<◌, ◌⊎◌, inl, inr, min, List, [], ◌∷◌, ◌++◌, length, take, Bool, true, false, cond, nat_lt, nat_le, Some, refl, sym, ◌∙◌, ap, subst, append-nil, length-take, arith, codes}
 use Rattle.std.proofs.lemmas.Bool.{false≢true, ltb-true, lt-ltb}
 use Rattle.std.proofs.lemmas.Option.{none-some}
-use Rattle.h1_app.specs.Words.{AllByRecursion, Error, ErrorType, LinkState, ResponseView, Body, whole, unfinished, broken, ahead, chunked, body, reads, read_as, framing, out, begun, after_piece, end_bytes, is_head, Framing, Counted, Chunked, UntilClose, Chunking, Reading, Lacks, SessionView, Reply, Entry, WroteBehind, AfterWrote, FlushedBy, written_of, FailureCause, EndCause, IsComplete, IsWrittenShort, LastStands, render, is_short, shown, IfTold}
+use Rattle.h1_app.specs.Words.{AllByRecursion, Error, ErrorType, LinkState, ResponseView, Body, whole, unfinished, broken, ahead, chunked, body, reads, read_as, framing, out, begun, after_piece, end_bytes, is_head, Framing, Counted, Chunked, UntilClose, Chunking, Reading, Lacks, SessionView, Reply, Entry, WroteBehind, AfterWrote, FlushedBy, written_of, FailureCause, EndCause, IsComplete, IsWrittenShort, LastStands, render, is_short, shown, IfTold, OfLast, IsWrittenSoFar}
 use Rattle.h1_error.specs.declared.error.ErrorType.TheVariants as kind
 use Rattle.h1_error.specs.declared.progress.End.TheVariants as end
 use Rattle.h1_fields.specs.Lines.{Line}
@@ -107,14 +107,26 @@ stopped_cause state before old done session e error s is replied =
 
 -- all of the reply is written
 written_whole : {L C : Type 0} (since : List ℕ) (session : SessionView L C) (e : Entry)
-    (sent : List ℕ)
-    → session.reply.owed ≡ [] → e.sent_body ≡ Some sent → end_bytes session.reply.writer ≡ []
+    → session.reply.owed ≡ [] → coming e.sent_body session.reply.writer ≡ []
     → WroteSo since session (Some e) → since ≡ render e
-written_whole since session e sent none is ended h =
-    sym (ap (λ x. since ++ session.reply.owed ++ coming x session.reply.writer) is ∙ ap
-    (λ xs. since ++ session.reply.owed ++ xs) ended
+written_whole since session e none nothing h =
+    sym (ap (λ xs. since ++ session.reply.owed ++ xs) nothing
     ∙ append-nil (since ++ session.reply.owed) ∙ ap (λ xs. since ++ xs) none
     ∙ append-nil since) ∙ h
+
+told_so_far : {L C : Type 0} (state : L → LinkState) (before : LinkState) (done : List Entry)
+    (session : SessionView L C) (e : Entry)
+    → Accounted state before session done (Some e) → session.reply.owed ≡ []
+    → coming e.sent_body session.reply.writer ≡ []
+    → IfTold before.written (state session.link).written
+    (λ since. WroteBehind since done (render e))
+told_so_far state before done session e s none nothing =
+    told_map before.written (state session.link).written
+    (AfterWrote done (λ rest. WroteSo rest session (Some e) ×
+    (session.reply.sent ≡ min (length rest) (2 ^ 64 - 1))))
+    (λ since. WroteBehind since done (render e))
+    (λ since h. subst (λ xs. WroteBehind since done xs)
+    (written_whole h.0 session e none nothing h.2.0) h.1) s.wrote
 
 pub told_whole : {L C : Type 0} (state : L → LinkState) (before : LinkState) (done : List Entry)
     (session : SessionView L C) (e : Entry) (sent : List ℕ)
@@ -123,12 +135,19 @@ pub told_whole : {L C : Type 0} (state : L → LinkState) (before : LinkState) (
     → IfTold before.written (state session.link).written
     (λ since. WroteBehind since done (render e))
 told_whole state before done session e sent s none is ended =
-    told_map before.written (state session.link).written
-    (AfterWrote done (λ rest. WroteSo rest session (Some e) ×
-    (session.reply.sent ≡ min (length rest) (2 ^ 64 - 1))))
-    (λ since. WroteBehind since done (render e))
-    (λ since h. subst (λ xs. WroteBehind since done xs)
-    (written_whole h.0 session e sent none is ended h.2.0) h.1) s.wrote
+    told_so_far state before done session e s none
+    (ap (λ x. coming x session.reply.writer) is ∙ ended)
+
+-- before its body is taken up, that is all that was
+pub written_so_far : {L C : Type 0} (state : L → LinkState) (before : LinkState)
+    (done : List Entry) (session : SessionView L C) (last : Option Entry)
+    → Accounted state before session done last → session.reply.owed ≡ []
+    → OfLast last (λ e. e.sent_body ≡ None)
+    → IsWrittenSoFar before (state session.link) done last
+written_so_far state before done session None s none unsent = absurd unsent
+written_so_far state before done session (Some e) s none unsent =
+    told_so_far state before done session e s none
+    (ap (λ x. coming x session.reply.writer) unsent)
 
 -- a reply that is written whole was flushed, where nothing of it is owed
 pub complete : {L C : Type 0} (state : L → LinkState) (before : LinkState) (done : List Entry)

@@ -1,5 +1,5 @@
 -- Steps in which the filters make nothing of a reply: one refuses it, or there is no memory.
-use Rattle.std.proofs.Common.{◌≡◌, ℕ, ◌⊎◌, inl, inr, Bool, List, None, Some, Result, Ok, Err, ap, refl, false, arith}
+use Rattle.std.proofs.Common.{[], ◌≡◌, ℕ, ◌⊎◌, inl, inr, Bool, List, None, Some, Result, Ok, Err, ap, refl, false, arith}
 use Rattle.h1_modules.specs.Outcome.{ErrsBy, refused_by}
 use Rattle.h1_transcript.specs.Refusals.{IsReplyRefusedBy}
 use Rattle.h1_transfer.specs.Deadline.{is_timeout}
@@ -23,12 +23,13 @@ pub refused_stepped : {L C J : Type 0} (state : L → LinkState) (pends : J → 
     (x y : Exchange L J C) (result : Outcome) → AllowedReady rules runs now x → (e : Entry)
     → x.transcript.last ≡ Some e → y.transcript.last ≡ Some e → y.session ≡ x.session
     → y.stage ≡ x.stage → (reply : Reply) → e.reply ≡ Some reply → e.sent_body ≡ None
+    → y.session.reply.owed ≡ []
     → (error : Error) → result ≡ outcome.Ends (end.Failed error)
     → ((n : ℕ) × IsReplyRefusedBy rules.filters e reply n × (error ≡ refused_by n))
     ⊎ (error ≡ no_memory)
     → Stepped state pends rules runs now shutdown x y result
 refused_stepped state pends rules runs now shutdown x y result ready e was is same stays
-    reply replied unsent error ends why =
+    reply replied unsent unowed error ends why =
     kept_stepped state pends rules runs now shutdown x y e result ready was is same
     (λ moves. rw (ends, stays) (fails_anyhow state now x.stage x.stage x.session y.session (Some e)
     moves (omega arith) error (untimed why)))
@@ -44,9 +45,13 @@ refused_stepped state pends rules runs now shutdown x y result ready e was is sa
 
     caused : Why → OutcomeCause state pends runs x.session y.session (Some e) x.stage y.stage
         (outcome.Ends (end.Failed error))
-        ⊎ StepRefuses rules.filters (Some e) (outcome.Ends (end.Failed error))
+        ⊎ StepRefuses rules.filters y.session (Some e) (outcome.Ends (end.Failed error))
     caused (inl refused) = inr (
-      ap (λ (x : Error). x.retry) refused.2,
-      (refused.0, ap (λ (x : Error). x.kind) refused.2, inr (reply, replied, unsent, refused.1)),
+      (
+        ap (λ (x : Error). x.retry) refused.2,
+        (refused.0, ap (λ (x : Error). x.kind) refused.2, inr (reply, replied, unsent, refused.1)),
+      ),
+      unowed,
+      unsent,
     )
     caused (inr memory) = inl (λ before done s. rw memory (refl, tt))

@@ -287,7 +287,8 @@ module _ {L C J M : Type 0} (gives : Given → Reply → Type 0)
       → SteppedWith state pends gives runs chain now shutdown after x y result
   refused_header_stepped state pends shutdown y result error told same session stage ends = record {
     stepped = refused_stepped state pends (rules_with gives chain) runs now shutdown x y result
-        allowed_now h.0 h.1 (same ∙ h.1) session stage h.3 h.4.is h.7 error ends
+        allowed_now h.0 h.1 (same ∙ h.1) session stage h.3 h.4.is h.7
+        (ap (λ (s : SessionView L C). s.reply.owed) session ∙ h.5.owed) error ends
         (refusal (erred_by (chain.header (is_empty h.3.body) modules h.3.header) error
         (at_some (λ reply. ErrsBy refused_by
         (chain.header (is_empty reply.body) modules reply.header) error) h.0.reply h.3 h.4.is

@@ -43,7 +43,7 @@ pub filtered_stepped : {L C J : Type 0} (state : L → LinkState) (pends : J →
     → FewReadsNotReady (state x.session.link) (state y.session.link) (e ∷ []) (f ∷ []) result
     → StepsInTime state now x.stage y.stage x.session y.session (Some f) result
     → OutcomeCause state pends runs x.session y.session (Some f) x.stage y.stage result
-    ⊎ StepRefuses rules.filters (Some f) result
+    ⊎ StepRefuses rules.filters y.session (Some f) result
     → Stepped state pends rules runs now shutdown x y result
 filtered_stepped state pends rules runs now shutdown x y e f result was is went since allowed kept
     grows few timely outcome = record {
@@ -124,7 +124,7 @@ pub kept_stepped : {L C J : Type 0} (state : L → LinkState) (pends : J → ℕ
     → (MovesWithin state x.session y.session
     → StepsInTime state now x.stage y.stage x.session y.session (Some e) result)
     → OutcomeCause state pends runs x.session y.session (Some e) x.stage y.stage result
-    ⊎ StepRefuses rules.filters (Some e) result
+    ⊎ StepRefuses rules.filters y.session (Some e) result
     → Stepped state pends rules runs now shutdown x y result
 kept_stepped {L} {C} {J} state pends rules runs now shutdown x y e result ready was is same timely
     outcome =

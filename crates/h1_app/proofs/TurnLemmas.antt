@@ -5,6 +5,7 @@ use Rattle.h1_app.specs.declared.exchange.Stage.TheVariants as stage
 use Rattle.h1_app.specs.declared.exchange.Outcome.TheVariants as outcome
 use Rattle.h1_transcript.specs.Begun.{IsSetFor, pipelining_behind}
 use Rattle.h1_app.proofs.Words.{JobFrom, rank, Turned, TurnCause, outcome_end, stops, Chain, Sound, SoundStage, SoundWith, Stepped, SteppedWith, StepRefuses, OutcomeCause, rules_with, FewReadsNotReady, view_of, IfAwaiting, Continues, JobNew, LeavesBy, one_where}
+use Rattle.h1_app.proofs.EndReplies.{written_so_far}
 use Rattle.h1_app.proofs.LeavesLemmas.{noted_grows}
 use Rattle.h1_app.proofs.OthersLemmas.{awaits_head, still_last, others_stepped}
 use Rattle.h1_transcript.proofs.AloneLemmas.{join_none}
@@ -89,7 +90,7 @@ stage_stepped : {L C J : Type 0} (state : L → LinkState) (pends : J → ℕ)
     (runs : J → RequestView → Settings → Settings → List ℕ → Type 0) (filters : Filters)
     (old new : SessionView L C) (behind : Option Entry) (from to : Stage J) (result : Outcome)
     → OutcomeCause state pends runs old new behind from to result
-    ⊎ StepRefuses filters behind result
+    ⊎ StepRefuses filters new behind result
     → IfNone (outcome_end result) (SoundStage runs new behind to)
 stage_stepped state pends runs filters old new behind from to outcome.Done (inl h) = h.0
 stage_stepped state pends runs filters old new behind from to outcome.Done (inr h) = absurd h
@@ -212,7 +213,7 @@ pub caused_stepped : {L C A J : Type 0} (filters : Filters) (state : L → LinkS
     (first second : Option End) (result : Outcome)
     → Continues state same_plan begins pends x y result
     → OutcomeCause state pends runs x.session y.session y.transcript.last x.stage y.stage result
-    ⊎ StepRefuses filters y.transcript.last result
+    ⊎ StepRefuses filters y.session y.transcript.last result
     → TurnCause filters state begins pends (view_of served limit x first)
     (view_of served limit y second) result
 caused_stepped filters state begins pends runs same_plan served limit x y first second outcome.Done c
@@ -226,4 +227,10 @@ caused_stepped filters state begins pends runs same_plan served limit x y first 
 caused_stepped filters state begins pends runs same_plan served limit x y first second
     (outcome.Ends reason) c (inl h) = (c.done, λ since s. inl (h since y.transcript.done s))
 caused_stepped filters state begins pends runs same_plan served limit x y first second
-    (outcome.Ends reason) c (inr h) = (c.done, λ since s. inr h)
+    (outcome.Ends reason) c (inr h) = (
+      c.done,
+      λ since s. inr (
+        h.0,
+        written_so_far state since y.transcript.done y.session y.transcript.last s h.1 h.2,
+      ),
+    )

@@ -1,6 +1,6 @@
 -- What each step of an exchange asks for, and what it leaves.
-use Rattle.std.specs.Prelude.{◌≡◌, ℕ, ◌<◌, List, Bool, IsSome, IfSome, option_to_list, Option, ◌-◌, ◌≤◌, ◌⊎◌, option_map}
-use Rattle.h1_app.specs.Words.{YEAR_10000, LinkState, RequestView, Settings, Reply, Entry, Exchange, Outcome, Given, Filters, Rules, RefusesLast, BeginsWith, IsAllowed, ExtendsLast, Moved, SessionView, Stage}
+use Rattle.std.specs.Prelude.{◌≡◌, ℕ, ◌<◌, List, Bool, IsSome, IfSome, option_to_list, Option, ◌-◌, ◌≤◌, ◌⊎◌, option_map, [], None}
+use Rattle.h1_app.specs.Words.{YEAR_10000, LinkState, RequestView, Settings, Reply, Entry, Exchange, Outcome, Given, Filters, Rules, RefusesLast, OfLast, BeginsWith, IsAllowed, ExtendsLast, Moved, SessionView, Stage}
 use Rattle.h1_app.specs.Accounted.{Accounted}
 use Rattle.h1_app.specs.Sound.{SoundStage, IsKept}
 use Rattle.h1_app.specs.Outcome.{OutcomeCause}
@@ -40,11 +40,13 @@ pub record StepReady {L C J : Type 0}
   -- the moment can be written as a date
   pub moment : now < YEAR_10000
 
--- a filter refused in a step, which ends the connection
-abbrev pub StepRefuses : Filters → Option Entry → Outcome → Type 0
-StepRefuses filters last outcome.Done = ⊥
-StepRefuses filters last (outcome.Waits what) = ⊥
-StepRefuses filters last (outcome.Ends reason) = RefusesLast filters last reason
+-- a filter refused in a step, which ends the connection; nothing that was taken up is owed
+abbrev pub StepRefuses : {L C : Type 0} → Filters → SessionView L C → Option Entry → Outcome
+    → Type 0
+StepRefuses filters session last outcome.Done = ⊥
+StepRefuses filters session last (outcome.Waits what) = ⊥
+StepRefuses filters session last (outcome.Ends reason) = RefusesLast filters last reason
+    × (session.reply.owed ≡ []) × OfLast last (λ e. e.sent_body ≡ None)
 
 -- what each step leaves of the exchange that is last, and why it goes on, waits or ends
 pub record Stepped {L C J : Type 0} (state : L → LinkState) (pends : J → ℕ)
@@ -73,7 +75,7 @@ pub record Stepped {L C J : Type 0} (state : L → LinkState) (pends : J → ℕ
       new.transcript.last result
   -- why it goes on, waits or ends; a filter may have refused
   pub outcome : OutcomeCause state pends runs old.session new.session new.transcript.last old.stage
-      new.stage result ⊎ StepRefuses rules.filters new.transcript.last result
+      new.stage result ⊎ StepRefuses rules.filters new.session new.transcript.last result
 
 -- the same of a step in which no filter runs, whatever the filters are
 abbrev pub SteppedBy : {L C J : Type 0} → (L → LinkState) → (J → ℕ) → (Given → Reply → Type 0)

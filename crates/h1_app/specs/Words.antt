@@ -51,7 +51,7 @@ pub use Rattle.h1_transcript.specs.Exchange.{IsAllowed, IsDated, given_to, is_sh
 pub use Rattle.h1_transcript.specs.Given.{Given}
 pub use Rattle.h1_transcript.specs.Growth.{Extends, ExtendsLast, Grows, Stays}
 pub use Rattle.h1_transcript.specs.Lawful.{IsLawful, LawfulReplies}
-pub use Rattle.h1_transcript.specs.Refusals.{EndsBy, IsRefusedBy, RefusesLast}
+pub use Rattle.h1_transcript.specs.Refusals.{EndsBy, IsRefusedBy, IsWrittenSoFar, RefusesLast}
 pub use Rattle.h1_transcript.specs.Rules.{ArePlain, Filters, LawfulRules, Rules}
 pub use Rattle.h1_transcript.specs.Told.{IfTold, ToldGrowth}
 pub use Rattle.h1_transcript.specs.declared.reply.Reply.{Reply}

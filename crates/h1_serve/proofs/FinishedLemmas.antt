@@ -85,7 +85,7 @@ not_refused : (filters : Filters) (old now : LinkState) (done : List Entry) (las
     → EndsBy filters new_link old now done last end.Finished
     → EndCause new_link old now done last end.Finished
 not_refused filters old now done last (inl cause) = cause
-not_refused filters old now done last (inr refuses) = absurd refuses
+not_refused filters old now done last (inr refuses) = absurd refuses.0
 
 -- a poll that answered that the connection finished has its cause: the link ended
 finished_by : (moment : ℕ) (s t : State) (answer : Progress) → IsSinceHere moment (head_since s.work)

@@ -1,5 +1,5 @@
 -- What holds of a connection without modules.
-use Rattle.std.proofs.Common.{◌≡◌, ◌⊎◌, inl, inr, ℕ, List, [], ◌∷◌, Option, Some, None, IfSome, Result, Ok, Err, refl, sym, ◌∙◌, ap, subst}
+use Rattle.std.proofs.Common.{◌≡◌, inl, inr, ℕ, List, [], ◌∷◌, Option, Some, None, IfSome, Result, Ok, Err, sym, ◌∙◌, ap, subst}
 use Rattle.std.specs.Prelude.{◌≤◌, length, true, IsSome}
 use Rattle.h1_transcript.specs.Words.{AllByRecursion, LinkState, RequestView, ResponseView, Reply, Entry, End}
 use Rattle.h1_error.specs.declared.progress.End.TheVariants as end
@@ -163,4 +163,4 @@ module _ (rules : Rules) (none : ArePlain rules.filters) where
       (reason : End) → EndsBy rules.filters before old now done last reason
       → EndCause before old now done last reason
   plain_cause before old now done last reason (inl cause) = cause
-  plain_cause before old now done last reason (inr refused) = absurd (never_last last reason refused)
+  plain_cause before old now done last reason (inr refused) = absurd (never_last last reason refused.0)

@@ -1,6 +1,6 @@
 -- The transcript, the bytes given and the bytes written agree.
 use Rattle.std.specs.Prelude.{◌≡◌, ℕ, ◌+◌, ◌-◌, ◌^◌, List, [], ◌∷◌, ◌++◌, length, min, true, false, Option, IfSome}
-use Rattle.h1_transcript.specs.Words.{AllByRecursion, LinkState, ErrorType, Body, whole, unfinished, broken, payload_of, Reply, Entry, SaysOfBody}
+use Rattle.h1_transcript.specs.Words.{AllByRecursion, LinkState, ErrorType, Body, whole, unfinished, broken, payload_of, Entry, SaysOfBody}
 use Rattle.h1_transcript.specs.Rules.{Rules}
 use Rattle.h1_transcript.specs.Begun.{AreBegun}
 use Rattle.h1_transcript.specs.Behind.{StoodAs, IsDoneAt, FlushedBy}

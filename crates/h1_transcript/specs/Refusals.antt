@@ -3,8 +3,11 @@ use Rattle.std.specs.Prelude.{◌≡◌, ◌⊎◌, ℕ, List, [], false, Option
 use Rattle.h1_error.specs.declared.error.ErrorType.TheVariants as kind
 use Rattle.h1_error.specs.declared.progress.End.TheVariants as end
 use Rattle.h1_transcript.specs.Words.{End, LinkState, Reply, Entry}
+use Rattle.h1_transcript.specs.Behind.{WroteBehind}
 use Rattle.h1_transcript.specs.Ends.{EndCause, OfLast}
+use Rattle.h1_transcript.specs.Exchange.{render}
 use Rattle.h1_transcript.specs.Rules.{Filters}
+use Rattle.h1_transcript.specs.Told.{IfTold}
 
 -- a filter of the reply refuses with this number: that of its header, or, once the header is sent,
 -- that of its body
@@ -27,8 +30,15 @@ RefusesLast filters last (end.Failed error) = (error.retry ≡ false)
     × ((n : ℕ) × (error.kind ≡ kind.ModuleFailed n) × OfLast last (λ e. IsRefusedBy filters e n))
 RefusesLast filters last _ = ⊥
 
--- when a connection with these filters ends: for a cause of its own, or for a refusal
+-- what was taken up of the last reply was written whole, after those of the exchanges that ended
+abbrev pub IsWrittenSoFar : LinkState → LinkState → List Entry → Option Entry → Type 0
+IsWrittenSoFar before now done last = OfLast last (λ e. IfTold before.written now.written
+    (λ since. WroteBehind since done (render e)))
+
+-- when a connection with these filters ends: for a cause of its own, or for a refusal behind all
+-- that was taken up
 abbrev pub EndsBy : Filters → LinkState → LinkState → LinkState → List Entry → Option Entry → End
     → Type 0
 EndsBy filters before old now done last reason =
-    EndCause before old now done last reason ⊎ RefusesLast filters last reason
+    EndCause before old now done last reason
+    ⊎ (RefusesLast filters last reason × IsWrittenSoFar before now done last)

@@ -7,9 +7,9 @@ ghost use Rattle.h1_transcript.specs.Complete.{NoFault, IsInTime, IsOutOfMemory}
 ghost use Rattle.h1_transcript.specs.Ends.{EndCause, IsComplete};
 ghost use Rattle.h1_transcript.specs.Exchange.{is_short};
 
-/// Every exchange is replied to: where a connection ends, no call of its link failed and no limit of
-/// time was reached, the last exchange's reply was written whole and flushed, if it isn't short, or
-/// memory ran out.
+/// Every exchange is replied to: where a connection ends, no module refused, no call of its link
+/// failed and no limit of time was reached, the last exchange's reply was written whole and flushed,
+/// if it isn't short, or memory ran out.
 pub fn the_last_exchange_is_replied_to()
     ensures { (before old now : LinkState) (done : List Entry) (e : Entry) (reason : End)
         → EndCause before old now done (Some e) reason → NoFault old now → IsInTime now reason

@@ -16,7 +16,7 @@ returns-in-Err-clause-stepped g c = λ shutdown.
     record {
       stepped = refused_stepped g.L.Link.state _ _ _ c.args.now shutdown _ _ _
           (allowed_ready _ _ _ _ ready.ready ready.allowed) h.0 h.1
-          (ap Some c.in-Err.ensures.err.0 ∙ sym entry ∙ h.1) refl refl h.3 h.5.is h.7
+          (ap Some c.in-Err.ensures.err.0 ∙ sym entry ∙ h.1) refl refl h.3 h.5.is h.7 h.10
           c.in-Err.error refl
           (body_refused ready h c.in-Err.error (rw entry c.in-Err.ensures.err.1));
       stand = tt;
