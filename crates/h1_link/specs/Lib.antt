@@ -16,3 +16,4 @@ pub mod MemSteps
 pub mod SinkState
 pub mod SourceState
 pub mod Steps
+pub mod TcpState

@@ -1,6 +1,6 @@
 -- What a link gave and took, and how often it was called: the transport connection of RFC 9112,
 -- section 9, as its user sees it.
-use Rattle.std.specs.Prelude.{ℕ, List, Bool, false, Option, None}
+use Rattle.std.specs.Prelude.{ℕ, List, [], Bool, false, Option, Some}
 
 pub record LinkState : Type 0 where
   -- the bytes that its reads handed out, where the link tells them
@@ -28,11 +28,11 @@ pub record LinkState : Type 0 where
   -- the link was shut down for both sides
   pub shut : Bool
 
--- a link that tells no bytes, before its first call
-abbrev pub untold_state : LinkState
-untold_state = record {
-  given = None;
-  written = None;
+-- a link that tells its bytes, before its first call
+abbrev pub fresh_state : LinkState
+fresh_state = record {
+  given = Some [];
+  written = Some [];
   ended = false;
   read_faults = 0;
   write_faults = 0;

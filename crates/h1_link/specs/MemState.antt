@@ -1,6 +1,6 @@
 -- What contracts see of a link in memory.
 use Rattle.std.specs.Prelude.{ℕ, List, [], take, Bool, false, Option, Some, None, vec_len}
-use Rattle.h1_link.specs.LinkState.{LinkState}
+use Rattle.h1_link.specs.LinkState.{LinkState, fresh_state}
 use Rattle.h1_link.specs.declared.memory.gate.Gate.{Gate}
 use Rattle.h1_link.specs.declared.memory.gate.Gate.TheVariants.{Open}
 use Rattle.h1_link.specs.declared.memory.inlet.Inlet.{Inlet}
@@ -60,21 +60,7 @@ mem_state_of inlet outlet counts shut = record {
 -- a link with nothing ahead, nothing written and nothing planned
 abbrev pub new_mem_state : MemState
 new_mem_state = record {
-  state = record {
-    given = Some [];
-    written = Some [];
-    ended = false;
-    read_faults = 0;
-    write_faults = 0;
-    read_waits = 0;
-    write_waits = 0;
-    bytes_in = 0;
-    bytes_out = 0;
-    moves = 0;
-    others = 0;
-    flushed = 0;
-    shut = false;
-  };
+  state = fresh_state;
   put = [];
   end_at = None;
   reads_noted = 0;

@@ -16,6 +16,7 @@ mod source;
 mod standard;
 mod stream_laws;
 mod system_clock;
+mod tap;
 mod tcp;
 
 pub use acceptor::Acceptor;

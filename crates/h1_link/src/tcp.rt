@@ -1,7 +1,11 @@
 //! Links over TCP (RFC 9112, section 9).
-ghost use Rattle.std.specs.Prelude.{◌≡◌, IfSome};
+ghost use Rattle.std.specs.Prelude.{◌≡◌, ◌<◌, length, IfSome};
+ghost use Rattle.std.specs.Io.KnownBytes.{Keeps};
 ghost use Rattle.std.specs.Net.Socket.{socket_port};
-ghost use Rattle.h1_link.specs.LinkState.{untold_state};
+ghost use Rattle.h1_link.specs.Steps.{FitsRead, FitsWrite, after_read, after_write};
+ghost use Rattle.h1_link.specs.Steps.{after_flush, after_shutdown};
+ghost use Rattle.h1_link.specs.TcpState.{TcpState, new_tcp_state, contents};
+ghost use Rattle.h1_link.specs.TcpState.{ReadsStream, WritesStream, HoldsNothing};
 
 use crate::acceptor::Acceptor;
 use crate::dialer::{DialStep, Dialer};
@@ -16,10 +20,12 @@ use std::time::Duration;
 /// How long a read or a write waits for the peer, in milliseconds.
 const WAIT: u64 = 20;
 
-/// A link over a TCP stream, which tells no bytes. It holds up to 8,192 bytes of what it took until
-/// a flush, so that the parts of a message that are there together leave in one write. A piece of
-/// that length or more goes through at once behind what is held. A shutdown and a drop try once to
-/// send what is held.
+/// A link over a TCP stream. It holds up to 8,192 bytes of what it took until a flush, so that the
+/// parts of a message that are there together leave in one write. A piece of that length or more
+/// goes through at once behind what is held. A shutdown and a drop try once to send what is held.
+///
+/// Contracts see the bytes that the stream's reads returned and its writes took; that these are the
+/// bytes on the wire is trusted.
 #[derive(Drop)]
 pub struct TcpLink<S: Read + Write + OpenStream + Drop> {
     stream: BufWriter<S>,
@@ -27,18 +33,25 @@ pub struct TcpLink<S: Read + Write + OpenStream + Drop> {
 }
 
 impl<S: Read + Write + OpenStream + Drop> Model for TcpLink<S> {
-    ghost use Rattle.h1_link.specs.LinkState.{LinkState};
+    ghost use Rattle.std.specs.Io.Buffered.{writer_buffer, writer_inner};
+    ghost use Rattle.h1_link.specs.TcpState.{TcpState};
 
-    ghost Value = { LinkState };
+    ghost Value = { TcpState };
 
-    ghost view = { λ l. l.tally };
+    ghost view = { λ l. record {
+      state = l.tally;
+      left = S.Read.remaining (writer_inner l.stream);
+      sent = S.Write.contents (writer_inner l.stream);
+      held = writer_buffer l.stream;
+    } };
 }
 
 impl<S: Read + Write + OpenStream + Drop> TcpLink<S> {
     /// A link over this stream; `None` where its calls can't be kept from blocking, or writes from
     /// waiting for each other, or where there is no memory for what the link holds.
     pub fn new(alloc: Global, stream: S) -> Option<Self>
-        ensures { IfSome result (λ link. link ≡ untold_state) }
+        ensures { IfSome result (λ link.
+            link ≡ new_tcp_state (S.remaining stream) (S.contents stream)) }
     {
         let wait = Some(Duration::from_millis(WAIT));
         if stream.set_read_timeout(wait).is_err()
@@ -63,11 +76,16 @@ fn is_wait(error: &io::Error) -> bool {
 }
 
 impl<S: Read + Write + OpenStream + Drop> Link for TcpLink<S> {
-    ghost state = { λ link. link };
+    ghost state = { λ link. link.state };
 
     ghost same_plan = { λ _ _. Unit {0} };
 
-    fn poll_read(&mut self, buf: &mut [u8]) -> ReadStep {
+    fn poll_read(&mut self, buf: &mut [u8]) -> ReadStep
+        requires { 0 < length buf.old }
+        ensures fits { FitsRead buf.new result }
+        ensures stream { ReadsStream self.old self.new buf.new result }
+        ensures state { self.new.state ≡ after_read self.old.state buf.new result }
+    {
         let step = match self.stream.get_mut().read(buf) {
             Ok(0) => ReadStep::End,
             Ok(count) => ReadStep::Got(count),
@@ -78,7 +96,11 @@ impl<S: Read + Write + OpenStream + Drop> Link for TcpLink<S> {
         step
     }
 
-    fn poll_write(&mut self, piece: &[u8]) -> WriteStep {
+    fn poll_write(&mut self, piece: &[u8]) -> WriteStep
+        ensures fits { FitsWrite piece.now result }
+        ensures stream { WritesStream self.old self.new piece.now result }
+        ensures state { self.new.state ≡ after_write self.old.state piece.now result }
+    {
         let step = match self.stream.write(piece) {
             Ok(count) => WriteStep::Took(count),
             Err(error) if is_wait(&error) => WriteStep::NotReady,
@@ -88,7 +110,11 @@ impl<S: Read + Write + OpenStream + Drop> Link for TcpLink<S> {
         step
     }
 
-    fn poll_flush(&mut self) -> FlushStep {
+    fn poll_flush(&mut self) -> FlushStep
+        ensures stream { Keeps (contents self.old) (contents self.new) }
+        ensures held { HoldsNothing self.new result }
+        ensures state { self.new.state ≡ after_flush self.old.state result }
+    {
         let step = match self.stream.flush() {
             Ok(()) => FlushStep::Done,
             Err(error) if is_wait(&error) => FlushStep::NotReady,
@@ -98,7 +124,10 @@ impl<S: Read + Write + OpenStream + Drop> Link for TcpLink<S> {
         step
     }
 
-    fn shutdown(&mut self) {
+    fn shutdown(&mut self)
+        ensures stream { Keeps (contents self.old) (contents self.new) }
+        ensures state { self.new.state ≡ after_shutdown self.old.state }
+    {
         // What can't be sent now is lost, and a stream that the peer has closed can't be shut down
         // again: neither is a fault.
         let _ = self.stream.flush();

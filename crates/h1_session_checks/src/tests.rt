@@ -7,6 +7,7 @@ mod heads;
 mod peer;
 mod pieces;
 mod play;
+mod reads;
 mod reuse;
 mod setting;
 

@@ -29,7 +29,7 @@ pub use outgoing::{Outgoing, Step};
 pub use owed::Owed;
 pub use reading_body::{BodyRead, BodyStop, drain_body, read_body};
 pub use reading_head::{HeadRead, HeadStop, read_head};
-pub use receiving::{Filled, READ_SIZE, fill};
+pub use receiving::{Filled, MAX_READ_SIZE, READ_SIZE, fill};
 pub use sending::{Sending, send};
 pub use since::{DrainLimits, Since};
 pub use taking::{TakeStep, take};

@@ -5,7 +5,7 @@ ghost use Rattle.h1_body.specs.Reader.{reads};
 ghost use Rattle.h1_transfer.specs.Decoding.{ReadsBody, BodyCause, StopCause, IsUnfinished, payload_of};
 ghost use Rattle.h1_transfer.specs.Calls.{Called, is_part, is_done, fault_of_read, fault_of_stop};
 
-use crate::receiving::{Filled, fill};
+use crate::receiving::{Filled, fill_on};
 use crate::taking::{TakeStep, take};
 use bytes::{Bytes, BytesMut};
 use h1_body::{BodyBytes, BodyReader, FeedState};
@@ -37,7 +37,8 @@ pub enum BodyRead {
 }
 
 /// Reads until payload is there, the body ends or reading can't go on. What is received already
-/// is used before the first read.
+/// is used before the first read. How many bytes the last read of the body gave is noted for the
+/// next one (`fill_on`).
 #[tactic(auto, using(crate::proofs::BodyLemmas::body_took, crate::proofs::BodyLemmas::body_filled))]
 #[inline(always)]
 pub fn read_body<L: Link>(
@@ -46,6 +47,7 @@ pub fn read_body<L: Link>(
     reader: &mut BodyReader,
     kept: &mut Option<BodyBytes>,
     room: &mut Room,
+    came: &mut usize,
     budget: &mut u32,
 ) -> BodyRead
     ensures reads { ReadsBody (L.state link.old)
@@ -70,8 +72,11 @@ pub fn read_body<L: Link>(
         if *budget == 0 {
             return BodyRead::Stopped(BodyStop::Spent);
         }
-        match fill(link, received) {
-            Filled::Got => *budget -= 1,
+        match fill_on(link, received, *came) {
+            Filled::Got => {
+                *came = received.len();
+                *budget -= 1;
+            }
             Filled::End => return BodyRead::Stopped(BodyStop::Cut),
             Filled::NotReady => return BodyRead::Stopped(BodyStop::NotReady),
             Filled::Failed => return BodyRead::Stopped(BodyStop::Failed),
@@ -88,6 +93,7 @@ pub fn drain_body<L: Link>(
     reader: &mut BodyReader,
     kept: &mut Option<BodyBytes>,
     room: &mut Room,
+    came: &mut usize,
     budget: &mut u32,
 ) -> BodyStop
     ensures reads { (payload : List ℕ)
@@ -106,7 +112,7 @@ pub fn drain_body<L: Link>(
     match reader.state() {
         FeedState::Done => BodyStop::Done,
         FeedState::More | FeedState::Broken => {
-            drain_rest(link, received, reader, kept, room, budget)
+            drain_rest(link, received, reader, kept, room, came, budget)
         }
     }
 }
@@ -119,6 +125,7 @@ fn drain_rest<L: Link>(
     reader: &mut BodyReader,
     kept: &mut Option<BodyBytes>,
     room: &mut Room,
+    came: &mut usize,
     budget: &mut u32,
 ) -> BodyStop
     ensures reads { (payload : List ℕ)
@@ -134,7 +141,7 @@ fn drain_rest<L: Link>(
     ensures plan { L.same_plan link.old link.new }
 {
     'drains: loop {
-        let read = read_body(link, received, reader, kept, room, budget);
+        let read = read_body(link, received, reader, kept, room, came, budget);
         // What is received is bounded by its buffer before the next read.
         let _left_over = received.len();
         match read {

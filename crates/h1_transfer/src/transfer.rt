@@ -28,6 +28,8 @@ pub struct Transfer<L: Link + Drop> {
     budget: Option<u32>,
     /// Memory for small pieces of bytes, which no contract sees.
     room: Room,
+    /// How many bytes the last read of the body gave, which no contract sees.
+    came: usize,
 }
 
 impl<L: Link + Drop> Model for Transfer<L> {
@@ -62,6 +64,7 @@ impl<L: Link + Drop> Transfer<L> {
             outgoing: Outgoing::new(alloc),
             budget: None,
             room: Room::new(alloc),
+            came: 0,
         }
     }
 
@@ -151,6 +154,7 @@ impl<L: Link + Drop> Transfer<L> {
     {
         self.body.reader = BodyReader::new(framing);
         self.body.refused = None;
+        self.came = 0;
     }
 
     /// From here on all payload that is read is kept after these bytes, and a body whose reading

@@ -1,6 +1,6 @@
 //! A link that gives fixed bytes and keeps nothing.
 ghost use Rattle.std.specs.Prelude.{◌≡◌, ◌<◌, length, take, IfOk, IfErr, Some, false};
-ghost use Rattle.h1_link.specs.LinkState.{untold_state};
+ghost use Rattle.h1_link.specs.LinkState.{fresh_state};
 ghost use Rattle.h1_link.specs.DummyState.{DummyState, DummyRule, SameBytes, dummy_state_of};
 ghost use Rattle.h1_link.specs.DummyState.{bytes_itself, bytes_on, dummy_read_answer};
 ghost use Rattle.h1_link.specs.Steps.{FitsRead, FitsWrite, after_read, after_write};
@@ -35,7 +35,7 @@ impl Model for DummyIO {
 impl DummyIO {
     /// A link whose reads give these bytes.
     pub fn new(alloc: Global, read_bytes: &[u8]) -> Result<Self, Error>
-        ensures ok { IfOk result (λ link. link ≡ dummy_state_of untold_state read_bytes.now 0) }
+        ensures ok { IfOk result (λ link. link ≡ dummy_state_of fresh_state read_bytes.now 0) }
         ensures no_memory { IfErr result (λ error.
             error ≡ record { kind = ErrorType.NoMemory; retry = false }) }
     {

@@ -1,15 +1,20 @@
-//! The counts of a link that tells no bytes.
+//! What a link that keeps no byte gave and took.
 ghost use Rattle.std.specs.Prelude.{◌≡◌};
-ghost use Rattle.h1_link.specs.LinkState.{untold_state};
-ghost use Rattle.h1_link.specs.Steps.{after_read, after_write, after_flush, after_shutdown};
+ghost use Rattle.h1_link.specs.LinkState.{fresh_state};
+ghost use Rattle.h1_link.specs.Steps.{FitsRead, FitsWrite, after_read, after_write};
+ghost use Rattle.h1_link.specs.Steps.{after_flush, after_shutdown};
 
 use crate::link::{FlushStep, ReadStep, WriteStep};
 use crate::memory::counts::{Counts, raise_by};
+use crate::tap::Tap;
 use std::marker::Model;
 
-/// The counts of a link. Contracts see them as the state of a link that tells no bytes.
+/// The counts of a link, and the bytes that it gave and took, of which memory holds none. Contracts
+/// see them as the link's state.
 #[derive(Drop)]
 pub struct Tally {
+    given: Tap,
+    written: Tap,
     counts: Counts,
     ended: bool,
     bytes_in: u64,
@@ -19,14 +24,14 @@ pub struct Tally {
 }
 
 impl Model for Tally {
-    ghost use Rattle.std.specs.Prelude.{None};
+    ghost use Rattle.std.specs.Prelude.{Some};
     ghost use Rattle.h1_link.specs.LinkState.{LinkState};
 
     ghost Value = { LinkState };
 
     ghost view = { λ t. record {
-      given = None;
-      written = None;
+      given = Some t.given;
+      written = Some t.written;
       ended = t.ended;
       read_faults = t.counts.read_faults;
       write_faults = t.counts.write_faults;
@@ -42,11 +47,13 @@ impl Model for Tally {
 }
 
 impl Tally {
-    /// The counts before the first call.
+    /// The state before the first call.
     pub fn new() -> Self
-        ensures { result ≡ untold_state }
+        ensures { result ≡ fresh_state }
     {
         Tally {
+            given: Tap::new(),
+            written: Tap::new(),
             counts: Counts::NONE,
             ended: false,
             bytes_in: 0,
@@ -58,10 +65,12 @@ impl Tally {
 
     /// A read into this buffer answered this.
     pub fn count_read(&mut self, buf: &[u8], step: ReadStep)
+        requires { FitsRead buf.now step }
         ensures { self.new ≡ after_read self.old buf.now step }
     {
         match step {
             ReadStep::Got(count) => {
+                self.given.pass(&buf[..count]);
                 self.bytes_in = raise_by(self.bytes_in, count as u64);
                 self.counts.count_move();
             }
@@ -77,12 +86,14 @@ impl Tally {
 
     /// A write of this piece answered this.
     pub fn count_write(&mut self, piece: &[u8], step: WriteStep)
+        requires { FitsWrite piece.now step }
         ensures { self.new ≡ after_write self.old piece.now step }
     {
         match step {
             WriteStep::Took(0) if piece.is_empty() => self.counts.count_other(),
             WriteStep::Took(0) => self.counts.count_write_fault(),
             WriteStep::Took(count) => {
+                self.written.pass(&piece[..count]);
                 self.bytes_out = raise_by(self.bytes_out, count as u64);
                 self.counts.count_move();
             }

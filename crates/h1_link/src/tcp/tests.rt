@@ -67,6 +67,14 @@ fn slow_link(alloc: Global, most: usize) -> Option<TcpLink<Slow>> {
     )
 }
 
+/// Asks that the value may go to another thread.
+fn needs_send<T: Send>(_value: &T) {}
+
+/// A link over each stream that may go to another thread may go there too.
+fn may_go<S: Read + Write + OpenStream + Drop + Send>(link: &TcpLink<S>) {
+    needs_send(link);
+}
+
 /// What the stream took.
 fn taken(link: &TcpLink<Slow>) -> &[u8] {
     link.stream.get_ref().taken.as_slice()
@@ -117,5 +125,12 @@ fn a_shutdown_sends_what_is_held(rt: HostRuntime) -> Result<(), Fail> {
     assert_eq!(rt; link.poll_write(b"HTTP/1.1"), WriteStep::Took(8));
     link.shutdown();
     assert_eq!(rt; taken(&link), b"HTTP/1.1".as_slice());
+    Ok(())
+}
+
+#[test]
+fn a_link_may_go_to_another_thread(rt: HostRuntime) -> Result<(), Fail> {
+    let link = slow_link(rt.alloc(), 1).ok_or("no link")?;
+    may_go(&link);
     Ok(())
 }

@@ -100,6 +100,7 @@ impl<L: Link + Drop> Transfer<L> {
             &mut self.body.reader,
             &mut self.body.kept,
             &mut self.room,
+            &mut self.came,
             &mut left,
         );
         let _left_over = self.received.len();
@@ -130,6 +131,7 @@ impl<L: Link + Drop> Transfer<L> {
             &mut self.body.reader,
             &mut self.body.kept,
             &mut self.room,
+            &mut self.came,
             &mut left,
         );
         self.budget = budget_left(self.budget, left);

@@ -28,5 +28,5 @@ reads-preserved g c =
         | inr first ↦ parsed_first took first lacks
       ];
       calls = called_on _ _ _ _ _ before.calls c.in-Got.ensures.calls;
-      plan = g.met.L.Link.plan_on _ _ _ before.plan c.fill.ensures.plan;
+      plan = g.met.L.Link.plan_on _ _ _ before.plan c.fill_on.ensures.plan;
     }
