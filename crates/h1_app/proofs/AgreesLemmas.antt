@@ -1,6 +1,7 @@
 -- A connection's transcript agrees with what its link gave and took.
 use Rattle.std.proofs.Common.{◌≡◌, ℕ, ◌+◌, ◌-◌, ◌^◌, min, drop, ap, append-nil, List, [], ◌∷◌, ◌++◌, length, false, option_to_list, Option, Some, None, IfSome, refl, sym, ◌∙◌, append_assoc}
 use Rattle.h1_app.specs.Words.{Rules, AllByRecursion, End, Error, ErrorType, LinkState, RequestView, Body, whole, unfinished, broken, ahead, body, reads, HasRead, framing, SessionView, Settings, Reply, Entry, Stage, StoodAs, ReadBehind, WroteBehind, AfterRead, AfterWrote, DoneBehind, FlushedBy, render, IsAllowed}
+use Rattle.h1_application.specs.Application.{Runs}
 use Rattle.h1_error.specs.declared.error.ErrorType.TheVariants as kind
 use Rattle.h1_body.specs.Body.{payload_of}
 use Rattle.h1_body.proofs.ReadLemmas.{read_is}
@@ -167,7 +168,7 @@ last_wrote rest session (Some e) kept h sent = one_reply rest session e kept h s
 
 -- a sound connection's transcript agrees
 pub agrees_sound : {L C J : Type 0} (rules : Rules)
-    (runs : J → RequestView → Settings → Settings → List ℕ → Type 0) (limit : Option ℕ)
+    (runs : Runs J) (limit : Option ℕ)
     (state : L → LinkState)
     (session : SessionView L C) (done : List Entry) (last : Option Entry) (at : Stage J)
     (end : Option End) (before : LinkState)

@@ -8,30 +8,34 @@ use Rattle.h1_app.specs.declared.exchange.Outcome.TheVariants as outcome
 use Rattle.h1_app.specs.declared.exchange.Stage.TheVariants as stage
 use Rattle.h1_app.specs.declared.steps.answering.Asked.TheVariants as asked
 use Rattle.h1_error.specs.declared.progress.Waiting.TheVariants as waiting
-use Rattle.h1_application.specs.Application.{IsAskedFor, RefusedBy, RefusesWith, WaitsBy}
+use Rattle.h1_application.specs.Application.{IsAskedFor, ReadsInTime, RefusedBy, RefusesWith, WaitsBy, Runs}
+use Rattle.h1_application.proofs.TimeLemmas.{limit_is, limit_stays}
 use Rattle.h1_app.specs.Asking.{PendsAsked, RunsOn}
 use Rattle.h1_app.proofs.ReplyLemmas.{at_some}
 use Rattle.h1_app.proofs.Words.{AsksAs, GivesAsked, FiltersStay, StepReady, ahead, noted, Accounted, StopsBody, StopsWith, StoodSo, SoundStage, IsAnswering, IsKept, IsUnwritten, SameFiltered, lent, Stepped, MovesWithin, OutcomeCause, FewReadsNotReady}
 use Rattle.h1_app.specs.Answering.{IsAskedIn, bare}
-use Rattle.h1_transcript.specs.Growth.{RefusedIn, RoseFor}
+use Rattle.h1_transcript.specs.BodyLimits.{IsLimitOf}
+use Rattle.h1_transcript.specs.Growth.{RefusedIn, RoseFor, StaysWith}
 use Rattle.h1_transcript.proofs.GrowthLemmas.{stays_itself}
 use Rattle.h1_app.proofs.EndReplies.{stands_unfinished}
 use Rattle.h1_app.specs.Timely.{StepsInTime}
 use Rattle.h1_app.proofs.TimelyLemmas.{fails_anyhow, untimed_waits}
+use Rattle.h1_app.specs.BodyTimes.{BodyInTime}
+use Rattle.h1_app.proofs.BodyTimeLemmas.{body_asked, noted_at_in}
 use Rattle.h1_app.proofs.StepLemmas.{grown_stepped}
 use Rattle.h1_app.proofs.StoodLemmas.{stood_so}
 use Rattle.h1_app.proofs.AccountedLemmas.{accounted_read, entry_on, stops_on}
 
 -- the application's stage, taken apart
-pub at_answer : {L C J : Type 0} (runs : J → RequestView → Settings → Settings → List ℕ → Type 0)
+pub at_answer : {L C J : Type 0} (runs : Runs J)
     (session : SessionView L C) (last : Option Entry) (at : Stage J) (e : Entry) (job : J)
     → SoundStage runs session last at → at ≡ stage.Answer job → last ≡ Some e
     → (answering : IsAnswering e session)
-    × runs job answering.request.header e.began session.settings e.body
+    × runs job answering.request.header e.began session.settings e.body session.read_limit
 at_answer runs session last at e job sound is some =
     let s = rw is at sound in
     subst (λ (x : Entry). (answering : IsAnswering x session)
-    × runs job answering.request.header x.began session.settings x.body)
+    × runs job answering.request.header x.began session.settings x.body session.read_limit)
     (same_Some s.0 e (sym s.1 ∙ some)) (s.2, s.3)
 
 -- the session's request has its head
@@ -116,6 +120,7 @@ asked_still {L} {C} state old new e e2 e3 answer request like a h =
       wish = a.wish;
       reuses = r.reuses ∙ a.reuses;
       body_error = refl;
+      read_limit = refl;
       handed = refl;
       kept = refl;
       waits = refl;
@@ -132,10 +137,10 @@ unwritten_still {L} {C} state old new e e2 answer h unwritten =
 
 -- a job that goes on runs for the exchange, which still awaits its reply
 still_answers : {L C J : Type 0} (state : L → LinkState)
-    (runs : J → RequestView → Settings → Settings → List ℕ → Type 0) (old new : SessionView L C)
+    (runs : Runs J) (old new : SessionView L C)
     (e e2 : Entry) (job : J) (answer : Asked) (a : IsAnswering e old)
     → AsksAs state old new e e2 answer
-    → runs job a.request.header e.began new.settings e2.body
+    → runs job a.request.header e.began new.settings e2.body new.read_limit
     → SoundStage runs new (Some e2) (stage.Answer job)
 still_answers state runs old new e e2 job answer a h on = (
   e2,
@@ -148,7 +153,7 @@ still_answers state runs old new e e2 job answer a h on = (
     sent_head = ap (λ (x : Entry). x.sent_head) h.entry ∙ a.sent_head;
     sent_body = ap (λ (x : Entry). x.sent_body) h.entry ∙ a.sent_body;
   },
-  subst (λ began. runs job a.request.header began new.settings e2.body)
+  subst (λ began. runs job a.request.header began new.settings e2.body new.read_limit)
       (sym (ap (λ (x : Entry). x.began) h.entry)) on,
 )
 
@@ -160,7 +165,7 @@ still_unreplied state old new e e2 answer a h = ap (λ (x : Entry). x.reply) h.e
 
 -- the reply joins the exchange, and its header is taken up next
 now_replied : {L C J : Type 0} (state : L → LinkState)
-    (runs : J → RequestView → Settings → Settings → List ℕ → Type 0) (old new : SessionView L C)
+    (runs : Runs J) (old new : SessionView L C)
     (e e2 : Entry) (reply : Reply) (answer : Asked) → IsAnswering e old
     → AsksAs state old new e e2 answer
     → SoundStage runs new (Some (record e2 { reply = Some reply })) stage.TakeHeader
@@ -183,11 +188,12 @@ now_replied {L} {C} state runs old new e e2 reply answer a h = (
 -- the exchange is allowed as before, where the reply that joined it is one that the application gives
 allowed_asked : {L C : Type 0} (state : L → LinkState) (rules : Rules) (old new : SessionView L C)
     (e e2 e3 : Entry) (answer : Asked) → e3 ≡ record e2 { reply = e3.reply }
-    → (a : IsAnswering e old) → AsksAs state old new e e2 answer → IsAllowed rules e
+    → (a : IsAnswering e old) → AsksAs state old new e e2 answer → IsLimitOf e3.body_error e3.read_limit
+    → IsAllowed rules e
     → IfSome e3.reply (λ reply.
     rules.gives (record (given_to e2 a.request.header) { began = e.began }) reply)
     → IsAllowed rules e3
-allowed_asked {L} {C} state rules old new e e2 e3 answer like a h allowed gives =
+allowed_asked {L} {C} state rules old new e e2 e3 answer like a h limit allowed gives =
     subst (IsAllowed rules) (sym (asked_is e3 like h)) (record {
       filtered = allowed.filtered;
       reply = replied e3.reply gives;
@@ -196,6 +202,7 @@ allowed_asked {L} {C} state rules old new e e2 e3 answer like a h allowed gives 
       handed = omega arith;
       reuses = h.reads.reuses ∙ a.asked.reuses;
       owed = allowed.owed;
+      limit = subst (λ (x : Entry). IsLimitOf x.body_error x.read_limit) (asked_is e3 like h) limit;
     })
   where
     replied : (reply : Option Reply)
@@ -288,8 +295,9 @@ refusal_stays state old behind (Some error) h = h.0
 asked_grows : {L C : Type 0} (state : L → LinkState) (now : ℕ) (old new : SessionView L C)
     (e e2 e3 : Entry) (answer : Asked)
     → e3 ≡ record e2 { reply = e3.reply } → IsAnswering e old → AsksAs state old new e e2 answer
+    → StaysWith e.body_error e.read_limit e3.read_limit
     → Grows now (state old.link) (state new.link) e e3
-asked_grows {L} {C} state now old new e e2 e3 answer like a h =
+asked_grows {L} {C} state now old new e e2 e3 answer like a h limit =
     let r = h.reads in
     let entry = asked_is e3 like h in
     let read : payload_of h.behind ≡ e.body ++ r.payload = payload_is state old h.behind e.body r in
@@ -306,6 +314,7 @@ asked_grows {L} {C} state now old new e e2 e3 answer like a h =
       refused = subst (λ o. RefusedIn (state old.link) (state new.link) o h.behind.body.refused)
           (sym a.asked.body_error)
           (subst (λ x. RefusedIn (state old.link) x old.body.refused h.behind.body.refused) (sym link) within);
+      read_limit = subst (λ (x : Entry). StaysWith e.body_error e.read_limit x.read_limit) entry limit;
       reply = rw a.reply tt;
       replied = rw a.reply tt;
       sent_head = rw a.sent_head tt;
@@ -314,6 +323,46 @@ asked_grows {L} {C} state now old new e e2 e3 answer like a h =
       written = omega arith;
       began = refl;
     })
+
+-- the limit that a read reached is kept with the error, and stays
+asked_limits : {L C : Type 0} (state : L → LinkState) (now : ℕ) (old new : SessionView L C)
+    (e e2 e3 : Entry) (answer : Asked) → e3 ≡ record e2 { reply = e3.reply } → IsAnswering e old
+    → AsksAs state old new e e2 answer → ReadsInTime state now old new
+    → IsLimitOf e.body_error e.read_limit
+    → StaysWith e.body_error e.read_limit e3.read_limit × IsLimitOf e3.body_error e3.read_limit
+asked_limits {L} {C} state now old new e e2 e3 answer like a h timed limit =
+    let is = asked_is e3 like h in
+    let refused : e3.body_error ≡ new.body.refused =
+    ap (λ (x : Entry). x.body_error) is ∙ sym (ap (λ (x : SessionView L C). x.body.refused) h.session) in
+    let noted : e3.read_limit ≡ new.read_limit =
+    ap (λ (x : Entry). x.read_limit) is ∙ sym (ap (λ (x : SessionView L C). x.read_limit) h.session) in
+    let stays : Stays old.body.refused new.body.refused =
+    subst (λ (x : SessionView L C). Stays old.body.refused x.body.refused) (sym h.session)
+    (refusal_stays state (lent old e.body) h.behind old.body.refused h.reads.refused) in
+    let before : IsLimitOf old.body.refused old.read_limit = rw (a.asked.body_error, a.asked.read_limit) at limit in
+    rw (refused, noted, a.asked.body_error, a.asked.read_limit) (
+      limit_stays now new.body.since.read old.read_limit new.read_limit old.body.refused new.body.refused
+          timed.limit,
+      limit_is now new.body.since.read old.read_limit new.read_limit old.body.refused new.body.refused
+          before stays timed.limit,
+    )
+
+-- since when a read of its body waits, and whether it was refused for its time
+asked_body : {L C : Type 0} (state : L → LinkState) (now : ℕ) (old new : SessionView L C)
+    (e e2 e3 : Entry) (answer : Asked) → e3 ≡ record e2 { reply = e3.reply } → IsAnswering e old
+    → AsksAs state old new e e2 answer → ReadsInTime state now old new
+    → Grows now (state old.link) (state new.link) e e3
+    → BodyInTime now old.body.since.read new.body.since.read (Some e) (Some e3)
+asked_body {L} {C} state now old new e e2 e3 answer like a h timed grows =
+    let is = asked_is e3 like h in
+    let refused : e3.body_error ≡ new.body.refused =
+    ap (λ (x : Entry). x.body_error) is ∙ sym (ap (λ (x : SessionView L C). x.body.refused) h.session) in
+    let noted : e3.read_limit ≡ new.read_limit =
+    ap (λ (x : Entry). x.read_limit) is ∙ sym (ap (λ (x : SessionView L C). x.read_limit) h.session) in
+    body_asked now old.body.since.read new.body.since.read (state old.link) (state new.link) e e3 grows
+    (noted_at_in now (state old.link).moves (state new.link).moves old.body.since.read
+    new.body.since.read timed.since)
+    (rw (refused, noted, a.asked.body_error, a.asked.read_limit) timed.limit)
 
 asked_few : {L C : Type 0} (state : L → LinkState) (old new : SessionView L C) (e e2 : Entry)
     (answer : Asked) → AsksAs state old new e e2 answer
@@ -383,16 +432,16 @@ only_memory gives given _ gave = tt
 
 -- the connection has no limit for what the application does
 asked_in_time : {L C J : Type 0} (state : L → LinkState) (now : ℕ) (old new : SessionView L C)
-    (job job2 : J) (last : Option Entry) (answer : Asked) → MovesWithin state old new
+    (job job2 : J) (first last : Option Entry) (answer : Asked) → MovesWithin state old new
     → IsMemoryOnly answer
-    → StepsInTime state now (stage.Answer job) (stage_after job2 answer) old new last (outcome_after answer)
-asked_in_time state now old new job job2 last asked.Reads moves failed =
-    untimed_waits state now (stage.Answer job) (stage.Answer job2) old new last moves (omega arith) waiting.Read refl
-asked_in_time state now old new job job2 last asked.Pends moves failed =
-    untimed_waits state now (stage.Answer job) (stage.Answer job2) old new last moves (omega arith) waiting.App refl
-asked_in_time state now old new job job2 last (asked.Replied reply) moves failed = tt
-asked_in_time state now old new job job2 last (asked.Failed error) moves failed =
-    rw failed (fails_anyhow state now (stage.Answer job) (stage.Answer job2) old new last moves (omega arith)
+    → StepsInTime state now (stage.Answer job) (stage_after job2 answer) old new first last (outcome_after answer)
+asked_in_time state now old new job job2 first last asked.Reads moves failed =
+    untimed_waits state now (stage.Answer job) (stage.Answer job2) old new first last moves (omega arith) waiting.Read refl
+asked_in_time state now old new job job2 first last asked.Pends moves failed =
+    untimed_waits state now (stage.Answer job) (stage.Answer job2) old new first last moves (omega arith) waiting.App refl
+asked_in_time state now old new job job2 first last (asked.Replied reply) moves failed = tt
+asked_in_time state now old new job job2 first last (asked.Failed error) moves failed =
+    rw failed (fails_anyhow state now (stage.Answer job) (stage.Answer job2) old new first last moves (omega arith)
     no_memory refl)
 
 nearer_asked : {J : Type 0} (job : J) (old new : Option ℕ) (spent : ℕ)
@@ -403,10 +452,10 @@ nearer_asked job (Some left) new spent is = rw is (omega arith)
 
 -- why the step goes on, waits or ends
 asked_why : {L C J : Type 0} (state : L → LinkState) (pends : J → ℕ)
-    (runs : J → RequestView → Settings → Settings → List ℕ → Type 0) (gives : Given → Reply → Type 0)
+    (runs : Runs J) (gives : Given → Reply → Type 0)
     (given : Given) (old new : SessionView L C) (e e2 : Entry) (job job2 : J) (answer : Asked)
     (a : IsAnswering e old) → AsksAs state old new e e2 answer
-    → RunsOn (runs job2 a.request.header e.began new.settings e2.body) answer
+    → RunsOn (runs job2 a.request.header e.began new.settings e2.body new.read_limit) answer
     → GivesAsked gives given answer → PendsAsked (pends job) (pends job2) answer
     → OutcomeCause state pends runs old new (Some (entry_after e2 answer)) (stage.Answer job)
     (stage_after job2 answer) (outcome_after answer)
@@ -433,22 +482,22 @@ asked_why state pends runs gives given old new e e2 job job2 (asked.Failed error
 
 -- the application goes on: what it read joins the exchange, and its reply may
 pub asked_stepped : {L C J : Type 0} (state : L → LinkState) (pends : J → ℕ) (rules : Rules)
-    (runs : J → RequestView → Settings → Settings → List ℕ → Type 0)
+    (runs : Runs J)
     (now : ℕ) (shutdown : Bool) (x y : Exchange L J C) (e e2 : Entry) (job job2 : J) (answer : Asked)
     → StepReady runs now x → IfSome x.transcript.last (IsAllowed rules)
     → x.stage ≡ stage.Answer job → x.transcript.last ≡ Some e
     → y.transcript.last ≡ Some (entry_after e2 answer) → y.stage ≡ stage_after job2 answer
-    → AsksAs state x.session y.session e e2 answer
+    → AsksAs state x.session y.session e e2 answer → ReadsInTime state now x.session y.session
     → ((head : RequestView) (began : Settings) → IsAskedFor head x.session
-    → runs job head began x.session.settings e.body
-    → RunsOn (runs job2 head began y.session.settings e2.body) answer)
+    → runs job head began x.session.settings e.body x.session.read_limit
+    → RunsOn (runs job2 head began y.session.settings e2.body y.session.read_limit) answer)
     → ((head : RequestView) (began : Settings) → IsAskedFor head x.session
-    → runs job head began x.session.settings e.body
+    → runs job head began x.session.settings e.body x.session.read_limit
     → GivesAsked rules.gives (record (given_to e2 head) { began = began }) answer)
     → PendsAsked (pends job) (pends job2) answer
     → Stepped state pends rules runs now shutdown x y (outcome_after answer)
 asked_stepped {L} {C} state pends rules runs now shutdown x y e e2 job job2 answer ready allowed at
-    was is to asks runs_on gives counted =
+    was is to asks timed runs_on gives counted =
     let old : SessionView L C = x.session in
     let new : SessionView L C = y.session in
     let e3 : Entry = entry_after e2 answer in
@@ -460,23 +509,26 @@ asked_stepped {L} {C} state pends rules runs now shutdown x y e e2 job job2 answ
     let none : e2.reply ≡ None = still_unreplied state old new e e2 answer a asks in
     let like : e3 ≡ record e2 { reply = e3.reply } = after_like e2 answer in
     let moves : MovesWithin state old new = asked_moves state old new e e2 answer asks in
+    let before : IsAllowed rules e = at_some (IsAllowed rules) x.transcript.last e was allowed in
+    let limits = asked_limits state now old new e e2 e3 answer like a asks timed before.limit in
     grown_stepped state pends rules runs now shutdown x y e e3 (outcome_after answer) was is moves
     (asked_on state old new e e2 e3 answer like a asks)
-    (allowed_asked state rules old new e e2 e3 answer like a asks
-    (at_some (IsAllowed rules) x.transcript.last e was allowed)
+    (allowed_asked state rules old new e e2 e3 answer like a asks limits.1 before
     (gives_after rules.gives given e2 answer none gave))
     (kept_asked state old new e e2 e3 answer like a asks)
-    (asked_grows state now old new e e2 e3 answer like a asks)
+    (asked_grows state now old new e e2 e3 answer like a asks limits.0)
     (few_after (state old.link) (state new.link) e e2 answer a.reply none
     (asked_few state old new e e2 answer asks))
-    (rw (at, to) (asked_in_time state now old new job job2 (Some e3) answer moves
+    (asked_body state now old new e e2 e3 answer like a asks timed
+    (asked_grows state now old new e e2 e3 answer like a asks limits.0))
+    (rw (at, to) (asked_in_time state now old new job job2 x.transcript.last (Some e3) answer moves
     (only_memory rules.gives given answer gave)))
     (rw (at, to) (asked_why state pends runs rules.gives given old new e e2 job job2 answer a asks
     (runs_on a.request.header e.began for s.1) gave counted))
 
 -- no filter of the exchange ran
 pub asked_filters : {L C J : Type 0} (state : L → LinkState)
-    (runs : J → RequestView → Settings → Settings → List ℕ → Type 0) (now : ℕ) (x : Exchange L J C)
+    (runs : Runs J) (now : ℕ) (x : Exchange L J C)
     (new : SessionView L C) (e e2 : Entry) (job : J) (answer : Asked) → StepReady runs now x
     → x.stage ≡ stage.Answer job → x.transcript.last ≡ Some e → AsksAs state x.session new e e2 answer
     → FiltersStay x.transcript.last (Some (entry_after e2 answer))

@@ -1,9 +1,9 @@
 -- Steps in which the application is asked.
-use Rattle.std.proofs.Common.{◌≡◌, length, Bool, true, false, None, Result, Ok, Err, refl, sym, ◌∙◌, ap, subst, arith}
+use Rattle.std.proofs.Common.{◌≡◌, ℕ, List, length, Bool, true, false, None, Result, Ok, Err, refl, sym, ◌∙◌, ap, subst, arith}
 use Rattle.std.proofs.lemmas.List.{take_all}
 use Rattle.h1_app.specs.Words.{Poll, Ready, Pending, Error, LinkState, SessionView, Reply, Entry, Asked, no_memory, ReadsOnly, given_by, payload_of, Given, given_to, RequestView, Settings}
 use Rattle.h1_app.specs.declared.steps.answering.Asked.TheVariants as asked
-use Rattle.h1_application.specs.Application.{GivesReply}
+use Rattle.h1_application.specs.Application.{GivesReply, ReadsInTime}
 use Rattle.h1_app.proofs.Words.{AsksAs, GivesAsked, noted, lent, IsAskedOf}
 
 -- the application waits for the body where a read was pending, and else for something of its own
@@ -31,6 +31,16 @@ asked_as {L} {C} state old kept behind calm new e start noted_e outcome waits an
   reading = (λ a. sym w ∙ (asked_waits outcome waits answer is).0 a);
   pending = (λ a. sym w ∙ (asked_waits outcome waits answer is).1 a);
 }
+
+-- and what it notes of the time that its reads wait
+pub asked_timed : {L C : Type 0} (state : L → LinkState) (now : ℕ)
+    (old kept behind calm new : SessionView L C) (payload : List ℕ)
+    → kept ≡ lent old payload → ReadsInTime state now kept behind
+    → calm ≡ record behind { body = record behind.body { waits = false } }
+    → new ≡ record calm { body = record calm.body { kept = None } } → ReadsInTime state now old new
+asked_timed {L} {C} state now old kept behind calm new payload k timed ca n =
+    let lent_so = subst (λ (x : SessionView L C). ReadsInTime state now x behind) k timed in
+    rw (n, ca) (record { since = lent_so.since; limit = lent_so.limit })
 
 -- what the application gives is what it is seen to give
 pub gives_asked : (gives : Given → Reply → Type 0) (given : Given)

@@ -4,30 +4,34 @@ use Rattle.std.proofs.lemmas.Bool.{false≢true}
 use Rattle.std.proofs.lemmas.Option.{same_Some}
 use Rattle.h1_modules.specs.Outcome.{refused_by}
 use Rattle.h1_app.specs.Beginning.{NotBegun, NotStarted, StandsBegun, StartedAs, StartedWith, kept_again, with_filtered}
-use Rattle.h1_app.specs.Words.{Rules, Filters, IsRefusedBy, Given, Error, Ready, LinkState, no_memory, RequestView, body, reads, framing, SessionView, allowance, Request, Settings, Reply, Entry, Exchange, TranscriptView, Outgoing, Stage, Outcome, IsSetAlike, IsAllowed, keepalive_set}
+use Rattle.h1_app.specs.Words.{Rules, Filters, IsRefusedBy, Given, Error, Ready, LinkState, no_memory, RequestView, body, reads, framing, SessionView, allowance, Request, Settings, Reply, Entry, Exchange, TranscriptView, Outgoing, Stage, Outcome, IsSetAlike, IsAllowed, head_time, keepalive_set}
+use Rattle.h1_application.specs.Application.{Runs}
 use Rattle.h1_server.specs.declared.request.ReadRequest.TheVariants as read
 use Rattle.h1_app.specs.declared.exchange.Stage.TheVariants as stage
 use Rattle.h1_app.specs.declared.exchange.Outcome.TheVariants as outcome
 use Rattle.h1_error.specs.declared.progress.End.TheVariants as end
 use Rattle.h1_transfer.specs.Deadline.{is_timeout}
 use Rattle.h1_app.specs.Timely.{StepsInTime}
-use Rattle.h1_app.proofs.Words.{BegunAs, Chain, FewReadsNotReady, IsAwaiting, IsNewEntry, MovesWithin, OutcomeCause, SoundStage, StepRefuses, Stepped, SteppedWith, ahead, behind_request, filters_of, head_time, rules_with, value_of}
+use Rattle.h1_app.proofs.Words.{BegunAs, Chain, FewReadsNotReady, IsAwaiting, IsNewEntry, MovesWithin, OutcomeCause, SoundStage, StepRefuses, Stepped, SteppedWith, ahead, behind_request, filters_of, rules_with, value_of}
 use Rattle.h1_server.specs.Keepalive.{wished}
+use Rattle.h1_transcript.specs.Begun.{HasHeadTime}
 use Rattle.h1_server.specs.Requests.{BeginsRequest}
 use Rattle.h1_app.proofs.AccountedLemmas.{accounted_headed, accounted_begun, memory_ends, moves_received}
-use Rattle.h1_app.proofs.HeadLemmas.{AtHead}
+use Rattle.h1_app.proofs.BodyTimeLemmas.{body_begun, body_none}
+use Rattle.h1_app.proofs.HeadLemmas.{AtHead, read_noted}
 use Rattle.h1_app.proofs.StartLemmas.{errs_by}
 use Rattle.h1_app.proofs.TimelyLemmas.{fails_anyhow}
 
 -- the application is started for what the filters made of the request that was read
-begun_sound : {L C J : Type 0} (runs : J → RequestView → Settings → Settings → List ℕ → Type 0)
+begun_sound : {L C J : Type 0} (runs : Runs J)
     (old mid : SessionView L C) (settings : Settings) (e : Entry) (bytes : List ℕ)
     (request : Request) (n : ℕ) (head : RequestView) (job : J)
     → IsAwaiting old → mid.reply ≡ old.reply → BeginsRequest old mid bytes request n
-    → IsNewEntry request settings e → e.filtered ≡ Some head → runs job head settings settings []
+    → IsNewEntry request settings e → e.filtered ≡ Some head
+    → runs job head settings settings [] None → mid.read_limit ≡ None
     → SoundStage runs (with_filtered (record mid { settings = settings }) request head) (Some e)
     (stage.Answer job)
-begun_sound runs old mid settings e bytes request n head job a reply b is filtered running = (
+begun_sound runs old mid settings e bytes request n head job a reply b is filtered running limit = (
   e,
   refl,
   record {
@@ -40,6 +44,7 @@ begun_sound runs old mid settings e bytes request n head job a reply b is filter
       wish = rw (is.head, is.both) b.is.wishes;
       reuses = ap (λ (x : Settings). x.reuses) (sym is.began);
       body_error = rw (is.body_error, b.body) refl;
+      read_limit = is.read_limit ∙ sym limit;
       handed = rw (is.handed, is.body) refl;
       kept = rw b.body a.kept;
       waits = rw b.body a.waits;
@@ -52,7 +57,7 @@ begun_sound runs old mid settings e bytes request n head job a reply b is filter
     sent_head = is.sent_head;
     sent_body = is.sent_body;
   },
-  rw (is.began, is.body) running,
+  rw (is.began, is.body, limit) running,
 )
 
 -- with the exchange begun the way to its reply is shorter, and the budget didn't rise
@@ -86,6 +91,12 @@ keeps_off : (shutdown : Bool) (settings : Settings)
 keeps_off true settings = refl
 keeps_off false settings = refl
 
+-- and has the time for a head where it doesn't
+keeps_time : (shutdown : Bool) (settings : Settings)
+    → HasHeadTime (keepalive_set settings (head_time shutdown))
+keeps_time true settings = refl
+keeps_time false settings = refl
+
 -- an exchange that begins is allowed, with what the filters made of its head
 new_allowed : (rules : Rules) (request : Request) (settings : Settings) (e : Entry)
     → IsNewEntry request settings e
@@ -98,6 +109,7 @@ new_allowed rules request settings e is filtered = record {
   handed = rw (is.handed, is.body) (omega arith);
   reuses = ap (λ (x : Settings). x.reuses) (is.left ∙ sym is.began);
   owed = λ owed. absurd (false≢true (sym is.owed ∙ owed));
+  limit = rw (is.body_error, is.read_limit) refl;
 }
 
 -- why no application was started for an exchange
@@ -124,7 +136,7 @@ never_late filters e error (inl is) = rw is refl
 never_late filters e error (inr refused) = rw refused.1 refl
 
 none_ends : {L C J : Type 0} (state : L → LinkState) (pends : J → ℕ)
-    (runs : J → RequestView → Settings → Settings → List ℕ → Type 0) (filters : Filters)
+    (runs : Runs J) (filters : Filters)
     (old new : SessionView L C) (e : Entry) (error : Error) (from to : Stage J)
     → WhyNone filters e error → new.reply.owed ≡ [] → e.sent_body ≡ None
     → OutcomeCause state pends runs old new (Some e) from to (outcome.Ends (end.Failed error))
@@ -138,7 +150,7 @@ none_ends state pends runs filters old new e error from to (inr refused) unowed 
 -- a head was read, and keep-alive was set again behind it
 module _ {L C J M : Type 0} (state : L → LinkState) (begins : J → Type 0) (pends : J → ℕ)
     (gives : Given → Reply → Type 0)
-    (runs : J → RequestView → Settings → Settings → List ℕ → Type 0) (chain : Chain M) (now : ℕ)
+    (runs : Runs J) (chain : Chain M) (now : ℕ)
     (shutdown : Bool) (x : Exchange L J C) (mid : SessionView L C) (transcript : TranscriptView)
     (n : ℕ) (at : x.stage ≡ stage.Head)
     (h : AtHead state now x.session mid x.transcript.last (Ready (Ok (read.Head n)))) where
@@ -169,8 +181,8 @@ module _ {L C J M : Type 0} (state : L → LinkState) (begins : J → Type 0) (p
       (head : RequestView) → transcript.last ≡ Some e → mid.request ≡ Some request
       → IsNewEntry request again.settings e
       → IfSome e.filtered (λ filtered. value_of (behind_request chain e.head) ≡ Ok filtered)
-      → StepsInTime state now x.stage to x.session (with_filtered again request head) (Some e)
-      result
+      → StepsInTime state now x.stage to x.session (with_filtered again request head)
+      x.transcript.last (Some e) result
       → OutcomeCause state pends runs x.session (with_filtered again request head) (Some e) x.stage
       to result
       ⊎ StepRefuses (filters_of chain) (with_filtered again request head) (Some e) result
@@ -202,8 +214,12 @@ module _ {L C J M : Type 0} (state : L → LinkState) (begins : J → Type 0) (p
           dated = rw entry.sent_head tt;
           refused = rw entry.body_error tt;
         });
-        begins_with = rw (h.alone, last, entry.began) settings_alike;
+        begins_with = rw (h.alone, last, entry.began)
+            (settings_alike, keeps_time shutdown mid.settings);
         reads_not_ready = rw (h.alone, last) (few result);
+        body = rw (h.alone, last) (body_begun now x.session.body.since.read
+            mid.body.since.read e (read_noted state now x.session mid x.transcript.last
+            (Ready (Ok (read.Head n))) h) entry.body_error);
         timely = rw last timely;
         outcome = rw last cause;
       } where
@@ -225,7 +241,7 @@ module _ {L C J M : Type 0} (state : L → LinkState) (begins : J → Type 0) (p
             (inl (rw at (
               begun_sound runs x.session mid again.settings e h.reads.bytes s.request n s.head job
                   h.awaiting reply_stays (begins_request s.request s.begun.is) entry s.filtered
-                  s.running,
+                  s.running (ap (λ s. s.read_limit) h.reads.rest ∙ h.awaiting.read_limit),
               lit< tt,
               less_ahead x.session.budget mid.budget h.reads.left job h.reads.received.within
                   h.reads.budget,
@@ -248,7 +264,8 @@ module _ {L C J M : Type 0} (state : L → LinkState) (begins : J → Type 0) (p
       let behind_it = with_filtered again s.request s.head in
       rw s.begun.session (begins_stepped stage.Head (outcome.Ends (end.Failed error)) s.request e
       s.head last s.begun.is s.begun.entry (rw s.filtered tt)
-      (rw at (fails_anyhow {J = J} state now stage.Head stage.Head x.session behind_it (Some e)
+      (rw at (fails_anyhow {J = J} state now stage.Head stage.Head x.session behind_it
+      x.transcript.last (Some e)
       (received_moves behind_it refl refl refl) (omega arith) error
       (never_late (filters_of chain) e error why)))
       (none_ends state pends runs (filters_of chain) x.session behind_it e error x.stage stage.Head
@@ -273,8 +290,10 @@ module _ {L C J M : Type 0} (state : L → LinkState) (begins : J → Type 0) (p
         extends = rw (h.alone, s.none) tt;
         begins_with = rw (h.alone, s.none) settings_alike;
         reads_not_ready = rw (h.alone, s.none) (omega (arith, unread));
+        body = rw (h.alone, s.none) (body_none now x.session.body.since.read mid.body.since.read
+            (read_noted state now x.session mid x.transcript.last (Ready (Ok (read.Head n))) h));
         timely = rw at (fails_anyhow {J = J} state now stage.Head stage.Head x.session again
-            transcript.last (received_moves again refl refl refl) (omega arith) no_memory refl);
+            x.transcript.last transcript.last (received_moves again refl refl refl) (omega arith) no_memory refl);
         outcome = inl (λ before done s. memory_ends before (state x.session.link) (state mid.link)
             done transcript.last (end.Failed no_memory) refl);
       })

@@ -2,6 +2,7 @@
 use Rattle.std.proofs.Common.{◌⊎◌, inl, inr, Bool, Err, IfNone, IfSome, List, None, Ok, Option, Result, Some, [], ap, arith, is_some, nat_lt, not, false, refl, sym, true, ℕ, ◌∙◌, ◌≡◌}
 use Rattle.std.proofs.lemmas.Option.{none-some}
 use Rattle.h1_app.specs.Words.{Rules, Entry, Error, ErrorType, Exchange, IsAllowed, IsRefused, LinkState, Outcome, Outgoing, Rose, Step, Pending, Poll, Ready, Reply, RequestView, SessionView, Settings, WritesPiece, after_piece, allowance, shown}
+use Rattle.h1_application.specs.Application.{Runs}
 use Rattle.h1_body.specs.Writer.{piece_bytes}
 use Rattle.h1_server.specs.Times.{piece_deadline}
 use Rattle.h1_transfer.specs.BodyWrites.{piece_count}
@@ -66,7 +67,7 @@ headed_with e session sent body h = record {
 }
 
 module _ {L C J : Type 0} (state : L → LinkState) (pends : J → ℕ) (rules : Rules)
-    (runs : J → RequestView → Settings → Settings → List ℕ → Type 0) (now : ℕ) (shutdown : Bool)
+    (runs : Runs J) (now : ℕ) (shutdown : Bool)
     (x y : Exchange L J C) (result : Outcome) (ready : AllowedReady rules runs now x) where
   -- the body goes on
   pub body_stepped : (kept : Option (List ℕ)) (answer : Poll (Result (Option ℕ) Error))
@@ -116,8 +117,9 @@ module _ {L C J : Type 0} (state : L → LinkState) (pends : J → ℕ) (rules :
         rw done.free (done.owed, filled_is),
       ))
       stands
-      (λ moves. piece_in_time state now x.session y.session None kept answer w ready.budget x.stage
-      y.stage f result (rw stage refl) y.session.reply.write_since (rw stage refl)
+      (λ moves. piece_in_time state now x.session y.session None kept answer w ready.budget f
+      (ap (λ (s : Settings). s.times) h.5.left) x.stage y.stage x.transcript.last result
+      (rw (stage, h.1) refl) y.session.reply.write_since (rw stage refl)
       (rw stage (omega arith)) stands)
 
   -- the body is taken up: by a call that writes it, or without one where nothing goes out
@@ -136,7 +138,7 @@ module _ {L C J : Type 0} (state : L → LinkState) (pends : J → ℕ) (rules :
       left true answer
       → StandsAfter answer at.Body at.Finish x.stage y.stage result
       → (MovesWithin state x.session y.session
-      → StepsInTime state now x.stage y.stage x.session y.session
+      → StepsInTime state now x.stage y.stage x.session y.session x.transcript.last
       (Some (record h.0 { sent_body = Some bytes; written = written })) result)
       → Stepped state pends rules runs now shutdown x y result
   body_taken_stepped answer written count bytes taking left h stage made is part headed keep writer
@@ -238,5 +240,6 @@ module _ {L C J : Type 0} (state : L → LinkState) (pends : J → ℕ) (rules :
       w.timed)
       stands
       (λ moves. piece_in_time state now x.session y.session (Some sent.body) kept answer w
-      ready.budget x.stage y.stage (record h.0 { sent_body = Some b.bytes; written = written })
-      result (rw stage (sym h.11)) None (rw stage refl) (rw stage (omega arith)) stands)
+      ready.budget (record h.0 { sent_body = Some b.bytes; written = written })
+      (ap (λ (s : Settings). s.times) h.5.left) x.stage y.stage x.transcript.last result
+      (rw (stage, h.1) (sym h.11)) None (rw stage refl) (rw stage (omega arith)) stands)

@@ -1,12 +1,14 @@
 -- The steps that make one call that writes a part of a reply.
 use Rattle.std.proofs.Common.{◌≢◌, ◌⊎◌, inr, Bool, Err, List, None, Ok, Option, Result, Some, [], ap, false, inl, refl, true, ℕ, ◌++◌, ◌+◌, ◌<◌, ◌∙◌, ◌≡◌, ◌≤◌}
 use Rattle.h1_app.specs.Words.{Rules, Called, Entry, Error, ErrorType, Exchange, FailureCause, IsAllowed, IsRefused, LinkState, Outcome, Outgoing, Pending, Poll, Ready, Reply, Request, RequestView, Rose, RoseBy, Settings, Stage, Step, Writes, written_of}
+use Rattle.h1_application.specs.Application.{Runs}
 use Rattle.h1_error.specs.declared.error.ErrorType.TheVariants as kind
 use Rattle.h1_transfer.specs.Calls.{CallsFew, OneOther, succeeds, write_fault_of}
 use Rattle.h1_transfer.specs.Writes.{IsFree, IsSameBody, IsWaiting}
 use Rattle.h1_app.proofs.LeavesLemmas.{write_fails}
 use Rattle.h1_app.proofs.PartLemmas.{Part, WritesPart, more_of, more_part, part_accounted, part_grows, part_replied, replying}
 use Rattle.h1_app.proofs.ReplyLemmas.{ahead_down, at_some, headed_on, moves_wrote, refused_cause, settled_owed, waits_why}
+use Rattle.h1_app.proofs.BodyTimeLemmas.{body_written}
 use Rattle.h1_app.proofs.StepLemmas.{AllowedReady, allowed_written, grown_stepped, unread_few}
 use Rattle.h1_app.specs.Timely.{StepsInTime}
 use Rattle.h1_app.proofs.Words.{IsHeaded, IsReplied, JobFrom, Leaves, MovesWithin, OutcomeCause, SettledSo, SoundStage, Stepped, coming, outcome_end, rank, still, ahead, place, StandsAfter, Continues, OthersFew}
@@ -91,7 +93,7 @@ call_leaves before now last done (Ready (Err error)) owed later from to result c
     rw stands.1 (write_fails before now last done error calls)
 
 module _ {L C J : Type 0} (state : L → LinkState) (pends : J → ℕ) (rules : Rules)
-    (runs : J → RequestView → Settings → Settings → List ℕ → Type 0) (now : ℕ) (shutdown : Bool)
+    (runs : Runs J) (now : ℕ) (shutdown : Bool)
     (x y : Exchange L J C) (result : Outcome) (ready : AllowedReady rules runs now x) (e : Entry)
     (was : x.transcript.last ≡ Some e) where
   -- the exchange stood so before
@@ -108,7 +110,8 @@ module _ {L C J : Type 0} (state : L → LinkState) (pends : J → ℕ) (rules :
       → SettledSo before (state y.session.link) done (Some (replying e p)))
       → IsAllowed rules (replying e p)
       → (MovesWithin state x.session y.session
-      → StepsInTime state now x.stage y.stage x.session y.session (Some (replying e p)) result)
+      → StepsInTime state now x.stage y.stage x.session y.session x.transcript.last
+      (Some (replying e p)) result)
       → OutcomeCause state pends runs x.session y.session (Some (replying e p)) x.stage y.stage
       result
       → Stepped state pends rules runs now shutdown x y result
@@ -120,6 +123,10 @@ module _ {L C J : Type 0} (state : L → LinkState) (pends : J → ℕ) (rules :
       allowed w.counted (part_grows state now x.session y.session taking left e p w)
       (unread_few (state x.session.link) (state y.session.link) e (replying e p) result refl
       w.writes.sent.unread)
+      (body_written now x.session.body.since.read y.session.body.since.read (state x.session.link)
+      (state y.session.link) e (replying e p)
+      (part_grows state now x.session y.session taking left e p w)
+      (ap (λ s. s.body.since.read) w.writes.rest) refl)
       (timely moves) outcome
 
   -- the same where the reply is owed, by what the call answered
@@ -136,7 +143,8 @@ module _ {L C J : Type 0} (state : L → LinkState) (pends : J → ℕ) (rules :
       × (ahead y.session.budget later < ahead x.session.budget x.stage))
       → StandsAfter answer owed later x.stage y.stage result
       → (MovesWithin state x.session y.session
-      → StepsInTime state now x.stage y.stage x.session y.session (Some (replying e p)) result)
+      → StepsInTime state now x.stage y.stage x.session y.session x.transcript.last
+      (Some (replying e p)) result)
       → Stepped state pends rules runs now shutdown x y result
   call_stepped {T} body p taking left step answer owed later w is unflushed allowed sends told waits
       done stands timely =
@@ -198,7 +206,7 @@ module _ {L C J : Type 0} (state : L → LinkState) (pends : J → ℕ) (rules :
       → SoundStage runs y.session (Some (record e { written = written })) later)
       → StandsAfter answer from later x.stage y.stage result
       → (MovesWithin state x.session y.session
-      → StepsInTime state now x.stage y.stage x.session y.session
+      → StepsInTime state now x.stage y.stage x.session y.session x.transcript.last
       (Some (record e { written = written })) result)
       → Stepped state pends rules runs now shutdown x y result
   goes_on_stepped body request reply sent taking left written step answer from later stage less

@@ -4,6 +4,7 @@ use Rattle.std.proofs.lemmas.Bool.{false≢true, and_parts, not-true, not-false}
 use Rattle.std.proofs.lemmas.Option.{IfSome_then, same_Some}
 use Rattle.std.proofs.lemmas.List.{take-append-le}
 use Rattle.h1_app.specs.Words.{Rules, Ready, Error, ErrorType, LinkState, RequestView, ResponseView, wish, whole, out, reads, end_bytes, Framing, Counted, Chunked, UntilClose, Lacks, BodyRefusal, has_reuses, keeps_alive, may_follow, SessionView, Outgoing, Settings, Reply, Stage, Entry, How, Open, Whole, Failed, IsLawful, AfterRead, is_until_close, FailureCause, IsComplete, LacksSo, IsAllowed, IsDated, given_to, is_short, may_keep, Grows, IfTold}
+use Rattle.h1_application.specs.Application.{Runs}
 use Rattle.h1_error.specs.declared.error.ErrorType.TheVariants as kind
 use Rattle.h1_body.specs.Reader as reader
 use Rattle.h1_body.specs.Writer.{until_close}
@@ -14,13 +15,13 @@ use Rattle.h1_app.proofs.Words.{Accounted, ReadEntry, coming, SoundStage, IsDrai
 use Rattle.h1_transcript.proofs.BehindLemmas.{told_map}
 use Rattle.h1_app.proofs.AccountedLemmas.{accounted_read, entry_on, settled_on}
 use Rattle.h1_app.proofs.JoinLemmas.{read_past}
-use Rattle.h1_transcript.proofs.GrowthLemmas.{dated_same, refused_same, replied_same, stays_itself}
+use Rattle.h1_transcript.proofs.GrowthLemmas.{dated_same, refused_same, replied_same, stays_itself, stays_with_itself}
 use Rattle.h1_app.proofs.EndReplies.{complete, stands_broken, stands_unfinished}
 use Rattle.h1_app.proofs.DrainLemmas.{Reused, HasMore, Answered, stood_on}
 use Rattle.h1_app.proofs.ReplyLemmas.{at_some}
 
 -- the drain's stage, taken apart
-pub at_drain : {L C J : Type 0} (runs : J → RequestView → Settings → Settings → List ℕ → Type 0)
+pub at_drain : {L C J : Type 0} (runs : Runs J)
     (session : SessionView L C) (last : Option Entry) (stage : Stage J) (e : Entry)
     → stage ≡ at.Drain → last ≡ Some e → SoundStage runs session last stage → IsDraining e session
 at_drain runs session last stage e is some sound =
@@ -66,6 +67,7 @@ allowed_more rules e payload a =
       handed = let both = length-append e.body payload in omega (arith, a.handed, both);
       reuses = a.reuses;
       owed = a.owed;
+      limit = a.limit;
     }
 
 -- the payload says nothing of the reply's length, nor of its end
@@ -194,8 +196,9 @@ module _ {L C : Type 0} (state : L → LinkState) (old new : SessionView L C) (e
         handed = omega arith;
         body_error = stays_itself e.body_error;
         refused = refused_same (state old.link) (state new.link) e.body_error;
+        read_limit = stays_with_itself e.body_error e.read_limit;
         reply = stays_itself e.reply;
-        replied = replied_same e.reply e g refl refl refl;
+        replied = replied_same e.reply e g refl refl refl refl;
         sent_head = stays_itself e.sent_head;
         dated = dated_same now e.sent_head e g refl refl refl refl refl;
         sent_body = stays_itself e.sent_body;

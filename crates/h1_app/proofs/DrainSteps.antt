@@ -1,6 +1,7 @@
 -- The step that drains a request's body, whole.
 use Rattle.std.proofs.Common.{◌≡◌, ℕ, List, [], ◌∷◌, Bool, true, false, inl, IfSome, Some, Result, Ok, Err, sym, ◌∙◌, ap, subst, ◌+◌, ◌≤◌, arith, ◌-◌, ◌<◌, Option, None, option_map, refl}
 use Rattle.h1_app.specs.Words.{Rules, Poll, Ready, Pending, Error, FaultsBy, LinkState, RequestView, keeps_alive, SessionView, Settings, Entry, Exchange, TranscriptView, Stage, Outcome, IsAllowed, replies}
+use Rattle.h1_application.specs.Application.{Runs}
 use Rattle.h1_app.proofs.Words.{ReusesAs, IsDraining, JobFrom, Leaves, MovesWithin, StepReady, Stepped, OutcomeCause, FewReadsNotReady, outcome_end, ahead, CalledForReuse, ShutUnless, StandsDrained, Continues, OthersFew}
 use Rattle.h1_app.proofs.DrainEnds.{at_drain, drain_moves, drain_accounted, drain_allowed, drain_kept, drain_grows, drain_waits, drain_fails, drain_overread, drain_more, drain_shut, draining_on, drain_over}
 use Rattle.h1_app.proofs.DrainLemmas.{Answered, Reused, answered, reused}
@@ -10,6 +11,7 @@ use Rattle.h1_app.proofs.TimelyLemmas.{ends_anyhow}
 use Rattle.h1_app.specs.Timely.{StepsInTime}
 use Rattle.h1_error.specs.declared.progress.End.TheVariants as end
 use Rattle.h1_app.proofs.ReplyLemmas.{at_some}
+use Rattle.h1_app.proofs.BodyTimeLemmas.{body_grown, drain_noted}
 use Rattle.h1_app.proofs.StepLemmas.{grown_stepped}
 use Rattle.h1_server.specs.Calls.{is_reused}
 use Rattle.h1_transfer.specs.Calls.{CallsFew, read_fault_of}
@@ -27,7 +29,7 @@ drain_ahead J old new spent step = rw step (by_budget old)
     by_budget (Some left) = omega arith
 
 module _ {L C J : Type 0} (state : L → LinkState)
-    (runs : J → RequestView → Settings → Settings → List ℕ → Type 0) (now : ℕ)
+    (runs : Runs J) (now : ℕ)
     (x : Exchange L J C) (new : SessionView L C) (to : Stage J) (e f : Entry)
     (answer : Poll (Result Bool Error)) (result : Outcome)
     (ready : StepReady runs now x) (stage : x.stage ≡ at.Drain)
@@ -100,26 +102,32 @@ module _ {L C J : Type 0} (state : L → LinkState)
 
   -- how long it waits
   drained_timely : MovesWithin state x.session new
-      → StepsInTime state now x.stage to x.session new (Some f) result
+      → StepsInTime state now x.stage to x.session new x.transcript.last (Some f) result
   drained_timely moves = by_answer answer (keeps_alive new)
-      (drain_timed state now x.session new e f answer ready.budget reuses) stands
+      (drain_timed state now x.session new e f answer ready.budget times reuses) stands
     where
+      times : f.left.times ≡ x.session.settings.times
+      times = ap (λ (x : Entry). x.left.times) did.entry
+          ∙ ap (λ (s : Settings). s.times) draining.left
+
       drain_at : Stage J
       drain_at = at.Drain
 
       by_answer : (answer : Poll (Result Bool Error)) (alive : Bool)
-          → DrainTimed state now x.session new answer
+          → DrainTimed state now e f x.session new answer
           → StandsDrained answer alive x.stage to result
-          → StepsInTime state now x.stage to x.session new (Some f) result
-      by_answer Pending alive t stands = rw (stands.0, stands.1, stage) (omega arith, t)
+          → StepsInTime state now x.stage to x.session new x.transcript.last (Some f) result
+      by_answer Pending alive t stands = rw (stands.0, stands.1, stage, was) (omega arith, t)
       by_answer (Ready (Err error)) alive t stands =
-          rw (stands.0, stands.1, stage) (omega arith, t f)
+          rw (stands.0, stands.1, stage, was) (omega arith, t)
       by_answer (Ready (Ok true)) alive t stands = rw (stands.0, stands.1) tt
       by_answer (Ready (Ok false)) true t stands = rw (stands.0, stands.1, stage)
-          (ends_anyhow state now drain_at drain_at x.session new (Some f) moves (omega arith)
+          (ends_anyhow state now drain_at drain_at x.session new x.transcript.last (Some f) moves
+          (omega arith)
           end.Overread (λ moved. tt))
       by_answer (Ready (Ok false)) false t stands = rw (stands.0, stands.1, stage)
-          (ends_anyhow state now drain_at drain_at x.session new (Some f) moves (omega arith)
+          (ends_anyhow state now drain_at drain_at x.session new x.transcript.last (Some f) moves
+          (omega arith)
           end.NotKept (λ moved. tt))
 
   -- the rest of the request's body is read
@@ -135,6 +143,10 @@ module _ {L C J : Type 0} (state : L → LinkState)
       (drain_allowed state x.session new e f draining did rules a)
       (drain_kept state x.session new e f draining did)
       (drain_grows state x.session new e f draining did now) drained_few
+      (body_grown now x.session.body.since.read new.body.since.read (state x.session.link)
+      (state new.link) e f (drain_grows state x.session new e f draining did now)
+      (drain_noted state now x.session new e f answer reuses)
+      (ap (λ (x : Entry). x.body_error) did.entry))
       (drained_timely (drain_moves state x.session new e f draining did)) (drained_outcome rules a pends)
 
   -- what continues through the step

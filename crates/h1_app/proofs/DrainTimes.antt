@@ -65,25 +65,24 @@ module _ (link_waited : Type 0) (limits : DrainLimits) (moved : Bool) (old new :
   rest_stopped is =
       ap rest_waits is ∙ ap (λ read. record old { read = read }) (rest_left limits moved old)
 
-abbrev drain_work : {L C : Type 0} → SessionView L C → Work
-drain_work session = drains session.settings.times (rest_waits session.body.since)
+abbrev drain_work : {L C : Type 0} → Entry → SessionView L C → Work
+drain_work e session = drains e.left.times (rest_waits session.body.since)
 
--- how long a step that drains waits, or waited where it ends the connection, whatever its exchange
--- noted
-abbrev pub DrainTimed : {L C : Type 0} → (L → LinkState) → ℕ → SessionView L C → SessionView L C
-    → Poll (Result Bool Error) → Type 0
-DrainTimed state now old new Pending =
-    WaitsInTime now (state old.link) (state new.link) (drain_work old) (drain_work new)
+-- how long a step that drains waits, or waited where it ends the connection
+abbrev pub DrainTimed : {L C : Type 0} → (L → LinkState) → ℕ → Entry → Entry → SessionView L C
+    → SessionView L C → Poll (Result Bool Error) → Type 0
+DrainTimed state now e f old new Pending =
+    WaitsInTime now (state old.link) (state new.link) (drain_work e old) (drain_work f new)
     (new.budget ≡ Some 0)
-DrainTimed state now old new (Ready (Err error)) =
-    (e : Entry)
-    → EndsInTime now (state old.link) (state new.link) (drain_work old) (drain_work new) (Some e)
+DrainTimed state now e f old new (Ready (Err error)) =
+    EndsInTime now (state old.link) (state new.link) (drain_work e old) (drain_work f new) (Some f)
     (end.Failed error)
-DrainTimed state now old new (Ready (Ok reusable)) = Unit {0}
+DrainTimed state now e f old new (Ready (Ok reusable)) = Unit {0}
 
-module _ {L C : Type 0} (state : L → LinkState) (now : ℕ) (old new : SessionView L C) (left : ℕ)
+module _ {L C : Type 0} (state : L → LinkState) (now : ℕ) (e f : Entry) (old new : SessionView L C)
+    (left : ℕ)
     (some : IsSome old.budget) (budget : new.budget ≡ option_map (λ _. left) old.budget)
-    (settings : new.settings ≡ old.settings)
+    (times : f.left.times ≡ old.settings.times)
     (counted : HasMoved (nat_lt left (allowance old.budget)) (state old.link) (state new.link)) where
   abbrev waited : Type 0
   waited = Rose (state old.link).read_waits (state new.link).read_waits
@@ -96,11 +95,11 @@ module _ {L C : Type 0} (state : L → LinkState) (now : ℕ) (old new : Session
       new.body.since
 
   drain_waits : told.waited false ⊎ ((left ≡ 0) × told.stopped)
-      → DrainTimed state now old new Pending
+      → DrainTimed state now e f old new Pending
   drain_waits timed = record {
     moved = nat_lt left (allowance old.budget);
     counted = counted;
-    waits = rw settings (by timed);
+    waits = rw times (by timed);
   } where
     by : told.waited false ⊎ ((left ≡ 0) × told.stopped)
         → DrainWaited waited limits (nat_lt left (allowance old.budget))
@@ -116,13 +115,12 @@ module _ {L C : Type 0} (state : L → LinkState) (now : ℕ) (old new : Session
       rest_stopped waited limits _ old.body.since new.body.since spent.1,
     )
 
-  drain_fails : (error : Error) (e : Entry) → deadlines.FailsInTime told (is_timeout error.kind)
-      → EndsInTime now (state old.link) (state new.link) (drain_work old) (drain_work new) (Some e)
-      (end.Failed error)
-  drain_fails error e timed = record {
+  drain_fails : (error : Error) → deadlines.FailsInTime told (is_timeout error.kind)
+      → DrainTimed state now e f old new (Ready (Err error))
+  drain_fails error timed = record {
     moved = nat_lt left (allowance old.budget);
     counted = counted;
-    ends = rw settings (told_late told
+    ends = rw times (told_late told
         (is_drain_over limits (nat_lt left (allowance old.budget)) (rest_waits old.body.since)
         ≡ true)
         (λ late. let w = rest_waited waited limits _ old.body.since new.body.since true late in
@@ -132,25 +130,25 @@ module _ {L C : Type 0} (state : L → LinkState) (now : ℕ) (old new : Session
   -- the call that drains, by what the call for the link's reuse made of its answer
   drain_told : (behind : SessionView L C) (outcome : Poll (Result (Unit {0}) Error))
       (answer : Poll (Result Bool Error)) → IsTimed told left outcome
-      → ReuseAnswer behind outcome answer → DrainTimed state now old new answer
+      → ReuseAnswer behind outcome answer → DrainTimed state now e f old new answer
   drain_told behind (Ready (Ok done)) answer timed a = rw a.1 tt
-  drain_told behind (Ready (Err error)) answer timed a = rw a.1 (λ e. drain_fails error e timed)
+  drain_told behind (Ready (Err error)) answer timed a = rw a.1 (drain_fails error timed)
   drain_told behind Pending answer timed a = rw a.1 (drain_waits timed)
 
 -- the call for the link's reuse, whatever it answered
 pub drain_timed : {L C : Type 0} (state : L → LinkState) (now : ℕ) (old new : SessionView L C)
     (e f : Entry) (answer : Poll (Result Bool Error)) → IsSome old.budget
-    → ReusesAs state now old new e f answer → DrainTimed state now old new answer
-drain_timed {L} {C} state now old new e f answer some h = by_alive (keeps_alive old) h.reuses where
+    → f.left.times ≡ old.settings.times
+    → ReusesAs state now old new e f answer → DrainTimed state now e f old new answer
+drain_timed {L} {C} state now old new e f answer some times h = by_alive (keeps_alive old) h.reuses where
   by_alive : (alive : Bool) → ReusesBy state now (lent old e.body) h.behind answer alive
-      → DrainTimed state now old new answer
+      → DrainTimed state now e f old new answer
   by_alive false r = rw r.0 tt
   by_alive true r =
       let d : DrainsBody state now (lent old e.body) r.0 r.1 = r.2 in
-      let kept : DrainTimed state now old (taken_from r.0 h.behind.reusable) answer =
-      drain_told state now old (taken_from r.0 h.behind.reusable) d.left some d.budget
-      (ap (λ (s : SessionView L C). s.settings) d.rest)
+      let kept : DrainTimed state now e f old (taken_from r.0 h.behind.reusable) answer =
+      drain_told state now e f old (taken_from r.0 h.behind.reusable) d.left some d.budget times
       (call_moved (state old.link) (state r.0.link) d.reads.received.piece [] (allowance old.budget)
       d.left d.reads.received.moved) h.behind r.1 answer d.timed r.4 in
-      subst (λ (s : SessionView L C). DrainTimed state now old s answer)
+      subst (λ (s : SessionView L C). DrainTimed state now e f old s answer)
       (sym (drained_shape r.0 h.behind new r.3 h.session)) kept

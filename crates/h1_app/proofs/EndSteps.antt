@@ -2,6 +2,7 @@
 use Rattle.std.proofs.Common.{Bool, Err, IfNone, IfSome, List, None, Ok, Option, Result, Some, ap, arith, false, inl, inr, refl, subst, sym, ℕ, ◌∙◌, ◌≡◌, ◌⊎◌}
 use Rattle.std.proofs.lemmas.Bool.{false≢true}
 use Rattle.h1_app.specs.Words.{Rules, EndCall, Entry, Error, ErrorType, Exchange, IsAllowed, LinkState, Outcome, Pending, Poll, Ready, RequestView, Settings, Stage, stage_of}
+use Rattle.h1_application.specs.Application.{Runs}
 use Rattle.h1_app.specs.Timely.{FailsInTime, StepsInTime}
 use Rattle.h1_app.specs.Work.{rest_waits}
 use Rattle.h1_error.specs.declared.error.ErrorType.TheVariants as kind
@@ -67,7 +68,7 @@ undrained_rest since none = rw none refl
 -- the end of the reply is written
 pub finish_stepped : {L C J : Type 0} (state : L → LinkState) (pends : J → ℕ)
     (rules : Rules)
-    (runs : J → RequestView → Settings → Settings → List ℕ → Type 0)
+    (runs : Runs J)
     (now : ℕ) (shutdown : Bool) (x y : Exchange L J C)
     (answer : Poll (Result (Option ℕ) Error)) (written : ℕ) (result : Outcome)
     → AllowedReady rules runs now x → SoundStage runs x.session x.transcript.last at.Finish
@@ -99,7 +100,7 @@ finish_stepped {L} {C} {J} state pends rules runs now shutdown x y answer writte
         → y.transcript.last ≡ Some (record e { written = written })
         → (h : AtFinish e x.session) → Ending state x.session y.session e h.sent answer
         → (MovesWithin state x.session y.session → StepsInTime state now x.stage y.stage x.session
-        y.session (Some (record e { written = written })) result)
+        y.session x.transcript.last (Some (record e { written = written })) result)
         → OutcomeCause state pends runs x.session y.session (Some (record e { written = written }))
         x.stage y.stage result
         → Stepped state pends rules runs now shutdown x y result
@@ -142,12 +143,12 @@ finish_stepped {L} {C} {J} state pends rules runs now shutdown x y answer writte
         → Ending state x.session y.session e h.sent answer
         → MovesWithin state x.session y.session
         → (error : Option Error) → e.body_error ≡ error → StandsWhole error x.stage y.stage result
-        → StepsInTime state now x.stage y.stage x.session y.session
+        → StepsInTime state now x.stage y.stage x.session y.session x.transcript.last
         (Some (record e { owed = false; written = written })) result
     in_time e h w moves None none stands = rw (stands.0, stands.1) (undrained_rest
         y.session.body.since (rw (ap (λ s. s.body) w.writes.rest) h.replied.asked.undrained))
     in_time e h w moves (Some error) some stands = rw (stands.0, stands.1, stage)
-        (ends_anyhow state now at_finish at_finish x.session y.session
+        (ends_anyhow state now at_finish at_finish x.session y.session x.transcript.last
         (Some (record e { owed = false; written = written })) moves (omega arith)
         (end.Failed error)
         (λ moved. where_late (e.body_error ≡ Some error) error.kind some))
@@ -170,13 +171,13 @@ finish_stepped {L} {C} {J} state pends rules runs now shutdown x y answer writte
         → Stepped state pends rules runs now shutdown x y result
     by_answer e was h w Pending told stands = owed e was stands.0 h w
         (λ moves. rw (stands.1, stands.2, stage)
-        (untimed_waits state now at_finish at_finish x.session y.session
+        (untimed_waits state now at_finish at_finish x.session y.session x.transcript.last
         (Some (record e { written = written })) moves (omega arith) waiting.Write refl))
         (rw (stands.1, stands.2, stage)
         (finish_waits state x.session y.session e answer written h w count runs told ready.budget))
     by_answer e was h w (Ready (Err error)) told stands = owed e was stands.0 h w
         (λ moves. rw (stands.1, stands.2, stage)
-        (ends_anyhow state now at_finish at_finish x.session y.session
+        (ends_anyhow state now at_finish at_finish x.session y.session x.transcript.last
         (Some (record e { written = written })) moves (omega arith)
         (end.Failed (failure_of e.body_error error))
         (λ moved. failure_timed e.body_error error (end_untimed e h w error told)

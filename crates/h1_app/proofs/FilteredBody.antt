@@ -5,6 +5,7 @@ use Rattle.h1_modules.specs.Filters.{run}
 use Rattle.h1_modules.specs.Outcome.{ErrsBy, Outcome as Made, Piece, refused_by}
 use Rattle.h1_transcript.specs.Refusals.{IsReplyRefusedBy}
 use Rattle.h1_app.specs.Words.{End, Entry, Error, Exchange, Filters, Given, LinkState, Outcome, Reply, RequestView, ResponseView, Settings, no_memory}
+use Rattle.h1_application.specs.Application.{Runs}
 use Rattle.h1_app.proofs.RefusedSteps.{erred_by}
 use Rattle.h1_app.proofs.ReplyLemmas.{at_some}
 use Rattle.h1_app.proofs.Words.{Chain, FilterReady, IsPieceOf, ModulesStand, NotesBody, SoundStage, Stepped, SteppedWith, behind_header, bytes_of, filters_of, going, outcome_end, rules_with}
@@ -51,7 +52,7 @@ plain_body filter modules (Some reply) body piece e f none is goes notes = (
 -- what a step leaves that notes it: no filter of the exchange runs any more
 pub noted_with : {L C J M : Type 0} {state : L → LinkState} {pends : J → ℕ}
     {gives : Given → Reply → Type 0}
-    {runs : J → RequestView → Settings → Settings → List ℕ → Type 0} {chain : Chain M} {now : ℕ}
+    {runs : Runs J} {chain : Chain M} {now : ℕ}
     {shutdown : Bool} {modules : List M} {x y : Exchange L J C} {result : Outcome} (e f : Entry)
     (bytes : List ℕ) (written : ℕ)
     → Stepped state pends (rules_with gives chain) runs now shutdown x y result
@@ -78,7 +79,7 @@ filtered_body : {M : Type 0} (chain : Chain M) (e : Entry) (reply : Reply) (head
 filtered_body chain e reply header modules stands = rw stands refl
 
 module _ {L C J M : Type 0} {gives : Given → Reply → Type 0}
-    {runs : J → RequestView → Settings → Settings → List ℕ → Type 0} {chain : Chain M} {now : ℕ}
+    {runs : Runs J} {chain : Chain M} {now : ℕ}
     {modules : List M} {x : Exchange L J C} (ready : FilterReady gives runs chain now modules x)
     (h : SoundStage runs x.session x.transcript.last at.TakeBody) where
   stands : behind_header chain h.0.head h.3 ≡ Ok (modules, h.4.header)

@@ -2,6 +2,7 @@
 use Rattle.std.proofs.Common.{Bool, Err, IfNone, IfSome, IsSome, List, None, Ok, Option, Result, Some, [], ap, append-nil, arith, false, inl, inr, not, refl, subst, sym, true, ℕ, ◌++◌, ◌+◌, ◌<◌, ◌^◌, ◌∙◌, ◌≡◌, ◌⊎◌}
 use Rattle.std.proofs.lemmas.Bool.{false≢true}
 use Rattle.h1_app.specs.Words.{Chunked, Counted, EndCall, Entry, Error, ErrorType, EndCause, FailureCause, FlushedBy, Framing, IsComplete, IsRefused, IsWrittenShort, LinkState, Outgoing, Pending, Poll, Ready, Reply, Request, RequestView, ResponseView, Rose, RoseBy, SessionView, Settings, Step, UntilClose, WriterView, Writes, after_piece, allowance, begun, end_bytes, is_replied, out, stage_of, written_of}
+use Rattle.h1_application.specs.Application.{Runs}
 use Rattle.h1_server.specs.Writes.{EndsShort, WritesEnd}
 use Rattle.h1_transfer.specs.EndWrites.{EndAnswer, end_stage, goes_on, starts}
 use Rattle.h1_transfer.specs.ReplyFraming.{is_begun}
@@ -230,7 +231,7 @@ module _ {L C : Type 0} (state : L → LinkState) (old new : SessionView L C) (e
 
   -- the end waits
   pub finish_waits : {J : Type 0}
-      (runs : J → RequestView → Settings → Settings → List ℕ → Type 0)
+      (runs : Runs J)
       → outcome ≡ Pending → IsSome old.budget
       → SoundStage runs new (Some (record e { written = written })) at.Finish
       × ((Rose (state old.link).write_waits (state new.link).write_waits ⊎ (new.budget ≡ Some 0))

@@ -20,6 +20,7 @@ use Rattle.h1_application.proofs.ReadLemmas.{budget_on, within_on}
 use Rattle.h1_transcript.specs.Ends.{StopsLast}
 use Rattle.h1_transcript.proofs.AloneLemmas.{join_none, join_on}
 use Rattle.h1_transcript.proofs.GrowthLemmas.{extends_itself, extends_on, replies_grow}
+use Rattle.h1_app.proofs.BodyTimeLemmas.{body_itself, body_on}
 use Rattle.h1_app.proofs.ReplyLemmas.{moves_none}
 
 pub moves_on : {L C : Type 0} (state : L → LinkState) (a b c : SessionView L C) → MovesWithin state a b
@@ -52,6 +53,7 @@ turned_stays state same_plan now shutdown at end stop plan more leaves = record 
     extends = extends_itself now shutdown (state at.session.link) (state at.session.link)
         (entries at);
     longer = omega arith;
+    body = body_itself now at.session.body.since.read at.last;
   };
   reads_not_ready = omega arith;
   others = omega (arith, more);
@@ -76,6 +78,8 @@ gone_on {state = state} {now = now} {shutdown = shutdown} a b c on x y = record 
       (state c.session.link) x.moves.moved.later y.moves.moved.later
       (entries a) (entries b) (entries c) x.extends y.extends;
   longer = omega (arith, x.longer, y.longer);
+  body = body_on now a.session.body.since.read b.session.body.since.read c.session.body.since.read
+      a.last b.last c.last x.body y.body;
 }
 
 -- steps that go on, and one more

@@ -1,6 +1,10 @@
 -- Steps that read a head.
-use Rattle.std.proofs.Common.{◌≡◌, ◌⊎◌, ℕ, ◌+◌, ◌≤◌, inl, inr, List, [], Bool, true, Option, Some, None, IfNone, IsSome, Result, Ok, Err, refl, sym, ◌∙◌, ap, subst, arith}
+use Rattle.std.proofs.Common.{◌≡◌, ◌⊎◌, ℕ, ◌+◌, ◌≤◌, nat_lt, inl, inr, List, [], Bool, true, Option, Some, None, IfNone, IsSome, Result, Ok, Err, refl, sym, ◌∙◌, ap, subst, arith}
+use Rattle.h1_server.specs.Times.{head_limit}
+use Rattle.h1_app.specs.BodyTimes.{IsNotedIn}
+use Rattle.h1_app.proofs.BodyTimeLemmas.{body_none, head_noted}
 use Rattle.h1_app.specs.Words.{End, Given, Poll, Ready, Pending, Error, LinkState, Rose, RequestView, SessionView, BodyState, allowance, Settings, Reply, Entry, Exchange, Outcome, Stage, AfterRead, EndCause, IfTold, IsSetAlike}
+use Rattle.h1_application.specs.Application.{Runs}
 use Rattle.h1_error.specs.declared.progress.Waiting.TheVariants as waiting
 use Rattle.h1_error.specs.declared.progress.End.TheVariants as end
 use Rattle.h1_server.specs.Requests.{ReadsRequest, HeadAnswer, BeginsNone}
@@ -23,6 +27,15 @@ pub record AtHead {L C : Type 0} (state : L → LinkState) (now : ℕ) (old new 
   pub awaiting : IsAwaiting old
   pub reads : ReadsRequest state now old new answer
 
+-- since when it waits
+pub read_noted : {L C : Type 0} (state : L → LinkState) (now : ℕ) (old new : SessionView L C)
+    (last : Option Entry) (answer : Poll (Result ReadRequest Error))
+    → AtHead state now old new last answer → IsNotedIn now old.body.since.read new.body.since.read
+read_noted state now old new last answer h =
+    head_noted now (head_limit old.settings) (Rose (state old.link).read_waits (state new.link).read_waits)
+    (nat_lt h.reads.left (allowance old.budget)) old.body.since.read new.body.since.read h.reads.left
+    answer h.reads.timed
+
 -- what is set is no matter to a session that awaits a head
 awaits_set : {L C : Type 0} (old : SessionView L C) (settings : Settings) → IsSetAlike old.settings settings
     → IsAwaiting old → IsAwaiting (record old { settings = settings })
@@ -35,11 +48,12 @@ awaits_set old settings alike a = record {
   waits = a.waits;
   undrained = a.undrained;
   times = alike.times ∙ a.times;
+  read_limit = a.read_limit;
 }
 
 -- where these settings were set before the call
 pub at_head : {L C J : Type 0} (state : L → LinkState)
-    (runs : J → RequestView → Settings → Settings → List ℕ → Type 0) (now : ℕ) (old new : SessionView L C)
+    (runs : Runs J) (now : ℕ) (old new : SessionView L C)
     (settings : Settings) (last : Option Entry) (from : Stage J) (answer : Poll (Result ReadRequest Error))
     → IsSetAlike old.settings settings → SoundStage runs old last from → from ≡ stage.Head
     → IfNone old.refused (ReadsRequest state now (record old { settings = settings }) new answer)
@@ -69,6 +83,7 @@ still_awaits state old new last answer h none kept =
       waits = ap (λ (b : BodyState). b.waits) none.body ∙ a.waits;
       undrained = ap (λ (b : BodyState). b.since.drain) none.body ∙ a.undrained;
       times = ap (λ (s : Settings). s.times) none.settings ∙ a.times;
+      read_limit = ap (λ s. s.read_limit) h.reads.rest ∙ a.read_limit;
     }
 
 -- the bytes that were given after the exchanges that ended, where no head was read
@@ -82,7 +97,7 @@ none_told state old new bytes before done none s =
 
 -- what a pending read of a head waits for
 pub head_waits : {L C J : Type 0} {now : ℕ} (state : L → LinkState) (pends : J → ℕ)
-    (runs : J → RequestView → Settings → Settings → List ℕ → Type 0) (old new : SessionView L C)
+    (runs : Runs J) (old new : SessionView L C)
     (last : Option Entry) (from : Stage J) → IsSome old.budget → from ≡ stage.Head
     → (h : AtHead state now old new last Pending)
     → OutcomeCause state pends runs old new None from from (outcome.Waits waiting.Read)
@@ -155,13 +170,13 @@ none_few state old new last answer h = let few = h.reads.few in omega (arith, fe
 -- a step that begins no exchange, whole
 pub none_stepped : {L C J M : Type 0} (state : L → LinkState) (pends : J → ℕ)
     (gives : Given → Reply → Type 0)
-    (runs : J → RequestView → Settings → Settings → List ℕ → Type 0) (chain : Chain M)
+    (runs : Runs J) (chain : Chain M)
     (now : ℕ) (shutdown : Bool) (modules : List M) (x y : Exchange L J C)
     (answer : Poll (Result ReadRequest Error)) (result : Outcome)
     → (h : AtHead state now x.session y.session x.transcript.last answer)
     → BeginsNone x.session y.session h.reads.bytes → y.transcript.last ≡ x.transcript.last
     → FewReadsNotReady (state x.session.link) (state y.session.link) [] [] result
-    → StepsInTime state now x.stage y.stage x.session y.session None result
+    → StepsInTime state now x.stage y.stage x.session y.session None None result
     → OutcomeCause state pends runs x.session y.session None x.stage y.stage result
     → SteppedWith state pends gives runs chain now shutdown modules x y result
 none_stepped state pends gives runs chain now shutdown modules x y answer result h none same few
@@ -181,6 +196,8 @@ none_stepped state pends gives runs chain now shutdown modules x y answer result
       begins_with = rw (same, h.alone, none.settings)
           (record { closing = refl; pipelining = refl; reuses = refl; times = refl });
       reads_not_ready = rw (same, h.alone) few;
+      body = rw (same, h.alone) (body_none now x.session.body.since.read y.session.body.since.read
+          (read_noted state now x.session y.session x.transcript.last answer h));
       timely = rw (same, h.alone) timely;
       outcome = rw (same, h.alone) (inl outcome);
     } in

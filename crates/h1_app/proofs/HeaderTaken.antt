@@ -159,6 +159,7 @@ module _ {L C : Type 0} (state : L → LinkState) (now : ℕ) (old new : Session
     handed = a.handed;
     reuses = a.reuses;
     owed = λ owed. refl;
+    limit = a.limit;
   }
 
   -- the header is noted where no write was refused

@@ -7,6 +7,7 @@ pub mod StartLemmas
 pub mod SetLemmas
 pub mod TimelyLemmas
 pub mod BodyReplies
+pub mod BodyTimeLemmas
 pub mod BodySteps
 pub mod FilteredBody
 pub mod DrainEnds

@@ -1,6 +1,7 @@
 -- A step in which no filter of the exchange runs leaves its modules as they stand.
 use Rattle.std.proofs.Common.{◌≡◌, ◌<◌, ◌⊎◌, inl, inr, ℕ, List, Bool, Option, Some, None, IsSome}
 use Rattle.h1_app.specs.Words.{Entry, Exchange, Given, LinkState, Outcome, Reply, RequestView, ResponseView, Settings, YEAR_10000}
+use Rattle.h1_application.specs.Application.{Runs}
 use Rattle.h1_app.specs.Filtering.{StandBehindHeader, StandBehindRequest, StandIn}
 use Rattle.h1_app.proofs.Words.{Chain, FilterReady, FiltersStay, ModulesStand, SoundWith, SteppedBy, SteppedWith, filters_of, outcome_end}
 use Rattle.h1_app.proofs.LeavesLemmas.{given_none}
@@ -40,7 +41,7 @@ modules_stand chain (Some old) (Some new) modules same h =
 -- such a step leaves what one with these modules does
 pub stepped_with : {L C J M : Type 0} (state : L → LinkState) (pends : J → ℕ)
     (gives : Given → Reply → Type 0)
-    (runs : J → RequestView → Settings → Settings → List ℕ → Type 0) (chain : Chain M) (now : ℕ)
+    (runs : Runs J) (chain : Chain M) (now : ℕ)
     (shutdown : Bool) (modules : List M) (x y : Exchange L J C) (result : Outcome)
     → FilterReady gives runs chain now modules x → SteppedBy state pends gives runs now x y result
     → FiltersStay x.transcript.last y.transcript.last
@@ -53,7 +54,7 @@ stepped_with state pends gives runs chain now shutdown modules x y result ready 
 
 -- a sound connection that goes on is ready for a step
 pub ready_with : {L C J M : Type 0} (gives : Given → Reply → Type 0)
-    (runs : J → RequestView → Settings → Settings → List ℕ → Type 0) (chain : Chain M) (limit : Option ℕ)
+    (runs : Runs J) (chain : Chain M) (limit : Option ℕ)
     (now : ℕ) (modules : List M) (x : Exchange L J C) → SoundWith gives runs chain limit x modules None
     → IsSome x.session.budget → now < YEAR_10000 → FilterReady gives runs chain now modules x
 ready_with gives runs chain limit now modules x s budget moment = record {

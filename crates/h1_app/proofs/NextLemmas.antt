@@ -2,8 +2,10 @@
 use Rattle.std.proofs.Common.{◌≡◌, ℕ, ◌+◌, ◌<◌, List, [], ◌∷◌, ◌++◌, length, Bool, true, false, Option, Some, None, refl, sym, ◌∙◌, ap, subst, append-nil, length-append, arith}
 use Rattle.std.proofs.lemmas.Bool.{false≢true}
 use Rattle.h1_app.specs.Words.{Filters, Given, Rules, End, LinkState, RequestView, AwaitsNext, AfterRead, WithinRead, may_follow, one_less, BodyState, SessionView, Settings, Reply, Entry, Exchange, Stage, AreBegun, IfTold, IsNextSet, reuses_at, IsAllowed, Extends}
+use Rattle.h1_application.specs.Application.{Runs}
 use Rattle.h1_app.specs.declared.exchange.Stage.TheVariants as stage
 use Rattle.h1_app.specs.declared.exchange.Outcome.TheVariants as outcome
+use Rattle.h1_app.proofs.BodyTimeLemmas.{body_joined}
 use Rattle.h1_app.proofs.Words.{Accounted, LastMayGoOn, JoinsNext, ReadSo, Turned, TurnCause, IsDoneIn, IsRestarted, Chain, Sound, SoundStage, SoundWith, rules_with, IsDraining, MayGoOn, IsUnwritten, View, view_of, ahead}
 use Rattle.h1_app.specs.Timely.{StepsInTime}
 use Rattle.h1_app.proofs.LeavesLemmas.{leaves_itself, never_noted}
@@ -66,7 +68,7 @@ next_set limit old new done e d a reuses begun =
 
 -- the next head is awaited, and the connection is sound
 sound_joined : {L C J : Type 0} (rules : Rules)
-    (runs : J → RequestView → Settings → Settings → List ℕ → Type 0) (limit : Option ℕ)
+    (runs : Runs J) (limit : Option ℕ)
     (old new : SessionView L C) (done : List Entry) (e : Entry)
     → Sound rules runs limit old done (Some e) stage.Next None
     → IsDraining e old → AwaitsNext old new
@@ -88,6 +90,7 @@ sound_joined rules runs limit old new done e s d a = record {
       waits = ap (λ b. b.waits) a.body.rest;
       undrained = ap (λ (b : BodyState). b.since.drain) a.body.rest;
       times = ap (λ s. s.settings.times) a.rest;
+      read_limit = ap (λ s. s.read_limit) a.rest;
     },
   );
   next = next_set limit old new done e d a s.allowed.reuses s.begun;
@@ -160,6 +163,8 @@ turned_joined state same_plan now shutdown from new e plan d o a =
             all xs) (sym (append-nil all))
             (extends_itself now shutdown (state from.session.link) (state new.link) all);
         longer = omega (arith, length-append from.done (e ∷ []));
+        body = body_joined now from.session.body.since.read new.body.since.read e
+            (ap (λ (b : BodyState). b.since.read) a.body.rest) d.unrefused;
       };
       reads_not_ready = rw (again.link, append-nil all) (omega arith);
       others = rw again.link (omega (arith, length-append from.done (e ∷ [])));
@@ -171,7 +176,7 @@ turned_joined state same_plan now shutdown from new e plan d o a =
 
 -- the last exchange is over where the next one begins
 pub over_next : {L C J : Type 0} (rules : Rules)
-    (runs : J → RequestView → Settings → Settings → List ℕ → Type 0) (limit : Option ℕ)
+    (runs : Runs J) (limit : Option ℕ)
     (session : SessionView L C) (done : List Entry) (last : Option Entry) (at : Stage J)
     → Sound rules runs limit session done last at None → at ≡ stage.Next → LastMayGoOn session last
 over_next rules runs limit session done last at sound is = over_at sound.stage where
@@ -179,7 +184,7 @@ over_next rules runs limit session done last at sound is = over_at sound.stage w
   over_at h = rw is at h
 
 sound_next : {L C J : Type 0} (rules : Rules)
-    (runs : J → RequestView → Settings → Settings → List ℕ → Type 0) (limit : Option ℕ)
+    (runs : Runs J) (limit : Option ℕ)
     (x y : Exchange L J C)
     → Sound rules runs limit x.session x.transcript.done x.transcript.last x.stage None
     → x.stage ≡ stage.Next → JoinsNext x y
@@ -191,7 +196,7 @@ sound_next rules runs limit x y s is h =
 
 -- where no exchange is last, any modules may stand
 pub sound_next_with : {L C J M : Type 0} (gives : Given → Reply → Type 0)
-    (runs : J → RequestView → Settings → Settings → List ℕ → Type 0) (chain : Chain M) (limit : Option ℕ)
+    (runs : Runs J) (chain : Chain M) (limit : Option ℕ)
     (x y : Exchange L J C) (modules : List M) → SoundWith gives runs chain limit x modules None
     → x.stage ≡ stage.Next → JoinsNext x y → SoundWith gives runs chain limit y modules None
 sound_next_with gives runs chain limit x y modules s is h = record {
@@ -227,5 +232,6 @@ caused_next {J = J} filters state begins pends served limit x y first second ove
 
 -- behind the step to the next exchange no read waits
 pub timely_next : {L C J : Type 0} (state : L → LinkState) (now : ℕ) (x y : Exchange L J C) → JoinsNext x y
-    → StepsInTime state now x.stage y.stage x.session y.session y.transcript.last outcome.Done
+    → StepsInTime state now x.stage y.stage x.session y.session x.transcript.last
+    y.transcript.last outcome.Done
 timely_next state now x y joins = rw joins.stage (ap (λ (b : BodyState). b.since.read) joins.awaits.body.rest)

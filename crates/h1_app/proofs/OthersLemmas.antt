@@ -1,6 +1,7 @@
 -- How many link calls of a connection moved no byte.
 use Rattle.std.proofs.Common.{◌≡◌, ℕ, ◌+◌, ◌*◌, ◌≤◌, List, length, Bool, false, Option, Some, None, option_to_list, refl, sym, ◌∙◌, ap, length-append, arith}
 use Rattle.h1_app.specs.Words.{LinkState, RequestView, SessionView, Settings, Entry, Stage, Outcome, ExtendsLast}
+use Rattle.h1_application.specs.Application.{Runs}
 use Rattle.h1_app.specs.declared.exchange.Stage.TheVariants as stage
 use Rattle.h1_app.specs.declared.exchange.Outcome.TheVariants as outcome
 use Rattle.h1_app.proofs.Words.{SoundStage, View, still, still_calls, stops, OthersFew}
@@ -11,14 +12,14 @@ still_most _ = omega arith
 
 -- where no exchange has begun, the head is awaited
 pub awaits_head : {L C J : Type 0}
-    (runs : J → RequestView → Settings → Settings → List ℕ → Type 0) (session : SessionView L C)
+    (runs : Runs J) (session : SessionView L C)
     (last : Option Entry) (at : Stage J) → SoundStage runs session last at → last ≡ None
     → at ≡ stage.Head
 awaits_head runs session last stage.Head h none = refl
 awaits_head runs session last _ h none = let clash = sym none ∙ h.1 in cc
 
 -- the calls of the stages that are over are those of the exchange that is last
-pub still_last : {L C J : Type 0} (runs : J → RequestView → Settings → Settings → List ℕ → Type 0)
+pub still_last : {L C J : Type 0} (runs : Runs J)
     (session : SessionView L C) (now : ℕ) (shutdown : Bool) (first second : LinkState)
     (last behind : Option Entry) (at : Stage J) → SoundStage runs session last at
     → ExtendsLast now shutdown first second last behind

@@ -3,7 +3,7 @@ use Rattle.std.proofs.Common.{Bool, IfSome, List, None, Option, Some, [], ap, ap
 use Rattle.h1_app.specs.Words.{BodyState, Entry, Failed, Grows, How, LinkState, Moved, Open, Reply, Request, ResponseView, RoseBy, SessionView, Stays, Whole, Writes, allowance, render, written_of}
 use Rattle.h1_link.proofs.Laters.{later_on}
 use Rattle.h1_transcript.proofs.BehindLemmas.{flushed_on, read_same, wrote_on}
-use Rattle.h1_transcript.proofs.GrowthLemmas.{dated_same, refused_same, replied_same, stays_itself}
+use Rattle.h1_transcript.proofs.GrowthLemmas.{dated_same, refused_same, replied_same, stays_itself, stays_with_itself}
 use Rattle.h1_transcript.specs.Growth.{DatedAt}
 use Rattle.h1_app.proofs.AccountedLemmas.{stopped_on}
 use Rattle.h1_app.proofs.Words.{Accounted, IsReplied, ReadSo, SettledSo, StoodSo, WroteSo, coming}
@@ -162,8 +162,9 @@ part_grows state now old new taking left e p w = record {
   handed = omega arith;
   body_error = stays_itself e.body_error;
   refused = refused_same (state old.link) (state new.link) e.body_error;
+  read_limit = stays_with_itself e.body_error e.read_limit;
   reply = stays_itself e.reply;
-  replied = replied_same e.reply e _ refl refl refl;
+  replied = replied_same e.reply e _ refl refl refl refl;
   sent_head = w.head;
   dated = w.dated;
   sent_body = w.body;
@@ -188,6 +189,7 @@ part_replied state now old new taking left e p request reply w r =
         wish = r.asked.wish;
         reuses = rw (ap (λ s. s.settings) rest) r.asked.reuses;
         body_error = rw (ap (λ s. s.body) rest) r.asked.body_error;
+        read_limit = r.asked.read_limit ∙ sym (ap (λ s. s.read_limit) rest);
         handed = r.asked.handed;
         kept = rw (ap (λ s. s.body) rest) r.asked.kept;
         waits = rw (ap (λ s. s.body) rest) r.asked.waits;

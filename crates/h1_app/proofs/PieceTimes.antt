@@ -24,20 +24,20 @@ refused_untimed before now new at error _ refused = absurd refused
 
 -- a header has no limit
 pub header_in_time : {L C J : Type 0} (state : L → LinkState) (now : ℕ) (from to : Stage J)
-    (old new : SessionView L C) (last : Option Entry) (left : ℕ)
+    (old new : SessionView L C) (first : Option Entry) (last : Entry) (left : ℕ)
     (answer : Poll (Result (Unit {0}) Error)) (result : Outcome) → MovesWithin state old new
     → rank {J = J} stage.Header ≤ rank from
     → HeaderAnswer (state old.link) (state new.link) new.reply left answer
     → StandsAfter answer stage.Header stage.TakeBody from to result
-    → StepsInTime state now from to old new last result
-header_in_time state now from to old new last left Pending result moves on told stands =
+    → StepsInTime state now from to old new first (Some last) result
+header_in_time state now from to old new first last left Pending result moves on told stands =
     rw (stands.0, stands.1)
-    (untimed_waits state now from stage.Header old new last moves on waiting.Write refl)
-header_in_time state now from to old new last left (Ready (Ok done)) result moves on told stands =
+    (untimed_waits state now from stage.Header old new first (Some last) moves on waiting.Write refl)
+header_in_time state now from to old new first last left (Ready (Ok done)) result moves on told stands =
     rw (stands.0, stands.1) refl
-header_in_time state now from to old new last left (Ready (Err error)) result moves on told stands =
-    rw (stands.0, stands.1) (fails_anyhow state now from from old new last moves (omega arith) error
-    (refused_untimed (state old.link) (state new.link) new.reply step.Head error error.kind told.0))
+header_in_time state now from to old new first last left (Ready (Err error)) result moves on told stands =
+    rw (stands.0, stands.1) (fails_anyhow state now from from old new first (Some last) moves
+    (omega arith) error (refused_untimed (state old.link) (state new.link) new.reply step.Head error error.kind told.0))
 
 -- the length of the piece is noted
 piece_handed : (old new : Outgoing) (taking : List ℕ) (piece : Option (List ℕ))
@@ -47,7 +47,8 @@ piece_handed old new taking (Some piece) takes = takes.3
 
 module _ {L C : Type 0} (state : L → LinkState) (now : ℕ) (old new : SessionView L C)
     (piece kept : Option (List ℕ)) (answer : Poll (Result (Option ℕ) Error))
-    (w : WritesPiece state now old new piece kept answer) (some : IsSome old.budget) where
+    (w : WritesPiece state now old new piece kept answer) (some : IsSome old.budget) (last : Entry)
+    (times : last.left.times ≡ old.settings.times) where
   abbrev moved : Bool
   moved = nat_lt w.left (allowance old.budget)
 
@@ -57,16 +58,15 @@ module _ {L C : Type 0} (state : L → LinkState) (now : ℕ) (old new : Session
 
   -- the wait of a piece that goes on since this moment
   abbrev waits_since : Option ℕ → Wait
-  waits_since since = wait_at now (handed_limit new.settings.times new.reply) moved since
+  waits_since since = wait_at now (handed_limit last.left.times new.reply) moved since
 
   abbrev noted : Option ℕ → Noted
   noted since = noted_since (Rose (state old.link).write_waits (state new.link).write_waits)
       (waits_since since) new.reply.write_since
 
-  limit_same : handed_limit new.settings.times new.reply
+  limit_same : handed_limit last.left.times new.reply
       ≡ piece_limit old.settings.times (piece_len old.reply piece)
-  limit_same =
-      ap (λ (s : SessionView L C). piece_limit s.settings.times new.reply.handed) w.writes.rest
+  limit_same = ap (λ t. piece_limit t new.reply.handed) times
       ∙ ap (λ len. piece_limit old.settings.times len)
       (piece_handed old.reply new.reply w.taking piece w.takes)
 
@@ -77,18 +77,18 @@ module _ {L C : Type 0} (state : L → LinkState) (now : ℕ) (old new : Session
       (sym limit_same) w.timed
 
   -- a piece waits for its limit, which its work before may have begun to
-  pub piece_in_time : {J : Type 0} (from to : Stage J) (last : Entry) (result : Outcome)
-      → piece_since (work_at from old) ≡ old.reply.write_since
+  pub piece_in_time : {J : Type 0} (from to : Stage J) (first : Option Entry) (result : Outcome)
+      → piece_since (work_at from first old) ≡ old.reply.write_since
       → (since : Option ℕ)
-      → work_at from new ≡ writes_piece (handed_limit new.settings.times new.reply) since
+      → work_at from (Some last) new ≡ writes_piece (handed_limit last.left.times new.reply) since
       → rank {J = J} stage.Body ≤ rank from
       → StandsAfter answer stage.Body stage.Finish from to result
-      → StepsInTime state now from to old new (Some last) result
-  piece_in_time from to last result began since works on stands = by answer told stands where
+      → StepsInTime state now from to old new first (Some last) result
+  piece_in_time from to first result began since works on stands = by answer told stands where
     by : (answer : Poll (Result (Option ℕ) Error))
         → IsTimed (noted old.reply.write_since) w.left answer
         → StandsAfter answer stage.Body stage.Finish from to result
-        → StepsInTime state now from to old new (Some last) result
+        → StepsInTime state now from to old new first (Some last) result
     by Pending timed stands = rw (stands.0, stands.1) (
       on,
       record {
@@ -106,8 +106,8 @@ module _ {L C : Type 0} (state : L → LinkState) (now : ℕ) (old new : Session
       record {
         moved = moved;
         counted = counted;
-        ends = subst (λ work. FailsInTime (IsLate now moved (work_at from old) work (Some last)
-            error) error.kind) (sym works)
+        ends = subst (λ work. FailsInTime (IsLate now moved (work_at from first old) work
+            (Some last) error) error.kind) (sym works)
             (subst (λ since. FailsInTime (is_over (waits_since since) ≡ true) error.kind)
             (sym began) (told_late (noted old.reply.write_since)
             (is_over (waits_since old.reply.write_since) ≡ true) (λ waited. waited.judged)

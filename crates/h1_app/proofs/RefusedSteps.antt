@@ -4,6 +4,7 @@ use Rattle.h1_modules.specs.Outcome.{ErrsBy, refused_by}
 use Rattle.h1_transcript.specs.Refusals.{IsReplyRefusedBy}
 use Rattle.h1_transfer.specs.Deadline.{is_timeout}
 use Rattle.h1_app.specs.Words.{Entry, Error, Exchange, LinkState, Outcome, Reply, RequestView, Rules, Settings, no_memory}
+use Rattle.h1_application.specs.Application.{Runs}
 use Rattle.h1_app.proofs.StepLemmas.{AllowedReady, kept_stepped}
 use Rattle.h1_app.proofs.TimelyLemmas.{fails_anyhow}
 use Rattle.h1_app.proofs.Words.{OutcomeCause, StepRefuses, Stepped}
@@ -19,7 +20,7 @@ erred_by (Err n) error (inr memory) = inr memory
 
 -- the connection ends with the refusal, and the exchange stays as it is
 pub refused_stepped : {L C J : Type 0} (state : L → LinkState) (pends : J → ℕ) (rules : Rules)
-    (runs : J → RequestView → Settings → Settings → List ℕ → Type 0) (now : ℕ) (shutdown : Bool)
+    (runs : Runs J) (now : ℕ) (shutdown : Bool)
     (x y : Exchange L J C) (result : Outcome) → AllowedReady rules runs now x → (e : Entry)
     → x.transcript.last ≡ Some e → y.transcript.last ≡ Some e → y.session ≡ x.session
     → y.stage ≡ x.stage → (reply : Reply) → e.reply ≡ Some reply → e.sent_body ≡ None
@@ -31,8 +32,8 @@ pub refused_stepped : {L C J : Type 0} (state : L → LinkState) (pends : J → 
 refused_stepped state pends rules runs now shutdown x y result ready e was is same stays
     reply replied unsent unowed error ends why =
     kept_stepped state pends rules runs now shutdown x y e result ready was is same
-    (λ moves. rw (ends, stays) (fails_anyhow state now x.stage x.stage x.session y.session (Some e)
-    moves (omega arith) error (untimed why)))
+    (λ moves. rw (ends, stays) (fails_anyhow state now x.stage x.stage x.session y.session
+    x.transcript.last (Some e) moves (omega arith) error (untimed why)))
     (rw ends (caused why))
   where
     Why : Type 0

@@ -3,6 +3,7 @@ use Rattle.std.proofs.Common.{◌⊎◌, inl, inr, Bool, Err, IfNone, IfSome, Li
 use Rattle.std.proofs.lemmas.Bool.{false≢true}
 use Rattle.std.proofs.lemmas.Option.{none-some, same_Some}
 use Rattle.h1_app.specs.Words.{Entry, Error, ErrorType, Exchange, FailureCause, Given, HeaderAnswer, HeaderCall, HeaderWrite, IsAllowed, IsLawful, LawfulRules, LinkState, Outcome, Outgoing, Poll, Pending, Ready, Reply, Request, RequestView, ResponseView, Rules, SessionView, Settings, WritesHeader, given_to, is_passed_over, no_memory}
+use Rattle.h1_application.specs.Application.{Runs}
 use Rattle.h1_error.specs.declared.head_fault.HeadFault.TheVariants.{UnsupportedVersion}
 use Rattle.h1_head.specs.Versions.{is_http_1, is_http_10, is_http_11}
 use Rattle.h1_modules.specs.Outcome.{ErrsBy, refused_by}
@@ -73,7 +74,7 @@ back_untimed header kind.NoMemory refused = refl
 back_untimed header _ refused = absurd refused
 
 module _ {L C J : Type 0} (state : L → LinkState) (pends : J → ℕ) (rules : Rules)
-    (runs : J → RequestView → Settings → Settings → List ℕ → Type 0) (now : ℕ) (shutdown : Bool)
+    (runs : Runs J) (now : ℕ) (shutdown : Bool)
     (x y : Exchange L J C) (result : Outcome) (ready : AllowedReady rules runs now x) where
   -- the header goes on
   pub header_stepped : (kept : Option ResponseView) (answer : Poll (Result (Unit {0}) Error))
@@ -119,8 +120,8 @@ module _ {L C J : Type 0} (state : L → LinkState) (pends : J → ℕ) (rules :
         unwaited,
       ))
       stands
-      (λ moves. header_in_time state now x.stage y.stage x.session y.session (Some f) w.left answer
-      result moves (rw stage (omega arith)) w.answer stands)
+      (λ moves. header_in_time state now x.stage y.stage x.session y.session x.transcript.last f
+      w.left answer result moves (rw stage (omega arith)) w.answer stands)
 
   -- what the filters made of the header is taken up, or it is handed back
   taken_header_stepped : (sent : ResponseView) (kept : Option ResponseView)
@@ -140,7 +141,7 @@ module _ {L C J : Type 0} (state : L → LinkState) (pends : J → ℕ) (rules :
       unchanged_stepped state pends rules runs now shutdown x y h.0 result ready h.1
       (is ∙ ap Some notes) w.same
       (λ moves. rw (ends.0, ends.1) (fails_anyhow state now x.stage x.stage x.session y.session
-      (Some h.0) moves (omega arith) w.error (back_untimed back w.error.kind w.cause)))
+      x.transcript.last (Some h.0) moves (omega arith) w.error (back_untimed back w.error.kind w.cause)))
       (rw ends.1 (λ before done s. (
         w.retry,
         back_cause sent before (state x.session.link) (state y.session.link) done (Some h.0) w.error
@@ -191,8 +192,8 @@ module _ {L C J : Type 0} (state : L → LinkState) (pends : J → ℕ) (rules :
             ready.budget done.owed stage,
       ))
       stands
-      (λ moves. header_in_time state now x.stage y.stage x.session y.session (Some g) w.left answer
-      result moves (rw stage (omega arith)) w.answer stands)
+      (λ moves. header_in_time state now x.stage y.stage x.session y.session x.transcript.last g
+      w.left answer result moves (rw stage (omega arith)) w.answer stands)
 
 -- what holds where the connection goes on holds at an end too
 if_none : {A : Type 0} (o : Option A) (P : Type 0) → P → IfNone o P
@@ -205,7 +206,7 @@ Makes chain modules after last sent = IfSome last (λ e. IfSome e.reply (λ repl
     chain.header (is_empty reply.body) modules reply.header ≡ Ok (after, sent)))
 
 module _ {L C J M : Type 0} (gives : Given → Reply → Type 0)
-    (runs : J → RequestView → Settings → Settings → List ℕ → Type 0) (chain : Chain M) (now : ℕ)
+    (runs : Runs J) (chain : Chain M) (now : ℕ)
     (modules after : List M) (x : Exchange L J C)
     (ready : FilterReady gives runs chain now modules x)
     (h : SoundStage runs x.session x.transcript.last at.TakeHeader) where

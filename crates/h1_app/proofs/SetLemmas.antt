@@ -1,6 +1,7 @@
 -- What is set before a head is read is no matter to the step.
 use Rattle.std.proofs.Common.{◌≡◌, inl, inr, ℕ, List, Bool, Option, Some, None, refl}
 use Rattle.h1_app.specs.Words.{Given, LinkState, RequestView, SessionView, Settings, Reply, Entry, Exchange, Outcome, Stage, Waiting, BeginsWith, IsSetAlike}
+use Rattle.h1_application.specs.Application.{Runs}
 use Rattle.h1_error.specs.declared.progress.Waiting.TheVariants as waiting
 use Rattle.h1_link.proofs.Laters.{keeps_itself}
 use Rattle.h1_app.specs.Outcome.{WaitsOn}
@@ -14,11 +15,11 @@ use Rattle.h1_app.proofs.Words.{Chain, OutcomeCause, Stepped, SteppedWith, rules
 begins_set : (a b c : Settings) (last behind : Option Entry) → IsSetAlike a b → BeginsWith b c last behind
     → BeginsWith a c last behind
 begins_set a b c None None alike begins = alike_on a b c alike begins
-begins_set a b c None (Some e) alike begins = alike_on a b e.began alike begins
+begins_set a b c None (Some e) alike begins = (alike_on a b e.began alike begins.0, begins.1)
 begins_set a b c (Some e) behind alike begins = tt
 
 module _ {L C J : Type 0} (state : L → LinkState) (pends : J → ℕ)
-    (runs : J → RequestView → Settings → Settings → List ℕ → Type 0) (old new : SessionView L C)
+    (runs : Runs J) (old new : SessionView L C)
     (settings : Settings) (last : Option Entry) (from to : Stage J) where
   waits_set : (what : Waiting) → WaitsOn state pends (record old { settings = settings }) new last from to what
       → WaitsOn state pends old new last from to what
@@ -27,12 +28,12 @@ module _ {L C J : Type 0} (state : L → LinkState) (pends : J → ℕ)
   waits_set waiting.App h = h
   waits_set waiting.Budget h = h
 
-  timely_set : (now : ℕ) (result : Outcome) → from ≡ stage.Head
-      → StepsInTime state now from to (record old { settings = settings }) new last result
-      → StepsInTime state now from to old new last result
-  timely_set now outcome.Done at h = h
-  timely_set now (outcome.Waits what) at h = rw at (rw at at h)
-  timely_set now (outcome.Ends reason) at h = rw at (rw at at h)
+  timely_set : (now : ℕ) (first : Option Entry) (result : Outcome) → from ≡ stage.Head
+      → StepsInTime state now from to (record old { settings = settings }) new first last result
+      → StepsInTime state now from to old new first last result
+  timely_set now first outcome.Done at h = h
+  timely_set now first (outcome.Waits what) at h = rw at (rw at at h)
+  timely_set now first (outcome.Ends reason) at h = rw at (rw at at h)
 
   outcome_set : (result : Outcome)
       → OutcomeCause state pends runs (record old { settings = settings }) new last from to result
@@ -44,7 +45,7 @@ module _ {L C J : Type 0} (state : L → LinkState) (pends : J → ℕ)
 -- a step behind which these settings were set before it
 pub set_stepped : {L C J M : Type 0} (state : L → LinkState) (pends : J → ℕ)
     (gives : Given → Reply → Type 0)
-    (runs : J → RequestView → Settings → Settings → List ℕ → Type 0) (chain : Chain M) (now : ℕ)
+    (runs : Runs J) (chain : Chain M) (now : ℕ)
     (shutdown : Bool) (modules : List M) (x y : Exchange L J C) (settings : Settings)
     (result : Outcome) → x.stage ≡ stage.Head → IsSetAlike x.session.settings settings
     → SteppedWith state pends gives runs chain now shutdown modules
@@ -74,8 +75,9 @@ set_stepped {L} {C} state pends gives runs chain now shutdown modules x y settin
       begins_with = begins_set x.session.settings settings y.session.settings x.transcript.last
           y.transcript.last alike s.begins_with;
       reads_not_ready = s.reads_not_ready;
+      body = s.body;
       timely = timely_set state pends runs x.session y.session settings y.transcript.last x.stage
-          y.stage now result at s.timely;
+          y.stage now x.transcript.last result at s.timely;
       outcome = elim s.outcome [
         | inl cause ↦ inl (outcome_set state pends runs x.session y.session settings
             y.transcript.last x.stage y.stage result cause)

@@ -2,13 +2,14 @@
 -- the exchange that goes on.
 use Rattle.std.proofs.Common.{◌≡◌, ℕ, List, Option, None, Some, IfNone, IfSome, IsSome, refl}
 use Rattle.h1_app.specs.Words.{Given, Rules, End, RequestView, SessionView, Settings, Reply, Request, Entry, Exchange, Stage, IsAllowed}
+use Rattle.h1_application.specs.Application.{Runs}
 use Rattle.h1_app.specs.Answering.{bare, IsAskedIn}
 use Rattle.h1_app.specs.declared.exchange.Stage.TheVariants as stage
 use Rattle.h1_app.proofs.Words.{Chain, Sound, SoundStage, SoundWith, rules_with}
 
 -- what is sound says nothing of the link and the budget
 sound_linked : {L C J : Type 0} (rules : Rules)
-    (runs : J → RequestView → Settings → Settings → List ℕ → Type 0) (limit : Option ℕ)
+    (runs : Runs J) (limit : Option ℕ)
     (session : SessionView L C) (link : L) (budget : Option ℕ) (done : List Entry)
     (last : Option Entry) (at : Stage J) (end : Option End)
     → Sound rules runs limit session done last at end
@@ -24,7 +25,7 @@ sound_linked rules runs limit session link budget done last at end s = record {
 
 -- nor does it say anything of the modules that stands on them
 pub sound_linked_with : {L C J M : Type 0} (gives : Given → Reply → Type 0)
-    (runs : J → RequestView → Settings → Settings → List ℕ → Type 0) (chain : Chain M) (limit : Option ℕ)
+    (runs : Runs J) (chain : Chain M) (limit : Option ℕ)
     (x : Exchange L J C) (link : L) (budget : Option ℕ) (modules : List M) (end : Option End)
     → SoundWith gives runs chain limit x modules end
     → SoundWith gives runs chain limit
@@ -37,7 +38,7 @@ sound_linked_with gives runs chain limit x link budget modules end s = record {
 
 -- the exchange that goes on has a head for its application
 module _ {L C J : Type 0} (rules : Rules)
-    (runs : J → RequestView → Settings → Settings → List ℕ → Type 0) (session : SessionView L C)
+    (runs : Runs J) (session : SessionView L C)
     (last : Option Entry) where
   one : (e : Entry) → last ≡ Some e → IsSome e.filtered → IfSome last (λ e. IsSome e.filtered)
   one e is given = rw is given

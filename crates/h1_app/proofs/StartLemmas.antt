@@ -9,6 +9,7 @@ use Rattle.h1_transcript.specs.Entries.{with_last}
 use Rattle.h1_transfer.specs.Calls.{no_fault}
 use Rattle.h1_app.specs.Beginning.{BegunFor, HeadFiltered, HeadRefused, IfLast, StandsBegun, StartedAs, with_filtered}
 use Rattle.h1_app.specs.Words.{Called, Error, LinkState, Request, RequestView, SessionView, Settings, Entry, Outcome, Stage, TranscriptView}
+use Rattle.h1_application.specs.Application.{Runs}
 use Rattle.h1_app.specs.declared.exchange.Stage.TheVariants as stage
 use Rattle.h1_app.proofs.Words.{BegunAs, Chain, Continues, IsNewEntry, JobFrom, Leaves, OthersFew, behind_request, outcome_end}
 
@@ -20,7 +21,7 @@ errs_by (Err n) error (inl is) = inr (n, is, refl)
 errs_by (Err n) error (inr is) = inl is
 
 module _ {L C J M : Type 0} (begins : J → Type 0)
-    (runs : J → RequestView → Settings → Settings → List ℕ → Type 0) (chain : Chain M)
+    (runs : Runs J) (chain : Chain M)
     (old new : SessionView L C) (modules : List M) (last : Option Entry) where
   -- the start of an application is no matter to the link
   started_link : (started : Result J Error)
@@ -67,7 +68,7 @@ stands_calm before now from to result (Err error) at calm stands = rw stands.1 (
 
 -- a head was read, and an exchange begins or doesn't
 module _ {L C J M : Type 0} (state : L → LinkState) (begins : J → Type 0)
-    (runs : J → RequestView → Settings → Settings → List ℕ → Type 0) (chain : Chain M)
+    (runs : Runs J) (chain : Chain M)
     (old mid new : SessionView L C) (modules : List M) (last : Option Entry) (to : Stage J)
     (result : Outcome) (begun : BegunAs begins runs chain mid new modules last to result)
     (calls : Called (state old.link) (state mid.link) true no_fault) where
@@ -103,6 +104,7 @@ new_filtered request settings e filtered is = record {
   body = is.body;
   handed = is.handed;
   body_error = is.body_error;
+  read_limit = is.read_limit;
   reply = is.reply;
   sent_head = is.sent_head;
   sent_body = is.sent_body;
@@ -197,7 +199,7 @@ module _ {L C M : Type 0} (chain : Chain M) (old : SessionView L C) (modules : L
 
 -- the application was started for what the filters made of the head, or it was not
 module _ {L C J M : Type 0} (begins : J → Type 0)
-    (runs : J → RequestView → Settings → Settings → List ℕ → Type 0) (chain : Chain M)
+    (runs : Runs J) (chain : Chain M)
     (old new : SessionView L C) (modules : List M) (begun : TranscriptView) (asked : Request)
     (is : old.request ≡ Some asked)
     (fresh : IfLast begun.last (λ e. IsNewEntry asked old.settings e
@@ -213,7 +215,7 @@ module _ {L C J M : Type 0} (begins : J → Type 0)
   pub started_as : (filtered after : TranscriptView) (job : Result J Error)
       → HeadFiltered chain old new modules begun filtered
       → IfOk job (λ job. (after ≡ filtered) × begins job
-      × ((head : RequestView) (began : Settings) → runs job head began began []))
+      × ((head : RequestView) (began : Settings) → runs job head began began [] None))
       → IfErr job (λ error. (error ≡ no_memory) × IfSome filtered.last
       (λ e. after ≡ with_last filtered (record e { filtered = None })))
       → StartedAs begins runs chain old new modules after.last job

@@ -1,15 +1,18 @@
 -- What a step of the exchange that is last leaves, whole.
 use Rattle.std.proofs.Common.{◌⊎◌, Bool, IfSome, IsSome, List, Ok, inl, ◌<◌, None, Option, Some, [], ap, arith, refl, true, ℕ, ◌∷◌, ◌≡◌}
 use Rattle.h1_app.specs.Words.{Rules, Entry, Exchange, Grows, IsAllowed, IsDated, IsLawful, LinkState, Outcome, Reply, RequestView, ResponseView, SessionView, Settings, YEAR_10000, replies}
+use Rattle.h1_application.specs.Application.{Runs}
 use Rattle.h1_transcript.proofs.GrowthLemmas.{grows_same}
+use Rattle.h1_app.specs.BodyTimes.{BodyInTime}
 use Rattle.h1_app.specs.Timely.{StepsInTime}
+use Rattle.h1_app.proofs.BodyTimeLemmas.{body_itself}
 use Rattle.h1_app.proofs.ReplyLemmas.{at_some, moves_none}
 use Rattle.h1_app.proofs.Words.{Accounted, FewReadsNotReady, IsKept, MovesWithin, OutcomeCause, SoundStage, StepReady, StepRefuses, Stepped}
 use Rattle.h1_app.specs.declared.exchange.Outcome.TheVariants as outcome
 
 -- what holds before a step, of an exchange that is allowed so far
 pub record AllowedReady {L C J : Type 0} (rules : Rules)
-    (runs : J → RequestView → Settings → Settings → List ℕ → Type 0) (now : ℕ)
+    (runs : Runs J) (now : ℕ)
     (x : Exchange L J C) : Type 0 where
   pub sound : SoundStage runs x.session x.transcript.last x.stage
   pub allowed : IfSome x.transcript.last (IsAllowed rules)
@@ -18,7 +21,7 @@ pub record AllowedReady {L C J : Type 0} (rules : Rules)
   pub moment : now < YEAR_10000
 
 pub allowed_ready : {L C J : Type 0} (rules : Rules)
-    (runs : J → RequestView → Settings → Settings → List ℕ → Type 0) (now : ℕ)
+    (runs : Runs J) (now : ℕ)
     (x : Exchange L J C) → StepReady runs now x → IfSome x.transcript.last (IsAllowed rules)
     → AllowedReady rules runs now x
 allowed_ready rules runs now x ready allowed = record {
@@ -32,7 +35,7 @@ allowed_ready rules runs now x ready allowed = record {
 -- the exchange that is last goes on, or a filter refused
 pub filtered_stepped : {L C J : Type 0} (state : L → LinkState) (pends : J → ℕ)
     (rules : Rules)
-    (runs : J → RequestView → Settings → Settings → List ℕ → Type 0)
+    (runs : Runs J)
     (now : ℕ) (shutdown : Bool) (x y : Exchange L J C) (e f : Entry) (result : Outcome)
     → x.transcript.last ≡ Some e → y.transcript.last ≡ Some f
     → MovesWithin state x.session y.session
@@ -41,12 +44,13 @@ pub filtered_stepped : {L C J : Type 0} (state : L → LinkState) (pends : J →
     → IsAllowed rules f → IsKept y.session f → Grows now (state x.session.link)
     (state y.session.link) e f
     → FewReadsNotReady (state x.session.link) (state y.session.link) (e ∷ []) (f ∷ []) result
-    → StepsInTime state now x.stage y.stage x.session y.session (Some f) result
+    → BodyInTime now x.session.body.since.read y.session.body.since.read (Some e) (Some f)
+    → StepsInTime state now x.stage y.stage x.session y.session x.transcript.last (Some f) result
     → OutcomeCause state pends runs x.session y.session (Some f) x.stage y.stage result
     ⊎ StepRefuses rules.filters y.session (Some f) result
     → Stepped state pends rules runs now shutdown x y result
 filtered_stepped state pends rules runs now shutdown x y e f result was is went since allowed kept
-    grows few timely outcome = record {
+    grows few body timely outcome = record {
       moves = went;
       accounted = λ before done s. rw is (since before done (rw was at s));
       allowed = rw is allowed;
@@ -54,6 +58,7 @@ filtered_stepped state pends rules runs now shutdown x y e f result was is went 
       extends = rw (was, is) grows;
       begins_with = rw was tt;
       reads_not_ready = rw (was, is) few;
+      body = rw (was, is) body;
       timely = rw is timely;
       outcome = rw is outcome;
     }
@@ -61,7 +66,7 @@ filtered_stepped state pends rules runs now shutdown x y e f result was is went 
 -- the same where none did
 pub grown_stepped : {L C J : Type 0} (state : L → LinkState) (pends : J → ℕ)
     (rules : Rules)
-    (runs : J → RequestView → Settings → Settings → List ℕ → Type 0)
+    (runs : Runs J)
     (now : ℕ) (shutdown : Bool) (x y : Exchange L J C) (e f : Entry) (result : Outcome)
     → x.transcript.last ≡ Some e → y.transcript.last ≡ Some f
     → MovesWithin state x.session y.session
@@ -70,13 +75,14 @@ pub grown_stepped : {L C J : Type 0} (state : L → LinkState) (pends : J → �
     → IsAllowed rules f → IsKept y.session f → Grows now (state x.session.link)
     (state y.session.link) e f
     → FewReadsNotReady (state x.session.link) (state y.session.link) (e ∷ []) (f ∷ []) result
-    → StepsInTime state now x.stage y.stage x.session y.session (Some f) result
+    → BodyInTime now x.session.body.since.read y.session.body.since.read (Some e) (Some f)
+    → StepsInTime state now x.stage y.stage x.session y.session x.transcript.last (Some f) result
     → OutcomeCause state pends runs x.session y.session (Some f) x.stage y.stage result
     → Stepped state pends rules runs now shutdown x y result
 grown_stepped state pends rules runs now shutdown x y e f result was is went since allowed kept
-    grows few timely outcome =
+    grows few body timely outcome =
     filtered_stepped state pends rules runs now shutdown x y e f result was is went since allowed
-    kept grows few timely (inl outcome)
+    kept grows few body timely (inl outcome)
 
 -- no read was pending, and the reply stays
 pub unread_few : (old now : LinkState) (e f : Entry) (result : Outcome) → f.reply ≡ e.reply
@@ -101,6 +107,7 @@ allowed_written rules e body owed written a sent still = record {
   handed = a.handed;
   reuses = a.reuses;
   owed = λ is. a.owed (still is);
+  limit = a.limit;
 } where
   dated : (head : Option ResponseView) → IfSome head
       (λ header. (reply : Reply) × (e.reply ≡ Some reply)
@@ -117,12 +124,12 @@ allowed_written rules e body owed written a sent still = record {
 -- a step that changes nothing but its stage, or in which a filter refused
 pub kept_stepped : {L C J : Type 0} (state : L → LinkState) (pends : J → ℕ)
     (rules : Rules)
-    (runs : J → RequestView → Settings → Settings → List ℕ → Type 0)
+    (runs : Runs J)
     (now : ℕ) (shutdown : Bool) (x y : Exchange L J C) (e : Entry) (result : Outcome)
     → AllowedReady rules runs now x → x.transcript.last ≡ Some e → y.transcript.last ≡ Some e
     → y.session ≡ x.session
     → (MovesWithin state x.session y.session
-    → StepsInTime state now x.stage y.stage x.session y.session (Some e) result)
+    → StepsInTime state now x.stage y.stage x.session y.session x.transcript.last (Some e) result)
     → OutcomeCause state pends runs x.session y.session (Some e) x.stage y.stage result
     ⊎ StepRefuses rules.filters y.session (Some e) result
     → Stepped state pends rules runs now shutdown x y result
@@ -135,17 +142,18 @@ kept_stepped {L} {C} {J} state pends rules runs now shutdown x y e result ready 
     (rw same (at_some (IsKept x.session) x.transcript.last e was ready.kept))
     (grows_same now (state x.session.link) (state y.session.link) e)
     (unread_few (state x.session.link) (state y.session.link) e e result refl
-    (ap (λ (s : SessionView L C). (state s.link).read_waits) same)) (timely moves) outcome
+    (ap (λ (s : SessionView L C). (state s.link).read_waits) same))
+    (rw same (body_itself now x.session.body.since.read (Some e))) (timely moves) outcome
 
 -- the same where none did
 pub unchanged_stepped : {L C J : Type 0} (state : L → LinkState) (pends : J → ℕ)
     (rules : Rules)
-    (runs : J → RequestView → Settings → Settings → List ℕ → Type 0)
+    (runs : Runs J)
     (now : ℕ) (shutdown : Bool) (x y : Exchange L J C) (e : Entry) (result : Outcome)
     → AllowedReady rules runs now x → x.transcript.last ≡ Some e → y.transcript.last ≡ Some e
     → y.session ≡ x.session
     → (MovesWithin state x.session y.session
-    → StepsInTime state now x.stage y.stage x.session y.session (Some e) result)
+    → StepsInTime state now x.stage y.stage x.session y.session x.transcript.last (Some e) result)
     → OutcomeCause state pends runs x.session y.session (Some e) x.stage y.stage result
     → Stepped state pends rules runs now shutdown x y result
 unchanged_stepped state pends rules runs now shutdown x y e result ready was is same timely

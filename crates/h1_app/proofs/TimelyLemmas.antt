@@ -15,10 +15,10 @@ use Rattle.h1_transfer.specs.Deadline as deadlines
 use Rattle.h1_transfer.specs.Deadline.{Noted, Wait, is_timeout, noted_since}
 use Rattle.h1_transfer.specs.declared.deadline.Deadline.{Deadline}
 use Rattle.h1_application.proofs.ReadLemmas.{budget_none}
-use Rattle.h1_app.specs.Beginning.{head_time}
+use Rattle.h1_transcript.specs.Begun.{head_time}
 use Rattle.h1_app.proofs.HeadLemmas.{AtHead}
 use Rattle.h1_app.specs.Pace.{rank}
-use Rattle.h1_app.specs.Timely.{EndsAsTimed, FailsInTime, HasMoved, StepsInTime, noted_of, wait_at}
+use Rattle.h1_app.specs.Timely.{EndsAsTimed, FailsInTime, HasMoved, StepsInTime, head_milliseconds, noted_of, wait_at}
 use Rattle.h1_app.specs.Work.{Work, untimed, work_at}
 use Rattle.h1_app.proofs.Words.{MovesWithin}
 use Rattle.h1_app.specs.declared.exchange.Stage.TheVariants as stage
@@ -75,27 +75,27 @@ told_waits noted left spent none (inl waited) = inl waited
 told_waits noted left spent none (inr stopped) = inr (none stopped.0, stopped.1)
 
 module _ {L C J : Type 0} (state : L → LinkState) (now : ℕ) (from to : Stage J)
-    (old new : SessionView L C) (last : Option Entry) (m : MovesWithin state old new)
+    (old new : SessionView L C) (first last : Option Entry) (m : MovesWithin state old new)
     (on : rank to ≤ rank from) where
   -- a step that waits with work that has no limit
-  pub untimed_waits : (what : Waiting) → work_at to new ≡ untimed
-      → StepsInTime state now from to old new last (outcome.Waits what)
+  pub untimed_waits : (what : Waiting) → work_at to last new ≡ untimed
+      → StepsInTime state now from to old new first last (outcome.Waits what)
   untimed_waits what is = (
     on,
     record {
       moved = nat_lt 0 m.spent;
       counted = step_moved state old new m;
       waits = subst (λ (w : Work). (noted_of now (nat_lt 0 m.spent) (state old.link) (state new.link)
-          (work_at from old) w).waited false
+          (work_at from first old) w).waited false
           ⊎ ((new.budget ≡ Some 0) × (noted_of now (nat_lt 0 m.spent) (state old.link) (state new.link)
-          (work_at from old) w).stopped)) (sym is) (inl tt);
+          (work_at from first old) w).stopped)) (sym is) (inl tt);
     },
   )
 
   -- a step that ends the connection for what is no time
-  pub ends_anyhow : (reason : End) → ((moved : Bool) → EndsAsTimed now moved (work_at from old) (work_at to new)
-      (state new.link) last reason)
-      → StepsInTime state now from to old new last (outcome.Ends reason)
+  pub ends_anyhow : (reason : End) → ((moved : Bool) → EndsAsTimed now moved (work_at from first old)
+      (work_at to last new) (state new.link) last reason)
+      → StepsInTime state now from to old new first last (outcome.Ends reason)
   ends_anyhow reason ends = (
     on,
     record {
@@ -106,13 +106,13 @@ module _ {L C J : Type 0} (state : L → LinkState) (now : ℕ) (from to : Stage
   )
 
   pub fails_anyhow : (error : Error) → is_timeout error.kind ≡ false
-      → StepsInTime state now from to old new last (outcome.Ends (end.Failed error))
+      → StepsInTime state now from to old new first last (outcome.Ends (end.Failed error))
   fails_anyhow error is = ends_anyhow (end.Failed error) (λ moved. never_timed _ error.kind is)
 
 -- with keep-alive set for a minute, or off with the read timeout of a minute, a head has a minute
 pub minute : (now : ℕ) (settings : Settings) (shutdown : Bool)
     → (keepalive_set settings (head_time shutdown)).times ≡ new_times
-    → head_deadline (keepalive_set settings (head_time shutdown)) now ≡ record { moment = now; limit = Some 60000 }
+    → head_deadline (keepalive_set settings (head_time shutdown)) now ≡ record { moment = now; limit = Some head_milliseconds }
 minute now settings true times = rw times refl
 minute now settings false times = refl
 
@@ -125,10 +125,10 @@ closed_ended state old new bytes left IdleTimeout a is = absurd cc
 
 -- what a step that reads a head leaves of its wait
 module _ {L C J : Type 0} (state : L → LinkState) (now : ℕ) (old new : SessionView L C) (last : Option Entry)
-    (from to : Stage J) (deadline : head_deadline old.settings now ≡ record { moment = now; limit = Some 60000 })
+    (from to : Stage J) (deadline : head_deadline old.settings now ≡ record { moment = now; limit = Some head_milliseconds })
     (some : IsSome old.budget) (at : from ≡ stage.Head) (still : to ≡ stage.Head) where
   abbrev minute_wait : ℕ → Wait
-  minute_wait left = wait_at now (Some 60000) (nat_lt left (allowance old.budget)) old.body.since.read
+  minute_wait left = wait_at now (Some head_milliseconds) (nat_lt left (allowance old.budget)) old.body.since.read
 
   abbrev noted : ℕ → Noted
   noted left = noted_since (Rose (state old.link).read_waits (state new.link).read_waits) (minute_wait left)
@@ -152,7 +152,7 @@ module _ {L C J : Type 0} (state : L → LinkState) (now : ℕ) (old new : Sessi
       h.reads.left h.reads.received.moved
 
   pub waits_in_time : (what : Waiting) → AtHead state now old new last Pending
-      → StepsInTime state now from to old new None (outcome.Waits what)
+      → StepsInTime state now from to old new None None (outcome.Waits what)
   waits_in_time what h = rw (at, still) (
     omega arith,
     record {
@@ -164,7 +164,7 @@ module _ {L C J : Type 0} (state : L → LinkState) (now : ℕ) (old new : Sessi
   )
 
   pub none_in_time : (why : NoRequest) → AtHead state now old new last (Ready (Ok (read.None why)))
-      → StepsInTime state now from to old new None (outcome.Ends end.Finished)
+      → StepsInTime state now from to old new None None (outcome.Ends end.Finished)
   none_in_time why h = rw (at, still) (
     omega arith,
     record {
@@ -181,7 +181,7 @@ module _ {L C J : Type 0} (state : L → LinkState) (now : ℕ) (old new : Sessi
     by IdleTimeout timed closed = inr timed.judged
 
   pub fails_in_time : (error : Error) → AtHead state now old new last (Ready (Err error))
-      → StepsInTime state now from to old new None (outcome.Ends (end.Failed error))
+      → StepsInTime state now from to old new None None (outcome.Ends (end.Failed error))
   fails_in_time error h = rw (at, still) (
     omega arith,
     record {

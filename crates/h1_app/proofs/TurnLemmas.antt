@@ -1,9 +1,10 @@
 -- What one step makes of a connection: the exchange that is last goes on, or the next one is awaited.
 use Rattle.std.proofs.Common.{◌≡◌, ℕ, ◌+◌, ◌<◌, ◌≤◌, ◌⊎◌, inl, inr, List, [], ◌∷◌, ◌++◌, length, Bool, false, Option, Some, None, IfNone, option_to_list, refl, sym, ◌∙◌, subst, append-nil, arith}
 use Rattle.h1_app.specs.Words.{AllByRecursion, End, LinkState, RequestView, SessionView, Settings, Reply, Entry, Exchange, Stage, Outcome, Filters, Given, Rules, AreBegun, BeginsWith, IsNextSet, IsSetAlike, ExtendsLast, replies}
+use Rattle.h1_application.specs.Application.{Runs}
 use Rattle.h1_app.specs.declared.exchange.Stage.TheVariants as stage
 use Rattle.h1_app.specs.declared.exchange.Outcome.TheVariants as outcome
-use Rattle.h1_transcript.specs.Begun.{IsSetFor, pipelining_behind}
+use Rattle.h1_transcript.specs.Begun.{IsBegunFor, IsSetFor, pipelining_behind}
 use Rattle.h1_app.proofs.Words.{JobFrom, rank, Turned, TurnCause, outcome_end, stops, Chain, Sound, SoundStage, SoundWith, Stepped, SteppedWith, StepRefuses, OutcomeCause, rules_with, FewReadsNotReady, view_of, IfAwaiting, Continues, JobNew, LeavesBy, one_where}
 use Rattle.h1_app.proofs.EndReplies.{written_so_far}
 use Rattle.h1_app.proofs.LeavesLemmas.{noted_grows}
@@ -23,22 +24,22 @@ pipelining_last first (f ∷ more) e = pipelining_last f.left.pipelining more e
 
 begun_join : (limit : Option ℕ) (i : ℕ) (first : Bool) (done : List Entry) (e : Entry)
     → AreBegun limit i first done
-    → IsSetFor limit (i + length done) (pipelining_behind first done) e.began
+    → IsBegunFor limit (i + length done) (pipelining_behind first done) e.began
     → AreBegun limit i first (done ++ e ∷ [])
 begun_join limit i first [] e h is =
     let same : i + 0 ≡ i = omega arith in
-    (subst (λ n. IsSetFor limit n first e.began) same is, tt)
+    (subst (λ n. IsBegunFor limit n first e.began) same is, tt)
 begun_join limit i first (f ∷ more) e h is =
     let same : i + length (f ∷ more) ≡ i + 1 + length more = omega arith in (
       h.0,
       begun_join limit (i + 1) f.left.pipelining more e h.1
-          (subst (λ n. IsSetFor limit n (pipelining_behind f.left.pipelining more) e.began) same is),
+          (subst (λ n. IsBegunFor limit n (pipelining_behind f.left.pipelining more) e.began) same is),
     )
 
 begun_grows : (limit : Option ℕ) (i : ℕ) (first : Bool) (done : List Entry) (a b : Entry)
     → b.began ≡ a.began
     → AreBegun limit i first (done ++ a ∷ []) → AreBegun limit i first (done ++ b ∷ [])
-begun_grows limit i first [] a b is h = (subst (λ s. IsSetFor limit i first s) (sym is) h.0, tt)
+begun_grows limit i first [] a b is h = (subst (λ s. IsBegunFor limit i first s) (sym is) h.0, tt)
 begun_grows limit i first (f ∷ more) a b is h = (h.0, begun_grows limit (i + 1) f.left.pipelining more a b is h.1)
 
 set_alike : (limit : Option ℕ) (i : ℕ) (pipelining : Bool) (old new : Settings)
@@ -60,15 +61,19 @@ begun_stepped : (limit : Option ℕ) (now : ℕ) (shutdown : Bool) (first second
 begun_stepped limit now shutdown first second old new done None None h extends begins next = h
 begun_stepped limit now shutdown first second old new done None (Some e) h extends begins next =
     let same : length done ≡ 0 + length done = omega arith in
-    let set = set_alike limit (length done) (pipelining_behind false done) old e.began (next refl) begins in
+    let set : IsBegunFor limit (length done) (pipelining_behind false done) e.began = record {
+      set = set_alike limit (length done) (pipelining_behind false done) old e.began (next refl)
+          begins.0;
+      keepalive = begins.1;
+    } in
     begun_join limit 0 false done e (subst (λ xs. AreBegun limit 0 false xs) (append-nil done) h)
-    (subst (λ n. IsSetFor limit n (pipelining_behind false done) e.began) same set)
+    (subst (λ n. IsBegunFor limit n (pipelining_behind false done) e.began) same set)
 begun_stepped limit now shutdown first second old new done (Some a) None h extends begins next = absurd extends
 begun_stepped limit now shutdown first second old new done (Some a) (Some b) h extends begins next =
     begun_grows limit 0 false done a b extends.began h
 
 -- and after a step it is still set so
-next_stepped : {L C J : Type 0} (runs : J → RequestView → Settings → Settings → List ℕ → Type 0)
+next_stepped : {L C J : Type 0} (runs : Runs J)
     (limit : Option ℕ) (now : ℕ) (shutdown : Bool) (first second : LinkState)
     (old : Settings) (session : SessionView L C) (done : List Entry) (last behind : Option Entry) (to : Stage J)
     → SoundStage runs session behind to → ExtendsLast now shutdown first second last behind
@@ -87,7 +92,7 @@ if_none None P Q on p = on p
 if_none (Some reason) P Q on p = tt
 
 stage_stepped : {L C J : Type 0} (state : L → LinkState) (pends : J → ℕ)
-    (runs : J → RequestView → Settings → Settings → List ℕ → Type 0) (filters : Filters)
+    (runs : Runs J) (filters : Filters)
     (old new : SessionView L C) (behind : Option Entry) (from to : Stage J) (result : Outcome)
     → OutcomeCause state pends runs old new behind from to result
     ⊎ StepRefuses filters new behind result
@@ -100,7 +105,7 @@ stage_stepped state pends runs filters old new behind from to (outcome.Ends reas
 
 -- a step of the exchange that is last leaves a sound connection
 pub sound_stepped : {L C J : Type 0} (rules : Rules)
-    (runs : J → RequestView → Settings → Settings → List ℕ → Type 0) (limit : Option ℕ)
+    (runs : Runs J) (limit : Option ℕ)
     (state : L → LinkState) (pends : J → ℕ) (now : ℕ) (shutdown : Bool) (x y : Exchange L J C)
     (result : Outcome)
     → Sound rules runs limit x.session x.transcript.done x.transcript.last x.stage None
@@ -132,7 +137,7 @@ sound_stepped rules runs limit state pends now shutdown x y result s made same =
 
 -- and one with modules
 pub sound_stepped_with : {L C J M : Type 0} (gives : Given → Reply → Type 0)
-    (runs : J → RequestView → Settings → Settings → List ℕ → Type 0) (chain : Chain M) (limit : Option ℕ)
+    (runs : Runs J) (chain : Chain M) (limit : Option ℕ)
     (state : L → LinkState) (pends : J → ℕ) (now : ℕ) (shutdown : Bool) (x y : Exchange L J C)
     (first second : List M) (result : Outcome) → SoundWith gives runs chain limit x first None
     → SteppedWith state pends gives runs chain now shutdown second x y result
@@ -158,7 +163,7 @@ few_stepped old now done last behind _ h =
 
 -- and what it leaves, whole
 pub turned_stepped : {L C A J : Type 0} {rules : Rules}
-    {runs : J → RequestView → Settings → Settings → List ℕ → Type 0} (state : L → LinkState)
+    {runs : Runs J} (state : L → LinkState)
     (begins : J → Type 0) (pends : J → ℕ) (same_plan : L → L → Type 0) (now : ℕ) (shutdown : Bool)
     (served : A) (limit : Option ℕ) (x y : Exchange L J C) (first : Option End) (result : Outcome)
     → SoundStage runs x.session x.transcript.last x.stage
@@ -182,6 +187,7 @@ turned_stepped {runs = runs} state begins pends same_plan now shutdown served li
         extends = extends_last now shutdown (state x.session.link) (state y.session.link)
             x.transcript.done x.transcript.last y.transcript.last s.extends;
         longer = omega arith;
+        body = s.body;
       };
       reads_not_ready = few_stepped (state x.session.link) (state y.session.link)
           x.transcript.done x.transcript.last y.transcript.last result s.reads_not_ready;
@@ -208,7 +214,7 @@ new_job begins pends from _ less h = tt
 -- and why it goes on, waits or ends
 pub caused_stepped : {L C A J : Type 0} (filters : Filters) (state : L → LinkState)
     (begins : J → Type 0)
-    (pends : J → ℕ) (runs : J → RequestView → Settings → Settings → List ℕ → Type 0)
+    (pends : J → ℕ) (runs : Runs J)
     (same_plan : L → L → Type 0) (served : A) (limit : Option ℕ) (x y : Exchange L J C)
     (first second : Option End) (result : Outcome)
     → Continues state same_plan begins pends x y result

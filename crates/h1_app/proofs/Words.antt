@@ -12,7 +12,7 @@ pub use Rattle.h1_app.specs.Replied.{IsBodied, IsDraining, IsFinishing, IsHeaded
 pub use Rattle.h1_app.specs.Sound.{IfAwaiting, IsKept, Sound, SoundStage}
 pub use Rattle.h1_app.specs.Filtering.{Chain, FiltersStay, ModulesStand, SameFiltered, behind_body, behind_header, behind_request, bytes_of, chain, filters_of, is_empty, rules_of, rules_with, value_of}
 pub use Rattle.h1_app.specs.FilterSteps.{FilterReady, SoundWith, SteppedWith}
-pub use Rattle.h1_app.specs.Beginning.{BegunAs, IsNewEntry, IsPieceOf, failure_of, head_time}
+pub use Rattle.h1_app.specs.Beginning.{BegunAs, IsNewEntry, IsPieceOf, failure_of}
 pub use Rattle.h1_app.specs.Step.{Continues, JobFrom, MovesWithin, StepReady, StepRefuses, Stepped, SteppedBy}
 pub use Rattle.h1_app.specs.Turn.{Gone, JobNew, LeavesBy, TurnCause, Turned, one_where, outcome_end, still_calls, stops, waiting_for}
 pub use Rattle.h1_app.specs.View.{Served, View, entries, limit_of, served_by, view_of}

@@ -16,9 +16,9 @@ use Rattle.h1_transfer.specs.declared.since.Since.{Since}
 use Rattle.h1_app.proofs.GoneLemmas.{HasBegun, moves_on}
 use Rattle.h1_app.proofs.TimelyLemmas.{step_moved}
 use Rattle.h1_app.proofs.Words.{MovesWithin, View, rank, waiting_for}
-use Rattle.h1_app.specs.Timely.{EndsAsTimed, EndsInTime, FailsInTime, IsLate, IsLateHead, IsTimely, TurnsInTime, WaitsInTime, noted_of, wait_at, work_before}
+use Rattle.h1_app.specs.Timely.{EndsAsTimed, EndsInTime, FailsInTime, IsLate, IsLateHead, IsTimely, TurnsInTime, WaitsInTime, head_milliseconds, noted_of, wait_at, work_before}
 use Rattle.h1_app.specs.View.{work_of}
-use Rattle.h1_app.specs.Work.{IsUnwaited, Work, drain_since, drains, head_since, piece_since, reads_head, untimed, work_at, work_on, writes_piece}
+use Rattle.h1_app.specs.Work.{HasTimesLeft, IsUnwaited, Work, drain_since, drains, head_since, piece_since, reads_head, untimed, work_at, work_on, writes_piece}
 use Rattle.h1_app.specs.declared.exchange.Stage.TheVariants as stage
 use Rattle.h1_app.specs.declared.exchange.Outcome.TheVariants as outcome
 
@@ -30,6 +30,17 @@ pub timely_same : {L C A J : Type 0} (state : L → LinkState) (now : ℕ) (from
     → IsTimely state now from to result
 timely_same state now from to budget (progress.Pending what) h = h
 timely_same state now from to budget (progress.Ready reason) h = h
+
+-- what a connection does has the times that were left
+pub times_left : {L C J : Type 0} (at : Stage J) (last : Option Entry) (session : SessionView L C)
+    → HasTimesLeft last (work_at at last session)
+times_left stage.TakeBody None session = tt
+times_left stage.TakeBody (Some e) session = (session.reply.handed, refl)
+times_left stage.Body None session = tt
+times_left stage.Body (Some e) session = (session.reply.handed, refl)
+times_left stage.Drain None session = tt
+times_left stage.Drain (Some e) session = refl
+times_left _ last session = tt
 
 -- work that isn't the one before, and so hasn't waited before
 abbrev IsNewTo : Work → Work → Type 0
@@ -58,28 +69,34 @@ new_unwaited before (writes_piece limit since) none = unwaited_piece before none
 new_unwaited before untimed none = tt
 
 -- nor that of a stage from which the exchange came nearer to its end
-head_new : {L C J : Type 0} (from : Stage J) (session : SessionView L C) → 8 < rank from
-    → head_since (work_at from session) ≡ None
-head_new stage.Head session less = absurd (omega (arith, less))
-head_new _ session less = refl
+head_new : {L C J : Type 0} (from : Stage J) (last : Option Entry) (session : SessionView L C)
+    → 8 < rank from → head_since (work_at from last session) ≡ None
+head_new stage.Head last session less = absurd (omega (arith, less))
+head_new _ None session less = refl
+head_new _ (Some e) session less = refl
 
-drain_new : {L C J : Type 0} (from : Stage J) (session : SessionView L C) → 1 < rank from
-    → drain_since (work_at from session) ≡ no_wait
-drain_new stage.Drain session less = absurd (omega (arith, less))
-drain_new _ session less = refl
+drain_new : {L C J : Type 0} (from : Stage J) (last : Option Entry) (session : SessionView L C)
+    → 1 < rank from → drain_since (work_at from last session) ≡ no_wait
+drain_new stage.Drain last session less = absurd (omega (arith, less))
+drain_new _ None session less = refl
+drain_new _ (Some e) session less = refl
 
-piece_new : {L C J : Type 0} (from : Stage J) (session : SessionView L C) → 3 < rank from
-    → piece_since (work_at from session) ≡ None
-piece_new stage.Body session less = absurd (omega (arith, less))
-piece_new _ session less = refl
+piece_new : {L C J : Type 0} (from : Stage J) (last : Option Entry) (session : SessionView L C)
+    → 3 < rank from → piece_since (work_at from last session) ≡ None
+piece_new stage.Body last session less = absurd (omega (arith, less))
+piece_new _ None session less = refl
+piece_new _ (Some e) session less = refl
 
-new_later : {L C J : Type 0} (from to : Stage J) (old new : SessionView L C)
-    → rank to < rank from → IsNewTo (work_at from old) (work_at to new)
-new_later from stage.Head old new less = head_new from old less
-new_later from stage.TakeBody old new less = piece_new from old (omega (arith, less))
-new_later from stage.Body old new less = piece_new from old less
-new_later from stage.Drain old new less = drain_new from old less
-new_later from _ old new less = tt
+new_later : {L C J : Type 0} (from to : Stage J) (first last : Option Entry)
+    (old new : SessionView L C) → rank to < rank from
+    → IsNewTo (work_at from first old) (work_at to last new)
+new_later from stage.Head first last old new less = head_new from first old less
+new_later from stage.TakeBody first (Some e) old new less =
+    piece_new from first old (omega (arith, less))
+new_later from stage.Body first (Some e) old new less = piece_new from first old less
+new_later from stage.Drain first (Some e) old new less = drain_new from first old less
+new_later from _ first None old new less = tt
+new_later from _ first (Some e) old new less = tt
 
 -- nor that of an exchange before
 new_on : (before now : ℕ) (was work : Work) → (now ≡ before → IsNewTo was work)
@@ -168,7 +185,7 @@ module _ (now : ℕ) (m1 m2 : Bool) (from old new : LinkState) (later : Later fr
       → (noted_of now m1 old new b1 work).waited false
       → (noted_of now m2 from new b2 work).waited false
   waited_new (reads_head since) n1 n2 w =
-      waited_same now (Some 60000) m1 m2 (head_since b1) (head_since b2) n1 n2
+      waited_same now (Some head_milliseconds) m1 m2 (head_since b1) (head_since b2) n1 n2
       (Rose old.read_waits new.read_waits) (Rose from.read_waits new.read_waits) since
       (λ rose. rose_read_waits 1 from old new new later rose (later_itself new)) w
   waited_new (drains times since) n1 n2 w =
@@ -184,7 +201,7 @@ module _ (now : ℕ) (m1 m2 : Bool) (from old new : LinkState) (later : Later fr
   stopped_new : (work : Work) → IsNewTo b1 work → IsNewTo b2 work
       → (noted_of now m1 old new b1 work).stopped → (noted_of now m2 from new b2 work).stopped
   stopped_new (reads_head since) n1 n2 left =
-      left ∙ left_same now (Some 60000) m1 m2 (head_since b1) (head_since b2) n1 n2
+      left ∙ left_same now (Some head_milliseconds) m1 m2 (head_since b1) (head_since b2) n1 n2
   stopped_new (drains times since) n1 n2 left =
       left ∙ drain_left_same (drain_limits times now) m1 m2 (drain_since b1) (drain_since b2) n1 n2
   stopped_new (writes_piece limit since) n1 n2 left =
@@ -194,13 +211,13 @@ module _ (now : ℕ) (m1 m2 : Bool) (from old new : LinkState) (later : Later fr
   late_head_new : (work : Work) → IsNewTo b1 work → IsNewTo b2 work → IsLateHead now m1 b1 work
       → IsLateHead now m2 b2 work
   late_head_new (reads_head since) n1 n2 late =
-      sym (over_same now (Some 60000) m1 m2 (head_since b1) (head_since b2) n1 n2) ∙ late
+      sym (over_same now (Some head_milliseconds) m1 m2 (head_since b1) (head_since b2) n1 n2) ∙ late
   late_head_new _ n1 n2 late = absurd late
 
   late_new : (work : Work) (last : Option Entry) (error : Error) → IsNewTo b1 work → IsNewTo b2 work
       → IsLate now m1 b1 work last error → IsLate now m2 b2 work last error
   late_new (reads_head since) None error n1 n2 late =
-      sym (over_same now (Some 60000) m1 m2 (head_since b1) (head_since b2) n1 n2) ∙ late
+      sym (over_same now (Some head_milliseconds) m1 m2 (head_since b1) (head_since b2) n1 n2) ∙ late
   late_new (drains times since) (Some e) error n1 n2 late =
       sym (drain_over_same (drain_limits times now) m1 m2 (drain_since b1) (drain_since b2) n1 n2)
       ∙ late
@@ -245,7 +262,7 @@ module _ {L C A J : Type 0} (state : L → LinkState) (now : ℕ) (from at to : 
       → (length at.done ≡ length from.done → rank at.stage < rank from.stage)
       → IsNewTo (work_before from to) (work_of to)
   new_before on less = new_on (length from.done) (length to.done) (work_of from) (work_of to)
-      (λ same. new_later from.stage to.stage from.session to.session
+      (λ same. new_later from.stage to.stage from.last to.last from.session to.session
       (let nearer = less (sym (ap (λ es. length es) done) ∙ same) in omega (arith, nearer, on)))
 
   pub poll_waits_in_time : (what : Waiting) → TurnsInTime state now at to (outcome.Waits what)

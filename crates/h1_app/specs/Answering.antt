@@ -26,6 +26,7 @@ bare session = record {
   budget = None;
   reusable = session.reusable;
   context = None;
+  read_limit = session.read_limit;
 }
 
 -- nothing of a reply was taken up
@@ -47,6 +48,7 @@ pub record IsAwaitingIn (session : Bare) : Type 0 where
   pub waits : session.body.waits ≡ false
   pub undrained : session.body.since.drain ≡ None
   pub times : session.settings.times ≡ new_times
+  pub read_limit : session.read_limit ≡ None
 
 abbrev pub IsAwaiting : {L C : Type 0} → SessionView L C → Type 0
 IsAwaiting session = IsAwaitingIn (bare session)
@@ -61,6 +63,7 @@ pub record IsAskedIn (e : Entry) (session : Bare) (request : Request) : Type 0 w
   pub wish : request.wish ≡ wish e.head e.both
   pub reuses : session.settings.reuses ≡ e.began.reuses
   pub body_error : e.body_error ≡ session.body.refused
+  pub read_limit : e.read_limit ≡ session.read_limit
   pub handed : e.handed ≡ length e.body
   pub kept : session.body.kept ≡ None
   pub waits : session.body.waits ≡ false

@@ -11,6 +11,7 @@ noted e session =
       body = payload_of session;
       handed = length (payload_of session);
       body_error = session.body.refused;
+      read_limit = session.read_limit;
       how = how_of session.body;
       left = session.settings;
     }

@@ -1,10 +1,12 @@
 -- What an exchange begins with.
-use Rattle.std.specs.Prelude.{◌≡◌, ◌⊎◌, ℕ, ◌<◌, List, [], length, replicate, Bool, true, false, Option, Some, None, Result, Ok, Err}
+use Rattle.std.specs.Prelude.{◌≡◌, ◌⊎◌, ℕ, ◌<◌, List, [], length, replicate, Bool, false, Option, Some, None, Result, Ok, Err}
 use Rattle.h1_modules.specs.Outcome.{ErrsBy, refused_by}
 use Rattle.h1_server.specs.Keepalive.{keepalive_set}
+use Rattle.h1_transcript.specs.Begun.{head_time}
 use Rattle.h1_transcript.specs.Entries.{TranscriptView, with_last}
 use Rattle.h1_app.specs.Filtering.{Chain, behind_request}
 use Rattle.h1_app.specs.Words.{RequestView, SessionView, Settings, Request, Entry, Open, Stage, Outcome, Error, ErrorType, no_memory}
+use Rattle.h1_application.specs.Application.{Runs}
 use Rattle.h1_app.specs.declared.exchange.Stage.TheVariants as stage
 use Rattle.h1_app.specs.declared.exchange.Outcome.TheVariants as outcome
 use Rattle.h1_error.specs.declared.progress.End.TheVariants as end
@@ -17,6 +19,7 @@ pub record IsNewEntry (request : Request) (settings : Settings) (e : Entry) : Ty
   pub body : e.body ≡ []
   pub handed : e.handed ≡ 0
   pub body_error : e.body_error ≡ None
+  pub read_limit : e.read_limit ≡ None
   pub reply : e.reply ≡ None
   pub sent_head : e.sent_head ≡ None
   pub sent_body : e.sent_body ≡ None
@@ -45,11 +48,6 @@ failure_of body_error error = choice body_error error error.kind where
 abbrev pub IsAnswerStage : {J : Type 0} → Stage J → Type 0
 IsAnswerStage (stage.Answer job) = Unit {0}
 IsAnswerStage _ = ⊥
-
--- the time for the next head in seconds, or none where the connection shuts down
-abbrev pub head_time : Bool → Option ℕ
-head_time true = None
-head_time false = Some 60
 
 -- what holds of the exchange that goes on
 abbrev pub IfLast : Option Entry → (Entry → Type 0) → Type 0
@@ -106,7 +104,7 @@ pub record HeadRefused {L C M : Type 0} (chain : Chain M) (old new : SessionView
 
 -- its application was started for the head that the filters made
 pub record StartedWith {L C J M : Type 0} (begins : J → Type 0)
-    (runs : J → RequestView → Settings → Settings → List ℕ → Type 0) (chain : Chain M)
+    (runs : Runs J) (chain : Chain M)
     (old new : SessionView L C) (modules : List M) (e : Entry) (job : J) : Type 0 where
   pub request : Request
   pub head : RequestView
@@ -114,7 +112,7 @@ pub record StartedWith {L C J M : Type 0} (begins : J → Type 0)
   pub filtered : e.filtered ≡ Some head
   pub behind : behind_request chain request.header ≡ Ok (modules, head)
   pub fresh : begins job
-  pub running : runs job head old.settings old.settings []
+  pub running : runs job head old.settings old.settings [] None
 
 -- it was not: a filter refused the head, or there is no memory
 pub record NotStarted {L C M : Type 0} (chain : Chain M) (old new : SessionView L C) (e : Entry)
@@ -134,7 +132,7 @@ pub record NotBegun {L C : Type 0} (old new : SessionView L C) (last : Option En
 
 -- what becomes of a head that was read: the exchange begins and the application is started, or not
 abbrev pub StartedAs : {L C J M : Type 0} → (J → Type 0)
-    → (J → RequestView → Settings → Settings → List ℕ → Type 0) → Chain M → SessionView L C
+    → Runs J → Chain M → SessionView L C
     → SessionView L C → List M → Option Entry → Result J Error → Type 0
 StartedAs begins runs chain old new modules last (Ok job) =
     (e : Entry) × (last ≡ Some e) × StartedWith begins runs chain old new modules e job
@@ -148,7 +146,7 @@ StandsBegun (Err error) at result = (at ≡ stage.Head) × (result ≡ outcome.E
 
 -- the same after keep-alive was set again
 abbrev pub BegunAs : {L C J M : Type 0} → (J → Type 0)
-    → (J → RequestView → Settings → Settings → List ℕ → Type 0) → Chain M → SessionView L C
+    → Runs J → Chain M → SessionView L C
     → SessionView L C → List M → Option Entry → Stage J → Outcome → Type 0
 BegunAs {L} {C} {J} begins runs chain old new modules last at result =
     (started : Result J Error) × StartedAs begins runs chain old new modules last started

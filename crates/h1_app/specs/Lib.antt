@@ -17,6 +17,7 @@ pub mod Persistent
 pub mod Draining
 pub mod Work
 pub mod Timely
+pub mod BodyTimes
 pub mod Step
 pub mod FilterSteps
 pub mod NoModulesLaw

@@ -1,6 +1,7 @@
 -- Why a step goes on, waits or ends.
 use Rattle.std.specs.Prelude.{◌≡◌, ℕ, ◌<◌, ◌⊎◌, List, true, Option, Some}
 use Rattle.h1_app.specs.Words.{Waiting, LinkState, Rose, raised, RequestView, SessionView, Settings, Entry, Stage, Outcome, EndCause, LacksSo, OfLast}
+use Rattle.h1_application.specs.Application.{Runs}
 use Rattle.h1_error.specs.declared.progress.Waiting.TheVariants as waiting
 use Rattle.h1_app.specs.declared.exchange.Stage.TheVariants as stage
 use Rattle.h1_app.specs.declared.exchange.Outcome.TheVariants as outcome
@@ -29,7 +30,7 @@ WaitsOn state pends old new last from to waiting.App =
 WaitsOn state pends old new last from to waiting.Budget = ⊥
 
 abbrev pub OutcomeCause : {L C J : Type 0} → (L → LinkState) → (J → ℕ)
-    → (J → RequestView → Settings → Settings → List ℕ → Type 0) → SessionView L C → SessionView L C
+    → Runs J → SessionView L C → SessionView L C
     → Option Entry → Stage J → Stage J → Outcome → Type 0
 OutcomeCause state pends runs old new last from to outcome.Done =
     SoundStage runs new last to × (rank to < rank from)

@@ -1,18 +1,19 @@
 -- What always holds of a connection: each stage stands where the session and the last exchange do.
 use Rattle.std.specs.Prelude.{◌≡◌, ℕ, List, [], ◌++◌, false, Option, Some, None, IfSome, IfNone, option_to_list}
 use Rattle.h1_app.specs.Words.{AllByRecursion, End, RequestView, SessionView, AreBegun, IsNextSet, Settings, Request, Reply, Entry, Stage, Rules, IsAllowed}
+use Rattle.h1_application.specs.Application.{Runs}
 use Rattle.h1_transfer.specs.declared.outgoing.Step.TheVariants as step
 use Rattle.h1_app.specs.declared.exchange.Stage.TheVariants as stage
 use Rattle.h1_app.specs.Answering.{IsUnwritten, IsAwaiting, IsAnswering}
 use Rattle.h1_app.specs.Replied.{IsReplied, IsHeaded, IsBodied, fresh, filled, IsFinishing, IsDraining, MayGoOn}
 
 -- the stage that the connection is in, against its last exchange
-abbrev pub SoundStage : {L C J : Type 0} → (J → RequestView → Settings → Settings → List ℕ → Type 0)
+abbrev pub SoundStage : {L C J : Type 0} → Runs J
     → SessionView L C → Option Entry → Stage J → Type 0
 SoundStage runs session last stage.Head = (last ≡ None) × IsAwaiting session
 SoundStage runs session last (stage.Answer job) =
     (e : Entry) × (last ≡ Some e) × (answering : IsAnswering e session)
-    × runs job answering.request.header e.began session.settings e.body
+    × runs job answering.request.header e.began session.settings e.body session.read_limit
 SoundStage runs session last stage.TakeHeader =
     (e : Entry) × (last ≡ Some e) × (request : Request) × (reply : Reply)
     × IsReplied e session request reply
@@ -60,7 +61,7 @@ IfAwaiting _ P = Unit {0}
 -- Every exchange is allowed, and began as the one before it left what is set; and while the
 -- connection goes on, its stage is sound.
 pub record Sound {L C J : Type 0} (rules : Rules)
-    (runs : J → RequestView → Settings → Settings → List ℕ → Type 0) (limit : Option ℕ)
+    (runs : Runs J) (limit : Option ℕ)
     (session : SessionView L C) (done : List Entry) (last : Option Entry) (at : Stage J)
     (end : Option End) : Type 0 where
   pub ended : AllByRecursion (IsAllowed rules) done

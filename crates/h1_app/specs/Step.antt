@@ -1,7 +1,9 @@
 -- What each step of an exchange asks for, and what it leaves.
 use Rattle.std.specs.Prelude.{◌≡◌, ℕ, ◌<◌, List, Bool, IsSome, IfSome, option_to_list, Option, ◌-◌, ◌≤◌, ◌⊎◌, option_map, [], None}
 use Rattle.h1_app.specs.Words.{YEAR_10000, LinkState, RequestView, Settings, Reply, Entry, Exchange, Outcome, Given, Filters, Rules, RefusesLast, OfLast, BeginsWith, IsAllowed, ExtendsLast, Moved, SessionView, Stage}
+use Rattle.h1_application.specs.Application.{Runs}
 use Rattle.h1_app.specs.Accounted.{Accounted}
+use Rattle.h1_app.specs.BodyTimes.{BodyInTime}
 use Rattle.h1_app.specs.Sound.{SoundStage, IsKept}
 use Rattle.h1_app.specs.Outcome.{OutcomeCause}
 use Rattle.h1_app.specs.Timely.{StepsInTime}
@@ -29,7 +31,7 @@ JobFrom begins pends from _ = Unit {0}
 
 -- what holds before each step
 pub record StepReady {L C J : Type 0}
-    (runs : J → RequestView → Settings → Settings → List ℕ → Type 0)
+    (runs : Runs J)
     (now : ℕ) (x : Exchange L J C) : Type 0 where
   -- the stage stands where the session and the last exchange do
   pub sound : SoundStage runs x.session x.transcript.last x.stage
@@ -51,7 +53,7 @@ StepRefuses filters session last (outcome.Ends reason) = RefusesLast filters las
 -- what each step leaves of the exchange that is last, and why it goes on, waits or ends
 pub record Stepped {L C J : Type 0} (state : L → LinkState) (pends : J → ℕ)
     (rules : Rules)
-    (runs : J → RequestView → Settings → Settings → List ℕ → Type 0) (now : ℕ) (shutdown : Bool)
+    (runs : Runs J) (now : ℕ) (shutdown : Bool)
     (old new : Exchange L J C) (result : Outcome) : Type 0 where
   -- bytes moved only within the budget, and what the caller keeps stayed
   pub moves : MovesWithin state old.session new.session
@@ -70,16 +72,19 @@ pub record Stepped {L C J : Type 0} (state : L → LinkState) (pends : J → ℕ
   -- reads that were not ready
   pub reads_not_ready : FewReadsNotReady (state old.session.link) (state new.session.link)
       (option_to_list old.transcript.last) (option_to_list new.transcript.last) result
+  -- since when a read of a body waits, and whether the body was refused for its time
+  pub body : BodyInTime now old.session.body.since.read new.session.body.since.read
+      old.transcript.last new.transcript.last
   -- what it leaves of the waits for the link
   pub timely : StepsInTime state now old.stage new.stage old.session new.session
-      new.transcript.last result
+      old.transcript.last new.transcript.last result
   -- why it goes on, waits or ends; a filter may have refused
   pub outcome : OutcomeCause state pends runs old.session new.session new.transcript.last old.stage
       new.stage result ⊎ StepRefuses rules.filters new.session new.transcript.last result
 
 -- the same of a step in which no filter runs, whatever the filters are
 abbrev pub SteppedBy : {L C J : Type 0} → (L → LinkState) → (J → ℕ) → (Given → Reply → Type 0)
-    → (J → RequestView → Settings → Settings → List ℕ → Type 0) → ℕ → Exchange L J C
+    → Runs J → ℕ → Exchange L J C
     → Exchange L J C → Outcome → Type 0
 SteppedBy state pends gives runs now old new result = (filters : Filters) (shutdown : Bool)
     → IfSome old.transcript.last (IsAllowed (record { gives = gives; filters = filters }))

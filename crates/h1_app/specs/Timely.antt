@@ -1,11 +1,12 @@
 -- How long a connection waits for its link. All times are milliseconds.
-use Rattle.std.specs.Prelude.{◌≡◌, ℕ, ◌≤◌, length, ◌⊎◌, Bool, true, false, Option, Some, None}
+use Rattle.std.specs.Prelude.{◌≡◌, ℕ, ◌*◌, ◌≤◌, length, ◌⊎◌, Bool, true, false, Option, Some, None}
 use Rattle.h1_app.specs.Words.{End, Error, ErrorType, LinkState, Progress, Rose, SessionView, Entry, Stage, Outcome}
 use Rattle.h1_error.specs.declared.error.ErrorType.TheVariants as kind
 use Rattle.h1_error.specs.declared.progress.End.TheVariants as end
 use Rattle.h1_error.specs.declared.progress.Progress.TheVariants as progress
 use Rattle.h1_error.specs.declared.progress.Waiting.TheVariants as waiting
 use Rattle.h1_server.specs.Times.{drain_limits}
+use Rattle.h1_transcript.specs.declared.transcript.TheConstants.{KEEPALIVE_SECONDS}
 use Rattle.h1_transfer.specs.Deadline.{Noted, Wait, is_over, noted_since}
 use Rattle.h1_transfer.specs.ReadWaits.{is_drain_over, noted_rest}
 use Rattle.h1_app.specs.declared.exchange.Outcome.TheVariants as outcome
@@ -23,9 +24,12 @@ abbrev pub wait_at : ℕ → Option ℕ → Bool → Option ℕ → Wait
 wait_at now limit moved since =
     record { deadline = record { moment = now; limit = limit }; moved = moved; since = since }
 
--- a head has a minute
+-- how long a head may wait
+abbrev pub head_milliseconds : ℕ
+head_milliseconds = KEEPALIVE_SECONDS * 1000
+
 abbrev pub head_wait : ℕ → Bool → Work → Wait
-head_wait now moved before = wait_at now (Some 60000) moved (head_since before)
+head_wait now moved before = wait_at now (Some head_milliseconds) moved (head_since before)
 
 -- What is noted at a moment of a work that goes on from `before`, which it is itself or which isn't
 -- of its kind: that its link was not ready, since when it waits, and whether that is too long; or
@@ -90,25 +94,25 @@ pub record EndsInTime (now : ℕ) (old new : LinkState) (before work : Work) (la
   pub counted : HasMoved moved old new
   pub ends : EndsAsTimed now moved before work new last reason
 
--- What a step at a moment leaves of the waits: work that begins hasn't waited. A step that stops
--- doesn't go back in its exchange.
+-- What a step at a moment leaves of the waits, from the exchange that was last to the one that is:
+-- work that begins hasn't waited. A step that stops doesn't go back in its exchange.
 abbrev pub StepsInTime : {L C J : Type 0} → (L → LinkState) → ℕ → Stage J → Stage J
-    → SessionView L C → SessionView L C → Option Entry → Outcome → Type 0
-StepsInTime state now from to old new last outcome.Done = IsUnwaited (work_at to new)
-StepsInTime state now from to old new last (outcome.Waits what) =
+    → SessionView L C → SessionView L C → Option Entry → Option Entry → Outcome → Type 0
+StepsInTime state now from to old new first last outcome.Done = IsUnwaited (work_at to last new)
+StepsInTime state now from to old new first last (outcome.Waits what) =
     (rank to ≤ rank from)
-    × WaitsInTime now (state old.link) (state new.link) (work_at from old) (work_at to new)
-    (new.budget ≡ Some 0)
-StepsInTime state now from to old new last (outcome.Ends reason) =
+    × WaitsInTime now (state old.link) (state new.link) (work_at from first old)
+    (work_at to last new) (new.budget ≡ Some 0)
+StepsInTime state now from to old new first last (outcome.Ends reason) =
     (rank to ≤ rank from)
-    × EndsInTime now (state old.link) (state new.link) (work_at from old) (work_at to new) last
-    reason
+    × EndsInTime now (state old.link) (state new.link) (work_at from first old)
+    (work_at to last new) last reason
 
 -- the same of a step of a connection
 abbrev pub TurnsInTime : {L C A J : Type 0} → (L → LinkState) → ℕ → View L C A J → View L C A J
     → Outcome → Type 0
 TurnsInTime state now from to result =
-    StepsInTime state now from.stage to.stage from.session to.session to.last result
+    StepsInTime state now from.stage to.stage from.session to.session from.last to.last result
 
 -- what the connection did before a poll, where it still does it
 abbrev pub work_before : {L C A J : Type 0} → View L C A J → View L C A J → Work

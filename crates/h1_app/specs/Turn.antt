@@ -5,6 +5,7 @@ use Rattle.h1_error.specs.declared.progress.Waiting.TheVariants.{Budget}
 use Rattle.h1_app.specs.declared.exchange.Stage.TheVariants as stage
 use Rattle.h1_app.specs.declared.exchange.Outcome.TheVariants as outcome
 use Rattle.h1_app.specs.Accounted.{Accounted}
+use Rattle.h1_app.specs.BodyTimes.{BodyInTime}
 use Rattle.h1_app.specs.Step.{MovesWithin}
 use Rattle.h1_app.specs.Pace.{rank, ahead}
 use Rattle.h1_app.specs.Outcome.{WaitsOn}
@@ -48,6 +49,7 @@ pub record Gone {L C A J : Type 0} (state : L → LinkState) (same_plan : L → 
   pub extends : Extends now shutdown (state from.session.link) (state to.session.link)
       (entries from) (entries to)
   pub longer : length from.done ≤ length to.done
+  pub body : BodyInTime now from.session.body.since.read to.session.body.since.read from.last to.last
 
 -- whether the connection waits or ends
 abbrev pub stops : Outcome → Bool

@@ -49,7 +49,7 @@ limit_of (Some options) = options.keepalive_request_limit
 
 -- what the connection does that may wait only so long, and since when it waits
 abbrev pub work_of : {L C A J : Type 0} → View L C A J → Work
-work_of view = work_at view.stage view.session
+work_of view = work_at view.stage view.last view.session
 
 -- a connection that read and wrote nothing yet
 pub record IsNewConnection {L C A J : Type 0} (server : A) (options : Option HttpServerOptions)

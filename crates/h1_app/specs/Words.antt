@@ -43,7 +43,7 @@ pub use Rattle.h1_server.specs.Writes.{EndCall, Writes, WritesPiece}
 pub use Rattle.h1_server.specs.declared.request.Request.{Request}
 pub use Rattle.h1_server.specs.declared.settings.Settings.{Settings}
 pub use Rattle.h1_transcript.specs.Alone.{JoinAlone, WithinRead}
-pub use Rattle.h1_transcript.specs.Begun.{AreBegun, BeginsWith, IsNextSet, IsSetAlike, reuses_at}
+pub use Rattle.h1_transcript.specs.Begun.{AreBegun, BeginsWith, IsNextSet, IsSetAlike, head_time, reuses_at}
 pub use Rattle.h1_transcript.specs.Behind.{AfterRead, AfterWrote, DoneBehind, FlushedBy, IsBelow, ReadBehind, StoodAs, WroteBehind, is_until_close, written_of}
 pub use Rattle.h1_transcript.specs.Ends.{AreAllDone, EndCause, FailureCause, IsComplete, IsWrittenShort, LacksSo, LastStands, OfLast}
 pub use Rattle.h1_transcript.specs.Entries.{TranscriptView, replies}

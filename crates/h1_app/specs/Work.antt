@@ -1,6 +1,6 @@
 -- What a connection does that may wait for its link only so long. All times are milliseconds.
-use Rattle.std.specs.Prelude.{◌≡◌, ℕ, ◌==◌, Option, None, if◌then◌else◌}
-use Rattle.h1_app.specs.Words.{Outgoing, SessionView, Stage}
+use Rattle.std.specs.Prelude.{◌≡◌, ℕ, ◌==◌, Option, Some, None, if◌then◌else◌}
+use Rattle.h1_app.specs.Words.{Entry, Outgoing, SessionView, Stage}
 use Rattle.h1_app.specs.declared.exchange.Stage.TheVariants as stage
 use Rattle.h1_server.specs.Times.{piece_limit}
 use Rattle.h1_server.specs.declared.times.Times.{Times}
@@ -11,7 +11,7 @@ use Rattle.h1_transfer.specs.declared.since.Since.{Since}
 pub data Work : Type 0 where
   -- it reads a head
   reads_head : Option ℕ → Work
-  -- it reads what is left of a request's body after its reply, with the times that are set
+  -- it reads what is left of a request's body after its reply, with these times
   drains : Times → Since → Work
   -- it writes a piece of a reply's body, which may wait so long
   writes_piece : Option ℕ → Option ℕ → Work
@@ -26,15 +26,28 @@ rest_waits since = record { read = rest_since since; drain = since.drain }
 abbrev pub handed_limit : Times → Outgoing → Option ℕ
 handed_limit times reply = piece_limit times reply.handed
 
--- what a connection does at a stage; a body that is taken up next hasn't waited
-abbrev pub work_at : {L C J : Type 0} → Stage J → SessionView L C → Work
-work_at at session = by at session.settings.times session.reply session.body.since where
-  by : {J : Type 0} → Stage J → Times → Outgoing → Since → Work
-  by stage.Head times reply since = reads_head since.read
-  by stage.TakeBody times reply since = writes_piece (handed_limit times reply) None
-  by stage.Body times reply since = writes_piece (handed_limit times reply) reply.write_since
-  by stage.Drain times reply since = drains times (rest_waits since)
-  by _ times reply since = untimed
+-- What a connection does at a stage of the exchange that is last. The times are those that the
+-- exchange's application left set; a body that is taken up next hasn't waited.
+abbrev pub work_at : {L C J : Type 0} → Stage J → Option Entry → SessionView L C → Work
+work_at at last session = by at last session.reply session.body.since where
+  by : {J : Type 0} → Stage J → Option Entry → Outgoing → Since → Work
+  by stage.Head last reply since = reads_head since.read
+  by stage.TakeBody (Some e) reply since = writes_piece (handed_limit e.left.times reply) None
+  by stage.Body (Some e) reply since =
+      writes_piece (handed_limit e.left.times reply) reply.write_since
+  by stage.Drain (Some e) reply since = drains e.left.times (rest_waits since)
+  by _ last reply since = untimed
+
+-- the limits of work on the exchange that is last are those of the times that its application left
+-- set; no other work has any but a head's
+abbrev pub HasTimesLeft : Option Entry → Work → Type 0
+HasTimesLeft last (reads_head since) = Unit {0}
+HasTimesLeft (Some e) (drains times since) = times ≡ e.left.times
+HasTimesLeft (Some e) (writes_piece limit since) =
+    (len : ℕ) × (limit ≡ piece_limit e.left.times len)
+HasTimesLeft None (drains times since) = ⊥
+HasTimesLeft None (writes_piece limit since) = ⊥
+HasTimesLeft last untimed = Unit {0}
 
 -- what was done where so many exchanges were before the last, and still may be where so many are
 abbrev pub work_on : ℕ → ℕ → Work → Work

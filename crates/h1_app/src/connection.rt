@@ -82,6 +82,7 @@ where
     ghost use Rattle.h1_transcript.specs.Alone.{JoinAlone};
     ghost use Rattle.h1_transcript.specs.Growth.{Extends};
     ghost use Rattle.h1_app.specs.Causes.{Cause};
+    ghost use Rattle.h1_app.specs.BodyTimes.{BodyInTime};
     ghost use Rattle.h1_app.specs.Leaves.{Leaves};
     ghost use Rattle.h1_app.specs.Sound.{Sound};
     ghost use Rattle.h1_app.specs.Timely.{IsTimely, TurnsInTime};
@@ -147,6 +148,8 @@ where
         ensures given { IfNone self.new.end
             (IfSome self.new.last (λ e. IsSome e.filtered)) }
         ensures timely { IfNone self.old.end (IsTimely L.state now self.old self.new result) }
+        ensures body { BodyInTime now self.old.session.body.since.read
+            self.new.session.body.since.read self.old.last self.new.last }
         ensures cause { IfNone self.old.end (AccountedFrom L.state self.old (λ before.
             Cause (rules_of SV.gives B.HttpModuleBuilder B.Module.HttpModule self.new.served).filters
             L.state SV.begins SV.pends before self.old self.new result)) }
@@ -236,6 +239,14 @@ where
         ensures { transcript_entries result.now ≡ entries self.now }
     {
         &self.exchange.transcript
+    }
+
+    /// The memory of the exchanges that ended is given back: what a poll says of them stays, but
+    /// they are read no more.
+    pub fn forget_ended(&mut self)
+        ensures { self.new ≡ self.old }
+    {
+        self.exchange.transcript.forget_ended();
     }
 
     /// Why the connection ended.

@@ -1,3 +1,4 @@
 pub mod SettingLemmas
 pub mod ReadLemmas
+pub mod TimeLemmas
 pub mod Words

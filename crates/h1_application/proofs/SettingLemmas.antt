@@ -1,8 +1,10 @@
 -- What an application sets is no matter to what it reads.
-use Rattle.std.proofs.Common.{◌≡◌, ◌∙◌}
+use Rattle.std.proofs.Common.{◌≡◌, ◌∙◌, ℕ, refl}
 use Rattle.h1_application.specs.Words.{LinkState, SessionView, Settings}
 use Rattle.h1_application.proofs.Words.{ReadsOnly}
+use Rattle.h1_application.specs.Application.{ReadsInTime}
 use Rattle.h1_application.proofs.ReadLemmas.{reads_itself}
+use Rattle.h1_application.proofs.TimeLemmas.{in_time_itself, in_time_set}
 
 -- what is set is no matter to what is read
 pub only_settings : {L C : Type 0} (state : L → LinkState) (old new : SessionView L C)
@@ -42,3 +44,12 @@ pub refusal_reads : {L C : Type 0} (state : L → LinkState) (old closing new : 
 refusal_reads {L} {C} state old closing new first second is then same =
     let set : SessionView L C = record old { settings = second } in
     rw (then, is) (only_settings state old set second same (reads_itself state set))
+
+-- and notes no wait
+pub refusal_in_time : {L C : Type 0} (state : L → LinkState) (now : ℕ)
+    (old closing new : SessionView L C) (first second : Settings)
+    → closing ≡ record old { settings = first } → new ≡ record closing { settings = second }
+    → ReadsInTime state now old new
+refusal_in_time {L} {C} state now old closing new first second is then =
+    let set : SessionView L C = record old { settings = second } in
+    rw (then, is) (in_time_set state now old set set refl (in_time_itself state now set))

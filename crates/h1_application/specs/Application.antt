@@ -1,6 +1,7 @@
 -- What an application may do with a session, and what it is given.
 use Rattle.std.specs.Prelude.{◌≡◌, ℕ, ◌+◌, ◌-◌, ◌≤◌, ◌⊎◌, List, [], ◌++◌, Bool, true, false, Option, Some, None, option_map, unwrap_or, IfSome, Result, Ok, Err}
-use Rattle.h1_application.specs.Words.{Called, no_fault, read_fault_of_kind, Poll, Ready, Pending, Error, LinkState, Rose, raised, reads, Decoded, BodyRefusal, SessionView, Settings}
+use Rattle.h1_application.specs.Words.{Called, no_fault, read_fault_of_kind, Poll, Ready, Pending, Error, ErrorType, LinkState, Rose, raised, reads, Decoded, BodyRefusal, SessionView, Settings}
+use Rattle.h1_error.specs.declared.error.ErrorType.TheVariants as kind
 use Rattle.h1_transfer.specs.Calls.{Fault}
 use Rattle.h1_head.specs.Views.{RequestView}
 use Rattle.h1_body.specs.Body.{Body, whole, unfinished, broken}
@@ -10,6 +11,7 @@ use Rattle.h1_transfer.specs.declared.body.BodyState.{BodyState}
 use Rattle.h1_transcript.specs.declared.reply.Reply.{Reply}
 use Rattle.h1_transcript.specs.declared.transcript.How.{How}
 use Rattle.h1_transcript.specs.declared.transcript.How.TheVariants.{Open, Whole, Failed}
+use Rattle.h1_transcript.specs.BodyLimits.{IsNotedAt, IsOverAt}
 use Rattle.h1_transcript.specs.Given.{Given}
 
 -- how the reading of the body stands: refused, at the end, or neither
@@ -32,6 +34,7 @@ given_by head began session =
       handed = payload_of session;
       how = how_of session.body;
       body_error = session.body.refused;
+      read_limit = session.read_limit;
       began = began;
       left = session.settings;
     }
@@ -118,9 +121,35 @@ PendsBy (Ready value) before now waits = now ≡ before
 PendsBy Pending before now true = now ≡ before
 PendsBy Pending before now false = now ≡ raised before 1
 
+-- How a job stands for the request with this head: with what was set as it started, what is set now,
+-- the payload that it was handed, and the limit that a read reached which timed out.
+abbrev pub Runs : Type 0 → Type 1
+Runs J = J → RequestView → Settings → Settings → List ℕ → Option ℕ → Type 0
+
 -- the session's request has this head
 abbrev pub IsAskedFor : {L C : Type 0} → RequestView → SessionView L C → Type 0
 IsAskedFor head session = IfSome session.request (λ request. request.header ≡ head)
+
+-- The limit that a read reached which timed out is noted with the refusal, and stays: the read
+-- timeout that was in force at that read. Nothing else is noted.
+abbrev pub LimitedFor : ℕ → Option ℕ → Option ℕ → Option ℕ → ErrorType → Type 0
+LimitedFor now since before behind kind.ReadTimedout = IsOverAt now since behind
+LimitedFor now since before behind _ = behind ≡ before
+
+abbrev pub LimitedBy : ℕ → Option ℕ → Option ℕ → Option ℕ → Option Error → Option Error → Type 0
+LimitedBy now since before behind (Some error) refused = behind ≡ before
+LimitedBy now since before behind None None = behind ≡ before
+LimitedBy now since before behind None (Some error) = LimitedFor now since before behind error.kind
+
+-- What the application notes of the time that its reads wait, in a call at this moment.
+pub record ReadsInTime {L C : Type 0} (state : L → LinkState) (now : ℕ)
+    (old new : SessionView L C) : Type 0 where
+  -- a read of the body waits since the call, or it waited before and no byte moved
+  pub since : IsNotedAt now (state old.link).moves (state new.link).moves old.body.since.read
+      new.body.since.read
+  -- a body that is refused for its time has reached the limit that is noted
+  pub limit : LimitedBy now new.body.since.read old.read_limit new.read_limit old.body.refused
+      new.body.refused
 
 -- no read was pending or refused, and each link call moved bytes
 pub record ReadsAtOnce {L C : Type 0} (state : L → LinkState)

@@ -1,11 +1,11 @@
 //! What an application is to a connection.
-ghost use Rattle.std.specs.Prelude.{◌≡◌, ℕ, ◌<◌, ◌≤◌, List, [], IfOk, IfErr, IsSome, false};
+ghost use Rattle.std.specs.Prelude.{◌≡◌, ℕ, ◌<◌, ◌≤◌, List, [], Option, None, IfOk, IfErr, IsSome, false};
 ghost use Rattle.h1_error.specs.declared.moment.TheConstants.{YEAR_10000};
 ghost use Rattle.h1_error.specs.Memory.{no_memory};
 ghost use Rattle.h1_server.specs.declared.settings.Settings.{Settings};
 ghost use Rattle.h1_head.specs.Views.{RequestView};
 ghost use Rattle.h1_transcript.specs.Given.{Given};
-ghost use Rattle.h1_application.specs.Application.{ReadsOnly, IfPending, GivesReply, given_by, PendsBy, IsAskedFor, payload_of};
+ghost use Rattle.h1_application.specs.Application.{ReadsOnly, ReadsInTime, IfPending, GivesReply, given_by, PendsBy, IsAskedFor, payload_of};
 ghost use Rattle.h1_transcript.specs.Lawful.{LawfulReplies};
 ghost use Rattle.h1_transcript.specs.declared.reply.Reply.{Reply};
 
@@ -19,7 +19,8 @@ use std::alloc::Global;
 /// An application: it is started for each request, reads the body and replies.
 ///
 /// Its relation `gives` says which reply it gives to what it was given. It only reads the body, and
-/// after a call nothing is left unread where a read was pending (`reads`). Pipelining is off until it
+/// after a call nothing is left unread where a read was pending (`reads`). It reads at the moment that
+/// it is handed (`timed`). Pipelining is off until it
 /// turns it on, by `set_pipelining_enabled` of the session.
 pub trait ServeHttp<L: Link + Drop, C: Drop> {
     /// What the application keeps of one request between polls.
@@ -39,14 +40,15 @@ pub trait ServeHttp<L: Link + Drop, C: Drop> {
     ghost pends: { Self.Job → ℕ };
 
     /// How a job stands for the request with this head: with what was set as it started, what is
-    /// set now, and the payload that it was handed.
-    ghost runs: { Self → Self.Job → RequestView → Settings → Settings → List ℕ → Type 0 };
+    /// set now, the payload that it was handed, and the limit that a read reached which timed out.
+    ghost runs: { Self → Self.Job → RequestView → Settings → Settings → List ℕ → Option ℕ
+        → Type 0 };
 
     /// Starts a job. Its only error is being out of memory.
     fn start(&self, alloc: Global) -> Result<Self::Job, Error>
         ensures begins { IfOk result begins }
         ensures runs { IfOk result (λ job. (head : RequestView) (began : Settings)
-            → runs self.now job head began began []) }
+            → runs self.now job head began began [] None) }
         ensures memory { IfErr result (λ error. error ≡ no_memory) };
 
     /// Goes on with a job. Its only error is being out of memory.
@@ -64,12 +66,16 @@ pub trait ServeHttp<L: Link + Drop, C: Drop> {
         requires moment { now < YEAR_10000 }
         ensures reads { ReadsOnly L.state http.old http.new }
         ensures plan { L.same_plan http.old.link http.new.link }
+        ensures timed { ReadsInTime L.state now http.old http.new }
         ensures runs { (head : RequestView) (began : Settings) → IsAskedFor head http.old
             → runs self.now job.old head began http.old.settings (payload_of http.old)
+            http.old.read_limit
             → IfPending result
-            (runs self.now job.new head began http.new.settings (payload_of http.new)) }
+            (runs self.now job.new head began http.new.settings (payload_of http.new)
+            http.new.read_limit) }
         ensures gives { (head : RequestView) (began : Settings) → IsAskedFor head http.old
             → runs self.now job.old head began http.old.settings (payload_of http.old)
+            http.old.read_limit
             → GivesReply (gives self.now) (given_by head began http.new)
             (λ error. error ≡ no_memory) result }
         ensures never_falls { pends job.old ≤ pends job.new }

@@ -114,6 +114,11 @@ fn fail_next_write<SV: ServeHttp<MemLink, ()> + Drop>(served: &mut Served<MemLin
     served.connection.with_link(|link| link.fail_next_write());
 }
 
+/// The memory of the exchanges that ended is given back.
+fn forget_ended<SV: ServeHttp<MemLink, ()> + Drop>(served: &mut Served<MemLink, SV>) {
+    served.connection.forget_ended();
+}
+
 /// Whether the link of the connection was shut.
 fn is_shut<SV: ServeHttp<MemLink, ()> + Drop>(served: &Served<MemLink, SV>) -> bool {
     served.connection.link().is_shut()

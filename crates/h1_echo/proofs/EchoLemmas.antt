@@ -8,15 +8,16 @@ use Rattle.std.proofs.lemmas.Fmt.{decimal_is_IsNumeral, decimal_digit}
 use Rattle.std.proofs.lemmas.Str.Parse.{digit_from_value}
 use Rattle.std.proofs.lemmas.Bool.{ne_eqb, false≢true}
 use Rattle.httparse.specs.Grammar.{is_token, is_token_byte}
-use Rattle.h1_echo.specs.Words.{Error, NoMemory, no_memory, ErrorType, Ready, LinkState, SessionView, Stopped, ReadsAtOnce, ReadsOnly, GivesReply, payload_of, how_of, Given, Reply, Open, Whole, Failed, RequestView, ResponseView, new_response, Settings, line_fault, RefusedFor}
+use Rattle.h1_echo.specs.Words.{Error, NoMemory, no_memory, ErrorType, Ready, LinkState, SessionView, Stopped, ReadsAtOnce, ReadsInTime, ReadsOnly, GivesReply, payload_of, how_of, Given, Reply, Open, Whole, Failed, RequestView, ResponseView, new_response, Settings, line_fault, RefusedFor}
 use Rattle.h1_error.specs.declared.head_fault.HeadFault.{HeadFault}
 use Rattle.futures.specs.declared.task.Poll.{Poll}
-use Rattle.h1_server.specs.Limit.{limited}
-use Rattle.h1_server.specs.Payload.{ReadsPayload}
+use Rattle.h1_error.specs.declared.error.ErrorType.TheVariants as kind
+use Rattle.h1_server.specs.Limit.{limited, shown}
+use Rattle.h1_server.specs.Payload.{ReadsPayload, limit_behind}
 use Rattle.h1_server.specs.declared.limit.Limit.{Limit}
 use Rattle.h1_transfer.specs.Payload.{refused_behind}
 use Rattle.h1_echo.proofs.Words.{Reading, refused_reply, echo_settings}
-use Rattle.h1_echo.specs.EchoRun.{EchoRuns, StopCause, IsStopOf}
+use Rattle.h1_echo.specs.EchoRun.{EchoRuns, KeepsLimit, StopCause, IsStopOf}
 use Rattle.h1_application.specs.Application.{given_by, IsAskedFor}
 use Rattle.h1_echo.specs.declared.echo.Stopped.TheVariants as stopped
 use Rattle.h1_echo.specs.Echo.{EchoGives, echo_reply}
@@ -25,6 +26,7 @@ use Rattle.h1_transfer.specs.declared.body.BodyState.{BodyState}
 use Rattle.h1_application.proofs.ReadLemmas.{reads_itself, reads_on}
 use Rattle.h1_head.specs.Faults.{is_text, is_text_byte}
 use Rattle.h1_application.proofs.SettingLemmas.{only_settings}
+use Rattle.h1_application.proofs.TimeLemmas.{in_time_itself, in_time_on, in_time_set}
 
 -- the name is a token
 name_is : is_token (codes "content-length") ≡ true
@@ -95,11 +97,45 @@ stop_cause P {L} {C} state now old new error stop again reads is =
     by_kind _ is refused h = subst (λ s. StopCause state old new (Some s)) (sym h)
         (error, refused (λ never. let clash = sym is ∙ never in cc))
 
+-- what a read that failed notes of its limit; `P` is what reads give
+pub stop_limit : (P : Type 0) {L C : Type 0} (old new : SessionView L C) (limit : Option ℕ)
+    (error : Error) (stop : Stopped)
+    → IfSome old.body.refused
+    (λ kept. (◌≡◌ {A = Poll (Result P Error)} (Ready (Err error)) (Ready (Err kept)))
+    × (new ≡ old))
+    → IfNone old.body.refused
+    (new.read_limit ≡ limit_behind {T = P} limit old.read_limit (Ready (Err error)))
+    → IsStopOf error.kind stop → KeepsLimit limit old.read_limit new.read_limit (Some stop)
+stop_limit P {L} {C} old new limit error stop again noted is =
+    by_kind error.kind refl (by_refused old.body.refused again noted) is
+  where
+    by_refused : (o : Option Error)
+        → IfSome o (λ kept. (◌≡◌ {A = Poll (Result P Error)} (Ready (Err error)) (Ready (Err kept)))
+        × (new ≡ old))
+        → IfNone o (new.read_limit ≡ limit_behind {T = P} limit old.read_limit (Ready (Err error)))
+        → (new.read_limit ≡ old.read_limit)
+        ⊎ (new.read_limit ≡ limit_behind {T = P} limit old.read_limit (Ready (Err error)))
+    by_refused None again noted = inr noted
+    by_refused (Some kept) again noted = inl (ap (λ (s : SessionView L C). s.read_limit) again.1)
+
+    by_kind : (k : ErrorType) → error.kind ≡ k
+        → (new.read_limit ≡ old.read_limit)
+        ⊎ (new.read_limit ≡ limit_behind {T = P} limit old.read_limit (Ready (Err error)))
+        → IsStopOf k stop → KeepsLimit limit old.read_limit new.read_limit (Some stop)
+    by_kind NoMemory same (inl kept) h = rw h kept
+    by_kind NoMemory same (inr noted) h = rw h (rw same at noted)
+    by_kind kind.ReadTimedout same (inl kept) h = rw h (inl kept)
+    by_kind kind.ReadTimedout same (inr noted) h = rw h (inr (rw same at noted))
+    by_kind _ same (inl kept) h = rw h (inl kept)
+    by_kind _ same (inr noted) h = rw h (inl (rw same at noted))
+
 -- nothing is read yet
-pub reading_itself : {L C : Type 0} (state : L → LinkState) (s : SessionView L C)
-    → IsSome s.request → IsSome s.body.kept → IsSome s.budget → Reading state s s
-reading_itself state s request kept budget = record {
+pub reading_itself : {L C : Type 0} (state : L → LinkState) (now : ℕ) (s : SessionView L C)
+    → IsSome s.request → IsSome s.body.kept → IsSome s.budget → Reading state now s s
+reading_itself state now s request kept budget = record {
   only = reads_itself state s;
+  timed = in_time_itself state now s;
+  limit = refl;
   free = record { refused = refl; waits = refl; link_waits = refl; calls = called_itself (state s.link) };
   settings = refl;
   request = request;
@@ -112,11 +148,14 @@ is_some_mapped f None h = absurd (false≢true h)
 is_some_mapped f (Some x) h = refl
 
 -- one read more
-pub reading_on : {L C : Type 0} (state : L → LinkState) (old new next : SessionView L C)
-    → Reading state old new → ReadsOnly state new next → ReadsAtOnce state new next
-    → next.settings ≡ new.settings → Reading state old next
-reading_on state old new next reading reads free settings = record {
+pub reading_on : {L C : Type 0} (state : L → LinkState) (now : ℕ) (old new next : SessionView L C)
+    → Reading state now old new → ReadsOnly state new next → ReadsInTime state now new next
+    → next.read_limit ≡ new.read_limit → ReadsAtOnce state new next
+    → next.settings ≡ new.settings → Reading state now old next
+reading_on state now old new next reading reads timed limit free settings = record {
   only = reads_on state old new next reading.only reading.free reads;
+  timed = in_time_on state now old new next reading.free.refused reading.timed timed;
+  limit = limit ∙ reading.limit;
   free = record {
     refused = free.refused ∙ reading.free.refused;
     waits = free.waits ∙ reading.free.waits;
@@ -128,6 +167,13 @@ reading_on state old new next reading reads free settings = record {
   kept = subst IsSome (sym reads.kept) (is_some_mapped _ new.body.kept reading.kept);
   budget = subst IsSome (sym reads.budget) (is_some_mapped _ new.budget reading.budget);
 }
+
+-- a limit that is noted in a later read
+pub limit_further : (stop : Option Stopped) (old new : Settings) (first second third : Option ℕ)
+    → new ≡ old → second ≡ first
+    → KeepsLimit (shown new.times.read) second third stop
+    → KeepsLimit (shown old.times.read) first third stop
+limit_further stop old new first second third settings same h = rw (settings, same) at h
 
 coding_name_is : is_token (codes "transfer-encoding") ≡ true
 unfolding is_token_byte
@@ -157,6 +203,11 @@ pub reads_with_settings : {L C : Type 0} (state : L → LinkState) (old begun ne
 reads_with_settings state old begun new is there set reads =
     only_settings state old new begun.settings (set_reuses old.request old.settings begun.settings there set)
     (subst (λ s. ReadsOnly state s new) is reads)
+
+pub timed_with_settings : {L C : Type 0} (state : L → LinkState) (now : ℕ)
+    (old begun new : SessionView L C) → begun ≡ record old { settings = begun.settings }
+    → ReadsInTime state now begun new → ReadsInTime state now old new
+timed_with_settings state now old begun new is timed = in_time_set state now old begun new is timed
 
 -- how the body stands where its reading was refused
 how_failed : (body : BodyState) (error : Error) → body.refused ≡ Some error → how_of body ≢ Open
@@ -206,40 +257,60 @@ module _ {L C : Type 0} (state : L → LinkState) (old begun new : SessionView L
     (settings : IfSome old.request (λ r. begun.settings ≡ echo_settings r.header old.settings))
     (reads : ReadsOnly state begun new) (kept : new.settings ≡ begun.settings)
     (head : RequestView) (began : Settings) (asked : IsAskedFor head old)
-    (runs : EchoRuns head began old.settings) where
+    (runs : EchoRuns head began old.settings old.read_limit) where
   left_so : new.settings ≡ echo_settings head began
   left_so = kept
       ∙ settings_are old.request head began old.settings begun.settings request asked settings runs.settings
+
+  -- no limit was noted before the call
+  unlimited : begun.read_limit ≡ None
+  unlimited = ap (λ (s : SessionView L C). s.read_limit) set ∙ runs.limit_is
+
+  -- the one that was in force is that of the start
+  limited_so : (limit : Option ℕ)
+      → (limit ≡ begun.read_limit) ⊎ (limit ≡ shown begun.settings.times.read)
+      → IfSome limit (λ n. shown began.times.read ≡ Some n)
+  limited_so limit (inl same) = rw (same ∙ unlimited) tt
+  limited_so limit (inr in_force) = rw in_force (by (shown began.times.read) (ap (λ (s : Settings). shown s.times.read)
+      (settings_are old.request head began old.settings begun.settings request asked settings runs.settings)))
+    where
+      by : (o : Option ℕ) → shown begun.settings.times.read ≡ o
+          → IfSome (shown begun.settings.times.read) (λ n. o ≡ Some n)
+      by None same = rw same tt
+      by (Some n) same = rw same refl
 
   request_is : new.request ≡ old.request
   request_is = reads.request ∙ ap (λ (s : SessionView L C). s.request) set
 
   pub gives_whole : (left : SessionView L C) (result : Result Reply Error) → left ≡ new
-      → (how_of new.body ≡ Whole) × (new.body.refused ≡ None)
+      → (how_of new.body ≡ Whole) × (new.body.refused ≡ None) → new.read_limit ≡ begun.read_limit
       → IfOk result
       (λ reply. IfSome new.request (λ r. reply ≡ echo_reply r.header (payload_of new) None))
       → IfOk result (λ reply. length reply.body < 2 ^ 63)
       → IfErr result (λ error. error ≡ no_memory)
       → GivesReply EchoGives (given_by head began left) (λ error. error ≡ no_memory) (Ready result)
-  gives_whole left result same ended ok fits err =
+  gives_whole left result same ended limit ok fits err =
       subst (λ s. GivesReply EchoGives (given_by head began s) (λ error. error ≡ no_memory) (Ready result))
       (sym same)
       (answers (given_by head began new) (echo_reply head (payload_of new) None) result (λ small. record {
         small = small;
         read = λ stands. let never : Whole ≡ Open = sym ended.0 ∙ stands in cc;
         left = left_so;
+        limit = limited_so new.read_limit (inl limit);
         is = rw ended.1 refl;
       }) (reply_to_head old.request head (payload_of new) result request asked (rw request_is at ok)) fits err)
 
   pub gives_refused : (result : Result Reply Error)
       → (error : Error) × (new.body.refused ≡ Some error)
+      → (new.read_limit ≡ begun.read_limit) ⊎ (new.read_limit ≡ shown begun.settings.times.read)
       → IfOk result (λ reply. reply ≡ refused_reply) → IfErr result (λ error. error ≡ no_memory)
       → GivesReply EchoGives (given_by head began new) (λ error. error ≡ no_memory) (Ready result)
-  gives_refused result refused ok err =
+  gives_refused result refused limit ok err =
       answers (given_by head began new) refused_reply result (λ small. record {
         small = small;
         read = how_failed new.body refused.0 refused.1;
         left = left_so;
+        limit = limited_so new.read_limit limit;
         is = rw refused.1 refl;
       }) ok (empty result ok) err
     where

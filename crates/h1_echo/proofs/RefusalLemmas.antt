@@ -1,5 +1,5 @@
 -- An application that refuses each request at once.
-use Rattle.std.proofs.Common.{◌≡◌, ◌≢◌, IfErr, IfOk, Err, Ok, Result, Some, codes, refl, sym, arith}
+use Rattle.std.proofs.Common.{◌≡◌, ◌≢◌, IfErr, IfOk, Err, Ok, Result, Some, None, codes, refl, sym, arith}
 use Rattle.std.proofs.lemmas.Fmt.{decimal_digit}
 use Rattle.h1_echo.specs.Words.{Ready, Error, no_memory, Reply, Open, Failed, RefusedFor, line_fault, Given, GivesReply, IsLawful}
 use Rattle.h1_echo.proofs.Words.{echo_settings, refused_reply}
@@ -13,8 +13,13 @@ not_open = λ is. cc
 pub refused_lawful : (given : Given) (reply : Reply) → reply ≡ refused_reply → IsLawful reply.header
 refused_lawful given reply is =
     let refused : Given =
-    record given { how = Failed; body_error = Some no_memory; left = echo_settings given.head given.began } in
-    echo_lawful refused reply (record { read = not_open; left = refl; is = is; small = rw is (omega arith) })
+    record given {
+      how = Failed;
+      body_error = Some no_memory;
+      read_limit = None;
+      left = echo_settings given.head given.began;
+    } in
+    echo_lawful refused reply (record { read = not_open; left = refl; is = is; limit = tt; small = rw is (omega arith) })
 
 -- the line that states no body is refused only where memory ran out
 pub refusal_memory : (error : Error)

@@ -1,9 +1,9 @@
 -- What the echo application replies.
-use Rattle.std.specs.Prelude.{◌≡◌, ◌≢◌, ℕ, ◌+◌, ◌^◌, ◌<◌, List, [], ◌∷◌, ◌++◌, length, not, Option, Some, None, codes, bytes_eq, if◌then◌else◌}
+use Rattle.std.specs.Prelude.{◌≡◌, ◌≢◌, ℕ, ◌+◌, ◌^◌, ◌<◌, List, [], ◌∷◌, ◌++◌, length, not, Option, Some, None, IfSome, codes, bytes_eq, if◌then◌else◌}
 use Rattle.std.specs.Fmt.{decimal}
 use Rattle.h1_echo.specs.Words.{Error, RequestView, new_response, Settings, Reply, Open, Given}
 use Rattle.h1_fields.specs.Lines.{Line}
-use Rattle.h1_server.specs.Limit.{limited}
+use Rattle.h1_server.specs.Limit.{limited, shown}
 use Rattle.h1_server.specs.declared.limit.Limit.{Limit}
 
 -- the body of an echo: the method, the target and the request's body
@@ -55,5 +55,7 @@ pub record EchoGives (given : Given) (reply : Reply) : Type 0 where
   pub read : given.how ≢ Open
   pub left : given.left ≡ echo_settings given.head given.began
   pub is : reply ≡ echo_reply given.head given.handed given.body_error
+  -- a read of the body timed out only at the read timeout that was set at first
+  pub limit : IfSome given.read_limit (λ limit. shown given.began.times.read ≡ Some limit)
   -- its length can be stated
   pub small : length reply.body < 2 ^ 63

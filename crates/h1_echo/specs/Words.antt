@@ -1,6 +1,6 @@
 -- The names of other crates, and of declared types, that these specs and proofs speak in.
 pub use Rattle.futures.specs.declared.task.Poll.TheVariants.{Ready}
-pub use Rattle.h1_application.specs.Application.{GivesReply, ReadsAtOnce, ReadsOnly, how_of, payload_of}
+pub use Rattle.h1_application.specs.Application.{GivesReply, ReadsAtOnce, ReadsInTime, ReadsOnly, how_of, payload_of}
 pub use Rattle.h1_echo.specs.declared.echo.Stopped.{Stopped}
 pub use Rattle.h1_error.specs.Memory.{no_memory}
 pub use Rattle.h1_error.specs.declared.error.Error.{Error}

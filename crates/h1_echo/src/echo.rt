@@ -1,9 +1,10 @@
 //! An application that replies with what it was asked.
 ghost use Rattle.std.specs.Prelude.{◌≡◌, ◌<◌, ◌^◌, [], length, ⊤, IsSome, IfSome, IfOk, IfErr, Some, None};
 ghost use Rattle.h1_error.specs.Memory.{no_memory};
-ghost use Rattle.h1_application.specs.Application.{ReadsOnly, payload_of};
+ghost use Rattle.h1_application.specs.Application.{ReadsInTime, ReadsOnly, payload_of};
 ghost use Rattle.h1_echo.specs.Echo.{EchoGives, echo_body, echo_fields, echo_reply, refused_reply, echo_settings};
-ghost use Rattle.h1_echo.specs.EchoRun.{EchoRuns, StopCause, IsLonger, IsStopOf};
+ghost use Rattle.h1_echo.specs.EchoRun.{EchoRuns, KeepsLimit, StopCause, IsLonger, IsStopOf};
+ghost use Rattle.h1_server.specs.Limit.{shown};
 
 use futures::task::Poll;
 use h1_application::ServeHttp;
@@ -43,13 +44,13 @@ impl<L: Link + Drop, C: Drop> ServeHttp<L, C> for EchoApp {
 
     ghost pends = { λ _. 0 };
 
-    ghost runs = { λ _ _ head began now _. EchoRuns head began now };
+    ghost runs = { λ _ _ head began now _ limit. EchoRuns head began now limit };
 
     fn start(&self, alloc: Global) -> Result<EchoJob, Error> {
         Ok(EchoJob { alloc })
     }
 
-    #[tactic(auto, using(crate::proofs::EchoLemmas::reads_with_settings))]
+    #[tactic(auto, using(crate::proofs::EchoLemmas::reads_with_settings, crate::proofs::EchoLemmas::timed_with_settings))]
     fn poll_response(
         &self,
         job: &mut EchoJob,
@@ -102,6 +103,9 @@ fn read_body<L: Link + Drop, C: Drop>(http: &mut HttpSession<L, C>, now: u64) ->
     requires kept { IsSome http.old.body.kept }
     requires budget { IsSome http.old.budget }
     ensures reads { ReadsOnly L.state http.old http.new }
+    ensures timed { ReadsInTime L.state now http.old http.new }
+    ensures limit { KeepsLimit (shown http.old.settings.times.read) http.old.read_limit
+        http.new.read_limit (Some result) }
     ensures plan { L.same_plan http.old.link http.new.link }
     ensures settings { http.new.settings ≡ http.old.settings }
     ensures cause { StopCause L.state http.old http.new (Some result) }
@@ -121,6 +125,9 @@ fn read_piece<L: Link + Drop, C: Drop>(http: &mut HttpSession<L, C>, now: u64) -
     requires kept { IsSome http.old.body.kept }
     requires budget { IsSome http.old.budget }
     ensures reads { ReadsOnly L.state http.old http.new }
+    ensures timed { ReadsInTime L.state now http.old http.new }
+    ensures limit { KeepsLimit (shown http.old.settings.times.read) http.old.read_limit
+        http.new.read_limit result }
     ensures plan { L.same_plan http.old.link http.new.link }
     ensures settings { http.new.settings ≡ http.old.settings }
     ensures longer { IsLonger (payload_of http.old) (payload_of http.new) result }

@@ -38,7 +38,7 @@ impl<L: Link + Drop, C: Drop> ServeHttp<L, C> for Greets {
     ghost pends = { λ _. 0 };
 
     // Nothing was set and nothing read since the job began.
-    ghost runs = { λ _ job head began now payload. (now ≡ began) × (payload ≡ []) };
+    ghost runs = { λ _ job head began now payload limit. (now ≡ began) × (payload ≡ []) };
 
     fn start(&self, alloc: Global) -> Result<Global, Error> {
         Ok(alloc)

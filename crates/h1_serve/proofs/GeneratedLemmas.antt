@@ -1,11 +1,9 @@
 -- Lemmas on the numbers that `gen N` tells.
-use Rattle.std.proofs.Common.{◌≡◌, ℕ, zero, suc, ◌+◌, ◌*◌, ◌<◌, ◌≤◌, ◌%◌, List, [], ◌∷◌, ◌++◌, length, take, map, option_to_list, Option, Some, refl, sym, ap, subst, ◌∙◌, arith, append-nil, length-append, codes}
-use Rattle.std.specs.List.{slice_get}
+use Rattle.std.proofs.Common.{◌≡◌, ℕ, zero, suc, ◌+◌, ◌*◌, ◌<◌, ◌≤◌, ◌%◌, List, [], ◌∷◌, ◌++◌, length, take, map, get_or, option_to_list, Option, Some, refl, sym, ap, subst, ◌∙◌, arith, append-nil, length-append, codes}
 use Rattle.std.proofs.lemmas.List.{take_more, length-replicate}
 use Rattle.std.proofs.lemmas.List.Concat.{flat_map-cons}
 use Rattle.std.proofs.lemmas.List.Folds.{length-flat_map-take}
 use Rattle.std.proofs.lemmas.List.{flat_map_more}
-use Rattle.std.proofs.lemmas.Option.{slice_get_within, get_or_from_slice_get}
 use Rattle.h1_error.specs.declared.progress.End.{End}
 use Rattle.h1_error.specs.declared.progress.End.TheVariants as end
 use Rattle.h1_error.specs.declared.progress.Progress.TheVariants as progress
@@ -30,11 +28,10 @@ pub record MoreBodies (exchanges : List Entry) (i : ℕ) (e : Entry) : Type 0 wh
       ≡ length (bodies (take i exchanges)) + length e.body
   pub most : length (bodies (take i exchanges)) + length e.body ≤ length (bodies exchanges)
 
-pub more_bodies : (exchanges : List Entry) (i : ℕ) (e : Entry) → Some e ≡ slice_get exchanges i
-    → MoreBodies exchanges i e
-more_bodies exchanges i e at =
-    let within = slice_get_within exchanges i e (sym at) in
-    let item = get_or_from_slice_get exchanges i e e (sym at) in
+pub more_bodies : (exchanges : List Entry) (i : ℕ) (e : Entry) → i < length exchanges
+    → e ≡ get_or exchanges i e → MoreBodies exchanges i e
+more_bodies exchanges i e within at =
+    let item = sym at in
     let taken : take (i + 1) exchanges ≡ take i exchanges ++ e ∷ [] =
     take_more exchanges i e within ∙ ap (λ (x : Entry). take i exchanges ++ x ∷ []) item in
     let joined : bodies (take i exchanges) ++ e.body ≡ bodies (take i exchanges ++ e ∷ []) =

@@ -22,6 +22,7 @@ use Rattle.h1_app.specs.Accounted.{Accounted}
 use Rattle.h1_transcript.specs.Agrees.{Agrees}
 use Rattle.h1_transcript.specs.Growth.{Extends}
 use Rattle.h1_app.specs.Leaves.{Leaves}
+use Rattle.h1_app.proofs.WorkLemmas.{times_left}
 use Rattle.h1_app.specs.Timely.{IsTimely}
 use Rattle.h1_app.specs.Causes.{Cause, WaitCause, PendedNew, PendedOn, PendedBy}
 use Rattle.h1_words.specs.declared.command.Command.TheVariants as command
@@ -284,6 +285,7 @@ polls begins place moment old new answer running polled before behind answered =
           if_some old.connection.end _ _ (λ reason same. (same.0, same_state old new polled.shut same.1)) polled.ended;
       leaves = polled.leaves;
       timely = if_none old.connection.end _ _ (timely_so moment old new answer) polled.timely;
+      left = times_left new.connection.stage new.connection.last new.connection.session;
       cause = if_none old.connection.end _ _ (answer_cause begins old new answer answered) polled.cause;
     }
 

@@ -4,7 +4,7 @@ use Rattle.std.specs.Prelude.{if◌then◌else◌}
 use Rattle.std.proofs.lemmas.Bool.Decides.{nat_tests}
 use Rattle.h1_link.specs.LinkState.{LinkState}
 use Rattle.h1_transfer.specs.Deadline.{is_late, left_of, start_of}
-use Rattle.h1_app.specs.Timely.{IsLateHead, WaitsInTime, wait_at}
+use Rattle.h1_app.specs.Timely.{IsLateHead, WaitsInTime, head_milliseconds, wait_at}
 use Rattle.h1_app.specs.Work.{Work, head_since, reads_head, untimed}
 use Rattle.h1_serve.specs.PollLine.{work_before}
 use Rattle.h1_serve.specs.State.{State}
@@ -30,10 +30,10 @@ left_here moment limit false since here = here
 pub never_late : (moment : ℕ) (moved : Bool) (before work : Work)
     → IsSinceHere moment (head_since before) → IsLateHead moment moved before work → ⊥
 never_late moment moved before (reads_head since) here late =
-    let over : is_late (record { moment = moment; limit = Some 60000 }) moment ≡ true =
-    ap (λ start. is_late (record { moment = moment; limit = Some 60000 }) start)
-    (sym (start_here moment (Some 60000) moved (head_since before) here)) ∙ late in
-    let reached : moment + 60000 ≤ moment = grind (arith, nat_tests, over) in
+    let over : is_late (record { moment = moment; limit = Some head_milliseconds }) moment ≡ true =
+    ap (λ start. is_late (record { moment = moment; limit = Some head_milliseconds }) start)
+    (sym (start_here moment (Some head_milliseconds) moved (head_since before) here)) ∙ late in
+    let reached : moment + head_milliseconds ≤ moment = grind (arith, nat_tests, over) in
     omega (arith, reached)
 never_late moment moved before _ here late = late
 
@@ -51,7 +51,7 @@ pub since_behind : (moment : ℕ) (old new : LinkState) (before work : Work) (sp
     → IsSinceHere moment (head_since work)
 since_behind moment old new before (reads_head since) spent here w = elim w.waits [
   | inl waits ↦ inr (waits.noted ∙ ap Some
-      (start_here moment (Some 60000) w.moved (head_since before) here))
-  | inr stops ↦ rw stops.1 (left_here moment (Some 60000) w.moved (head_since before) here)
+      (start_here moment (Some head_milliseconds) w.moved (head_since before) here))
+  | inr stops ↦ rw stops.1 (left_here moment (Some head_milliseconds) w.moved (head_since before) here)
 ]
 since_behind moment old new before _ spent here w = inl refl

@@ -19,7 +19,7 @@ use Rattle.h1_transcript.specs.Told.{ToldGrowth}
 use Rattle.h1_transcript.specs.Entries.{replies}
 use Rattle.h1_app.specs.Leaves.{Leaves}
 use Rattle.h1_app.specs.Timely.{EndsInTime, WaitsInTime}
-use Rattle.h1_app.specs.Work.{Work, work_on}
+use Rattle.h1_app.specs.Work.{HasTimesLeft, Work, work_on}
 use Rattle.h1_serve.specs.State.{State, new_link, rules, transcript}
 use Rattle.h1_serve.specs.LinkDoes.{GivesAhead, TakesWithin, FailsAsPlanned}
 use Rattle.h1_transfer.specs.declared.budget.TheConstants.{CALL_BUDGET}
@@ -85,6 +85,8 @@ pub record Polls (moment : ℕ) (s : State) (answer : Progress) (t : State) : Ty
   -- a read or a write that failed is told, by the end or in the last exchange
   pub leaves : IfNone s.end (Leaves s.link t.link t.last t.end)
   pub timely : IfNone s.end (AnswersInTime moment s t answer)
+  -- the limits are those that the application left
+  pub left : HasTimesLeft t.last t.work
   pub cause : IfNone s.end (AnswerCause s t answer)
 
 -- poll N: ANSWER

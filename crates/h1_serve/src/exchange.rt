@@ -4,27 +4,34 @@ ghost use Rattle.h1_transcript.specs.Entries.{transcript_entries};
 ghost use Rattle.h1_serve.specs.ExchangeText.{version_text, request_line, field_line, field_lines, body_line, exchange_lines, exchanges_lines, wrote_line};
 
 use h1_app::{Entry, Transcript};
-use h1_error::Error;
+use h1_error::{Error, ErrorType};
 use h1_fields::Fields;
 use h1_head::RequestHeader;
 use h1_words::Text;
 use http::Version;
 use std::alloc::Global;
 
-/// Adds the lines of all exchanges.
+/// All exchanges of a connection. One that forgot some has no memory of them.
+pub(crate) fn all_exchanges(transcript: &Transcript) -> Result<&[Entry], Error>
+    ensures { IfOk result (λ exchanges. exchanges.now ≡ transcript_entries transcript.now) }
+{
+    match transcript.all() {
+        Some(exchanges) => Ok(exchanges),
+        None => Err(Error::from(ErrorType::NoMemory)),
+    }
+}
+
+/// Adds the lines of these exchanges.
 pub(crate) fn push_exchanges(
     alloc: Global,
-    transcript: &Transcript,
+    exchanges: &[Entry],
     text: &mut Text,
 ) -> Result<(), Error>
-    ensures { OnOk result
-        (text.new ≡ text.old ++ exchanges_lines (transcript_entries transcript.now)) }
+    ensures { OnOk result (text.new ≡ text.old ++ exchanges_lines exchanges.now) }
 {
-    for i in 0..transcript.len() {
-        if let Some(entry) = transcript.get(i) {
-            let lines = exchange_lines(alloc, entry)?;
-            text.push(lines.as_slice())?;
-        }
+    for entry in exchanges {
+        let lines = exchange_lines(alloc, entry)?;
+        text.push(lines.as_slice())?;
     }
     Ok(())
 }

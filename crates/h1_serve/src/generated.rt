@@ -1,11 +1,11 @@
 //! The text of `gen N`: requests that are made and served, told in numbers.
 ghost use Rattle.std.specs.Prelude.{◌≡◌, ◌<◌, ◌≤◌, ◌++◌, ◌^◌, codes, length, IfOk, OnOk, Some};
 ghost use Rattle.h1_error.specs.declared.progress.End.TheVariants as end;
-ghost use Rattle.h1_transcript.specs.Entries.{transcript_entries};
 ghost use Rattle.h1_app.specs.View.{entries};
 ghost use Rattle.h1_serve.specs.Generated.{bodies, count_line, TellsServed, IsGenText};
 
-use h1_app::Transcript;
+use crate::exchange::all_exchanges;
+use h1_app::Entry;
 use h1_error::{Error, Progress};
 use h1_link::MemLink;
 use h1_serving::{Echoed, serve_gen};
@@ -30,10 +30,10 @@ fn served_text(alloc: Global, connection: &Echoed<MemLink>) -> Result<Text, Erro
     let Some(end) = connection.end() else {
         unreachable!()
     };
-    let transcript = connection.transcript();
+    let exchanges = all_exchanges(connection.transcript())?;
     let mut text = Text::new(alloc);
-    push_count(alloc, b"requests ", transcript.len() as u64, &mut text)?;
-    push_count(alloc, b"body bytes ", body_bytes(transcript), &mut text)?;
+    push_count(alloc, b"requests ", exchanges.len() as u64, &mut text)?;
+    push_count(alloc, b"body bytes ", body_bytes(exchanges), &mut text)?;
     push_count(
         alloc,
         b"written ",
@@ -46,15 +46,13 @@ fn served_text(alloc: Global, connection: &Echoed<MemLink>) -> Result<Text, Erro
 }
 
 /// How many bytes the bodies of the exchanges have.
-fn body_bytes(transcript: &Transcript) -> u64
-    requires { length (bodies (transcript_entries transcript.now)) < 2 ^ 64 }
-    ensures { result ≡ length (bodies (transcript_entries transcript.now)) }
+fn body_bytes(exchanges: &[Entry]) -> u64
+    requires { length (bodies exchanges.now) < 2 ^ 64 }
+    ensures { result ≡ length (bodies exchanges.now) }
 {
     let mut count = 0u64;
-    for i in 0..transcript.len() {
-        if let Some(entry) = transcript.get(i) {
-            count += entry.body.as_slice().len() as u64;
-        }
+    for exchange in exchanges {
+        count += exchange.body.as_slice().len() as u64;
     }
     count
 }

@@ -97,7 +97,7 @@ fn serve_peer<L: Link + Drop, T: Clock>(
     server.server_options = options_of(Some(REQUEST_LIMIT));
     let server = Arc::new(alloc, server)?;
     let mut connection: Echoed<L> = Connection::new(alloc, server, link)?;
-    let answer = serve_link(&mut connection, clock);
+    let answer = serve_link(&mut connection, clock, true);
     // A connection may end without a flush, as behind a reply that is shorter than stated. The line
     // tells why it ended, whatever comes of this one.
     let mut served = connection.into_link();

@@ -10,7 +10,7 @@ ghost use Rattle.h1_serve.specs.Report.{IsTextOf, limit_in, marking_of, modules_
 ghost use Rattle.h1_serve.specs.Running.{MayStand, IsInTime, AreInOrder, first_place, IsRunning};
 ghost use Rattle.h1_serve.specs.Done.{ObeysOnce};
 
-use crate::exchange::{push_exchanges, push_written};
+use crate::exchange::{all_exchanges, push_exchanges, push_written};
 use crate::link_lines::{give, plan_read_fault, plan_write_fault, say_end, set_block, set_room};
 use h1_app::{Connection, EchoApp, HttpServer, HttpServerOptions};
 use h1_error::{End, Error, ErrorType, Progress};
@@ -51,7 +51,8 @@ fn play(alloc: Global, scripted: &mut Scripted, commands: &[Command]) -> Result<
     for command in commands {
         obey(alloc, scripted, command, &mut text)?;
     }
-    push_exchanges(alloc, scripted.connection.transcript(), &mut text)?;
+    let exchanges = all_exchanges(scripted.connection.transcript())?;
+    push_exchanges(alloc, exchanges, &mut text)?;
     push_written(alloc, scripted.connection.link().written(), &mut text)?;
     Ok(text)
 }

@@ -9,6 +9,7 @@ use Rattle.h1_transfer.specs.EndWrites as ends
 use Rattle.h1_transfer.specs.Payload as payloads
 use Rattle.h1_server.proofs.Words.{DrainsBody, SessionView, session}
 use Rattle.h1_server.specs.Payload.{ReadsPayload}
+use Rattle.h1_server.specs.SessionView.{noting}
 use Rattle.h1_server.specs.Writes.{Writes, WritesPiece, WritesEnd, EndCall}
 use Rattle.h1_server.specs.Times.{body_deadline, drain_limits, piece_deadline}
 use Rattle.h1_transfer.specs.declared.deadline.Deadline.{Deadline}
@@ -63,17 +64,18 @@ module _ {L C : Type 0} (state : L → LinkState) (old : SessionView L C) (new :
       → IfNone old.reply.refused (EndCall state old (session.put old new) outcome (ends.stage_of old.reply))
   end_call_in outcome = if_none_on old.reply.refused _ _ (end_by outcome (ends.stage_of old.reply))
 
-  pub payload_in : (now : ℕ) (outcome : Poll (Result (Option (List ℕ)) Error))
+  pub payload_in : (now : ℕ) (limit : Option ℕ) (outcome : Poll (Result (Option (List ℕ)) Error))
       → IfNone old.body.refused
       (payloads.ReadsPayload state itself (body_deadline old.settings.times now) (session.transfer old) new outcome)
-      → IfNone old.body.refused (ReadsPayload state now old (session.put old new) outcome)
-  payload_in now outcome = if_none_on old.body.refused _ _ (λ r. record {
+      → IfNone old.body.refused
+      (ReadsPayload state now old (record (session.put old new) { read_limit = limit }) outcome)
+  payload_in now limit outcome = if_none_on old.body.refused _ _ (λ r. record {
     payload = r.payload;
     left = r.left;
     parsed = r.parsed;
     reads = r.reads;
     budget = r.budget;
-    rest = ap (session.put old) r.rest;
+    rest = ap ((noting limit).put old) r.rest;
     few = r.few;
     answer = r.answer;
     timed = r.timed;

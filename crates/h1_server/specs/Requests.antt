@@ -128,10 +128,16 @@ pub record ReadsRequest {L C : Type 0} (state : L → LinkState) (now : ℕ) (ol
   pub received : Received (state old.link) (state new.link) old.received bytes
       (allowance old.budget) left
   pub budget : new.budget ≡ option_map (λ _. left) old.budget
-  -- the reply, its flag, the mark of a link that is reusable and the context stay
+  -- the reply, its flag, the mark of a link that is reusable, the context and what is noted of the
+  -- body's reading stay
   pub rest : new
-      ≡ record new
-      { reply = old.reply; keep = old.keep; reusable = old.reusable; context = old.context }
+      ≡ record new {
+        reply = old.reply;
+        keep = old.keep;
+        reusable = old.reusable;
+        context = old.context;
+        read_limit = old.read_limit;
+      }
   -- a read was not ready at most once
   pub few : (state new.link).read_waits ≤ (state old.link).read_waits + 1
   pub answer : HeadAnswer state old new bytes left outcome

@@ -55,4 +55,5 @@ pub record AwaitsNext {L C : Type 0} (old new : SessionView L C) : Type 0 where
     keep = false;
     settings = next_settings old.settings;
     reusable = false;
+    read_limit = None;
   }

@@ -23,6 +23,8 @@ pub record SessionView (L C : Type 0) : Type 0 where
   pub reusable : Bool
   -- what the caller keeps with the connection
   pub context : Option C
+  -- the read timeout that was in force at the read of the body that timed out
+  pub read_limit : Option ℕ
 
 -- how a session holds its transfer
 abbrev pub session : {L C : Type 0} → Holds L (SessionView L C)
@@ -42,6 +44,13 @@ session = record {
     reply = t.outgoing;
     budget = t.budget;
   };
+}
+
+-- the same where a call leaves this limit noted
+abbrev pub noting : {L C : Type 0} → Option ℕ → Holds L (SessionView L C)
+noting limit = record {
+  transfer = session.transfer;
+  put = λ s t. record (session.put s t) { read_limit = limit };
 }
 
 -- the request, once its head was read
@@ -66,6 +75,7 @@ pub record IsNewSession {L C : Type 0} (start : L) (view : SessionView L C) : Ty
   pub budget : view.budget ≡ None
   pub reusable : view.reusable ≡ false
   pub context : view.context ≡ None
+  pub read_limit : view.read_limit ≡ None
 
 -- the session with other times
 abbrev pub times_set : {L C : Type 0} → SessionView L C → Times → SessionView L C

@@ -34,6 +34,8 @@ pub struct HttpSession<L: Link + Drop, C: Drop> {
     context: Option<C>,
     /// The date that was printed last, which replies of the same second share.
     dates: CacheableDate,
+    /// The read timeout that was in force at the read of the body that timed out.
+    read_limit: Option<u64>,
 }
 
 impl<L: Link + Drop, C: Drop> Model for HttpSession<L, C> {
@@ -53,6 +55,7 @@ impl<L: Link + Drop, C: Drop> Model for HttpSession<L, C> {
       budget = s.transfer.budget;
       reusable = s.reusable;
       context = s.context;
+      read_limit = s.read_limit;
     } };
 
     ghost invariant = { λ s. IsSearched (request_in s.asked) s.asked.search s.transfer.received };
@@ -78,6 +81,7 @@ impl<L: Link + Drop, C: Drop> HttpSession<L, C> {
             reusable: false,
             context: None,
             dates: CacheableDate::new(0),
+            read_limit: None,
         })
     }
 
@@ -259,6 +263,14 @@ impl<L: Link + Drop, C: Drop> HttpSession<L, C> {
         ensures { result ≡ self.now.body.refused }
     {
         self.transfer.body().refused
+    }
+
+    /// The read timeout that was in force at the read of the body that timed out, where one did and
+    /// had one.
+    pub fn read_limit(&self) -> Option<u64>
+        ensures { result ≡ self.now.read_limit }
+    {
+        self.read_limit
     }
 
     /// Whether the request's body was read to its end.

@@ -21,7 +21,8 @@ pub fn serve_gen(alloc: Global, count: u32) -> Result<Echoed<MemLink>, Error>
 {
     let mut connection = connect(alloc, count)?;
     let mut clock = SetClock::new(0);
-    let answer = serve_link(&mut connection, &mut clock);
+    // The caller is handed the connection to read what it served.
+    let answer = serve_link(&mut connection, &mut clock, false);
     connection.link().rule();
     handed_back(connection, answer)
 }

@@ -1,4 +1,5 @@
 //! A connection that is served by one call.
+ghost use Rattle.std.specs.Prelude.{◌≡◌};
 ghost use Rattle.std.specs.List.{AllByRecursion};
 ghost use Rattle.h1_link.specs.LinkState.{LinkState};
 ghost use Rattle.h1_transcript.specs.Agrees.{Agrees};
@@ -19,8 +20,13 @@ pub const MOST_POLLS: u32 = 1_000_000;
 pub type Echoed<L> = Connection<L, EchoApp, NoModules, ()>;
 
 /// Polls a connection at the clock's moments until it ends, at most [`MOST_POLLS`] times, and
-/// answers what the last poll answered.
-pub fn serve_link<L: Link + Drop, T: Clock>(connection: &mut Echoed<L>, clock: &mut T) -> Progress
+/// answers what the last poll answered. With `forgets` the memory of the exchanges that ended is
+/// given back behind each poll that waits.
+pub fn serve_link<L: Link + Drop, T: Clock>(
+    connection: &mut Echoed<L>,
+    clock: &mut T,
+    forgets: bool,
+) -> Progress
     requires { IsUnpolled connection.old }
     ensures kept { KeptInCall L.same_plan (T.moment clock.old) (T.moment clock.new) connection.old
         connection.new }
@@ -52,7 +58,17 @@ pub fn serve_link<L: Link + Drop, T: Clock>(connection: &mut Echoed<L>, clock: &
         if let Progress::Ready(_) = answer {
             return answer;
         }
+        settle(connection, forgets);
     }
     let now = clock.now();
     connection.poll(now, false)
+}
+
+/// Gives back the memory of the exchanges that ended, where `forgets` asks for it.
+fn settle<L: Link + Drop>(connection: &mut Echoed<L>, forgets: bool)
+    ensures { connection.new ≡ connection.old }
+{
+    if forgets {
+        connection.forget_ended();
+    }
 }

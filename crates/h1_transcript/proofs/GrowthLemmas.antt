@@ -3,7 +3,7 @@ use Rattle.std.proofs.Common.{◌≡◌, ℕ, ◌+◌, ◌/◌, ◌≤◌, List,
 use Rattle.h1_transcript.specs.Words.{AllByRecursion, Error, ErrorType, LinkState, ResponseView, Reply, Entry}
 use Rattle.h1_link.specs.Later.{Later}
 use Rattle.h1_link.proofs.Laters.{later_itself, rose_read_faults, rose_read_waits}
-use Rattle.h1_transcript.specs.Growth.{Extends, Grows, Stays, DatedAt, RepliedOn, RoseFor, RefusedIn, IsBegun, ExtendsLast}
+use Rattle.h1_transcript.specs.Growth.{Extends, Grows, Stays, StaysWith, DatedAt, RepliedOn, RoseFor, RefusedIn, IsBegun, ExtendsLast}
 use Rattle.h1_transcript.specs.Entries.{replies}
 use Rattle.h1_error.specs.declared.error.ErrorType.TheVariants as kind
 
@@ -11,6 +11,15 @@ use Rattle.h1_error.specs.declared.error.ErrorType.TheVariants as kind
 pub stays_itself : {T : Type 0} (o : Option T) → Stays o o
 stays_itself None = tt
 stays_itself (Some value) = refl
+
+pub stays_with_itself : {T U : Type 0} (o : Option T) (u : U) → StaysWith o u u
+stays_with_itself None u = tt
+stays_with_itself (Some value) u = refl
+
+stays_with_on : {T U : Type 0} (o p : Option T) (a b c : U) → Stays o p → StaysWith o a b
+    → StaysWith p b c → StaysWith o a c
+stays_with_on None p a b c stays first second = tt
+stays_with_on (Some value) p a b c stays first second = rw stays at second ∙ first
 
 -- a header that stays keeps its date and its flag
 pub dated_same : (now : ℕ) (head : Option ResponseView) (old new : Entry) → old.sent_head ≡ head
@@ -21,9 +30,10 @@ dated_same now None old new is head date text keep = rw (head ∙ is) tt
 dated_same now (Some header) old new is head date text keep = (date, text, keep)
 
 pub replied_same : (reply : Option Reply) (old new : Entry) → new.how ≡ old.how
-    → new.left ≡ old.left → new.handed ≡ old.handed → RepliedOn reply old new
-replied_same None old new how left handed = tt
-replied_same (Some reply) old new how left handed = (how, left, handed)
+    → new.left ≡ old.left → new.handed ≡ old.handed → new.read_limit ≡ old.read_limit
+    → RepliedOn reply old new
+replied_same None old new how left handed limit = tt
+replied_same (Some reply) old new how left handed limit = (how, left, handed, limit)
 
 pub refused_same : (before behind : LinkState) (refused : Option Error)
     → RefusedIn before behind refused refused
@@ -40,8 +50,9 @@ grows_same now before behind e = record {
   handed = omega arith;
   body_error = stays_itself e.body_error;
   refused = refused_same before behind e.body_error;
+  read_limit = stays_with_itself e.body_error e.read_limit;
   reply = stays_itself e.reply;
-  replied = replied_same e.reply e e refl refl refl;
+  replied = replied_same e.reply e e refl refl refl refl;
   sent_head = stays_itself e.sent_head;
   dated = dated_same now e.sent_head e e refl refl refl refl refl;
   sent_body = stays_itself e.sent_body;
@@ -78,7 +89,7 @@ replied_on : (reply : Option Reply) (a b c : Entry) → Stays reply b.reply → 
 replied_on None a b c first x y = tt
 replied_on (Some reply) a b c first x y =
     let same = rw first at y in
-    (same.0 ∙ x.0, same.1 ∙ x.1, same.2 ∙ x.2)
+    (same.0 ∙ x.0, same.1 ∙ x.1, same.2 ∙ x.2, same.3 ∙ x.3)
 
 module _ (now : ℕ) (shutdown : Bool) (first second third : LinkState)
     (before : Later first second) (behind : Later second third) where
@@ -122,6 +133,8 @@ module _ (now : ℕ) (shutdown : Bool) (first second third : LinkState)
     handed = omega arith;
     body_error = stays_on _ _ _ x.body_error y.body_error;
     refused = refused_on a.body_error b.body_error c.body_error x.body_error y.body_error x.refused y.refused;
+    read_limit = stays_with_on a.body_error b.body_error a.read_limit b.read_limit c.read_limit x.body_error
+        x.read_limit y.read_limit;
     reply = stays_on _ _ _ x.reply y.reply;
     replied = replied_on a.reply a b c x.reply x.replied y.replied;
     sent_head = stays_on _ _ _ x.sent_head y.sent_head;

@@ -104,6 +104,7 @@ module _ (rules : Rules) (none : ArePlain rules.filters) where
     handed = a.handed;
     reuses = a.reuses;
     owed = a.owed;
+    limit = a.limit;
   }
     where
       head_of : (filtered : Option RequestView)

@@ -28,7 +28,7 @@ pub begun_last : (limit : Option ℕ) (i : ℕ) (pipelining : Bool) (done : List
     → e.began.reuses ≡ reuses_at limit (i + length done)
 begun_last limit i pipelining [] e h =
     let same : i ≡ i + 0 = omega arith in
-    h.0.reuses ∙ ap (reuses_at limit) same
+    h.0.set.reuses ∙ ap (reuses_at limit) same
 begun_last limit i pipelining (d ∷ later) e h =
     let same : i + 1 + length later ≡ i + length (d ∷ later) = omega arith in
     begun_last limit (i + 1) d.left.pipelining later e h.1 ∙ ap (reuses_at limit) same

@@ -1,7 +1,13 @@
 -- What each exchange begins with (RFC 9112, section 9.3).
 use Rattle.std.specs.Prelude.{◌≡◌, ℕ, ◌+◌, ◌-◌, List, [], ◌∷◌, length, Bool, true, false, Option, Some, None}
+use Rattle.h1_server.specs.Keepalive.{keepalive_timeout}
 use Rattle.h1_server.specs.Times.{new_times}
-use Rattle.h1_transcript.specs.Words.{Settings, Entry}
+use Rattle.h1_transcript.specs.Words.{KEEPALIVE_SECONDS, Settings, Entry}
+
+-- the time for a head in seconds, or none where the connection shuts down
+abbrev pub head_time : Bool → Option ℕ
+head_time true = None
+head_time false = Some KEEPALIVE_SECONDS
 
 -- how many requests more may follow the one with this index, under this limit
 abbrev pub reuses_at : Option ℕ → ℕ → Option ℕ
@@ -13,7 +19,7 @@ abbrev pub pipelining_behind : Bool → List Entry → Bool
 pipelining_behind first [] = first
 pipelining_behind first (e ∷ more) = pipelining_behind e.left.pipelining more
 
--- the settings that the exchange with this index begins with
+-- what is set where the exchange with this index is next, but for keep-alive
 pub record IsSetFor (limit : Option ℕ) (i : ℕ) (pipelining : Bool)
     (settings : Settings) : Type 0 where
   pub closing : settings.closing ≡ true
@@ -21,13 +27,23 @@ pub record IsSetFor (limit : Option ℕ) (i : ℕ) (pipelining : Bool)
   pub reuses : settings.reuses ≡ reuses_at limit i
   pub times : settings.times ≡ new_times
 
+-- keep-alive has the time for a head, where it is on
+abbrev pub HasHeadTime : Settings → Type 0
+HasHeadTime settings = keepalive_timeout settings ≡ head_time settings.keep_off
+
+-- the settings that the exchange with this index begins with
+pub record IsBegunFor (limit : Option ℕ) (i : ℕ) (pipelining : Bool)
+    (settings : Settings) : Type 0 where
+  pub set : IsSetFor limit i pipelining settings
+  pub keepalive : HasHeadTime settings
+
 -- each exchange, counted from this index, began so; pipelining is what the one before left
 abbrev pub AreBegun : Option ℕ → ℕ → Bool → List Entry → Type 0
 AreBegun limit i pipelining [] = Unit {0}
 AreBegun limit i pipelining (e ∷ more) =
-    IsSetFor limit i pipelining e.began × AreBegun limit (i + 1) e.left.pipelining more
+    IsBegunFor limit i pipelining e.began × AreBegun limit (i + 1) e.left.pipelining more
 
--- after these exchanges the next one begins so
+-- after these exchanges it is set so for the next one
 abbrev pub IsNextSet : Option ℕ → List Entry → Settings → Type 0
 IsNextSet limit done settings = IsSetFor limit (length done) (pipelining_behind false done) settings
 
@@ -38,8 +54,9 @@ pub record IsSetAlike (old new : Settings) : Type 0 where
   pub reuses : new.reuses ≡ old.reuses
   pub times : new.times ≡ old.times
 
--- an exchange that begins takes what was set, and it stays set where none begins
+-- an exchange that begins takes what was set, with the time for a head; and it stays set where none
+-- begins
 abbrev pub BeginsWith : Settings → Settings → Option Entry → Option Entry → Type 0
 BeginsWith old new None None = IsSetAlike old new
-BeginsWith old new None (Some e) = IsSetAlike old e.began
+BeginsWith old new None (Some e) = IsSetAlike old e.began × HasHeadTime e.began
 BeginsWith old new (Some e) last = Unit {0}

@@ -1,5 +1,5 @@
 -- The exchanges of a transcript, and how many of them have a reply.
-use Rattle.std.specs.Prelude.{ℕ, List, [], ◌++◌, option_to_list, Option, Some, None, ◌+◌, ◌∷◌, Bool, false, codes, replicate}
+use Rattle.std.specs.Prelude.{ℕ, List, [], ◌++◌, option_to_list, Option, Some, None, ◌+◌, ◌∷◌, Bool, false, codes, replicate, map}
 use Rattle.h1_head.specs.Request.{new_request}
 use Rattle.h1_transcript.specs.Words.{Entry, Open, Reply, Settings}
 
@@ -7,6 +7,10 @@ use Rattle.h1_transcript.specs.Words.{Entry, Open, Reply, Settings}
 pub record TranscriptView : Type 0 where
   pub done : List Entry
   pub last : Option Entry
+
+-- the exchanges that were noted so
+abbrev pub exchanges_of : List (Entry × Unit {0}) → List Entry
+exchanges_of past = map (λ p. p.0) past
 
 -- the transcript as it is kept
 abbrev pub transcript_entries : TranscriptView → List Entry
@@ -25,6 +29,7 @@ new_entry settings both =
       body = [];
       handed = 0;
       body_error = None;
+      read_limit = None;
       how = Open;
       began = settings;
       left = settings;

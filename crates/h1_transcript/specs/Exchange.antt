@@ -5,6 +5,7 @@ use Rattle.h1_transcript.specs.Words.{RequestView, ResponseView, wish, Framing, 
 use Rattle.h1_head.specs.Wire.{head_bytes, reply_head}
 use Rattle.h1_head.specs.Date.{IsDateAt}
 use Rattle.h1_body.specs.Writer.{body_bytes}
+use Rattle.h1_transcript.specs.BodyLimits.{IsLimitOf}
 use Rattle.h1_transcript.specs.Given.{Given}
 use Rattle.h1_transcript.specs.Lawful.{IsLawful}
 use Rattle.h1_transcript.specs.Rules.{Rules}
@@ -63,6 +64,7 @@ given_to e filtered =
       handed = take e.handed e.body;
       how = e.how;
       body_error = e.body_error;
+      read_limit = e.read_limit;
       began = e.began;
       left = e.left;
     }
@@ -87,3 +89,5 @@ pub record IsAllowed (rules : Rules) (e : Entry) : Type 0 where
   pub handed : e.handed ≤ length e.body
   pub reuses : e.left.reuses ≡ e.began.reuses
   pub owed : e.owed ≡ true → IsSome e.sent_head
+  -- the read timeout is kept that a read reached which timed out
+  pub limit : IsLimitOf e.body_error e.read_limit

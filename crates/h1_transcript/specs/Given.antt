@@ -9,5 +9,7 @@ pub record Given : Type 0 where
   pub handed : List ℕ
   pub how : How
   pub body_error : Option Error
+  -- the read timeout that was in force at the read of the body that timed out
+  pub read_limit : Option ℕ
   pub began : Settings
   pub left : Settings

@@ -8,6 +8,11 @@ abbrev pub Stays : {T : Type 0} → Option T → Option T → Type 0
 Stays None new = Unit {0}
 Stays (Some value) new = new ≡ Some value
 
+-- what goes with a value that is there stays
+abbrev pub StaysWith : {T U : Type 0} → Option T → U → U → Type 0
+StaysWith None old new = Unit {0}
+StaysWith (Some value) old new = new ≡ old
+
 -- A header that is taken up at this moment has its second; one that was there keeps its date and
 -- its flag.
 abbrev pub DatedAt : ℕ → Option ResponseView → Entry → Entry → Type 0
@@ -20,6 +25,7 @@ abbrev pub RepliedOn : Option Reply → Entry → Entry → Type 0
 RepliedOn None old new = Unit {0}
 RepliedOn (Some reply) old new =
     (new.how ≡ old.how) × (new.left ≡ old.left) × (new.handed ≡ old.handed)
+    × (new.read_limit ≡ old.read_limit)
 
 -- a read failed between these states of the link, or was not ready, where the error tells that
 abbrev pub RoseFor : LinkState → LinkState → ErrorType → Type 0
@@ -42,6 +48,7 @@ pub record Grows (now : ℕ) (before behind : LinkState) (old new : Entry) : Typ
   pub handed : old.handed ≤ new.handed
   pub body_error : Stays old.body_error new.body_error
   pub refused : RefusedIn before behind old.body_error new.body_error
+  pub read_limit : StaysWith old.body_error old.read_limit new.read_limit
   pub reply : Stays old.reply new.reply
   pub replied : RepliedOn old.reply old new
   pub sent_head : Stays old.sent_head new.sent_head

@@ -12,6 +12,7 @@ pub mod Exchange
 pub mod Behind
 pub mod Alone
 pub mod Begun
+pub mod BodyLimits
 pub mod Agrees
 pub mod Growth
 pub mod Complete

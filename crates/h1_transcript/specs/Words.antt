@@ -21,5 +21,6 @@ pub use Rattle.h1_transcript.specs.declared.reply.Reply.{Reply}
 pub use Rattle.h1_transcript.specs.declared.transcript.Entry.{Entry}
 pub use Rattle.h1_transcript.specs.declared.transcript.How.{How}
 pub use Rattle.h1_transcript.specs.declared.transcript.How.TheVariants.{Failed, Open, Whole}
+pub use Rattle.h1_transcript.specs.declared.transcript.TheConstants.{KEEPALIVE_SECONDS}
 pub use Rattle.h1_transfer.specs.BodyErrors.{SaysOfBody}
 pub use Rattle.std.specs.List.{AllByRecursion}

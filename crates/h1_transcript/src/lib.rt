@@ -11,4 +11,4 @@ mod transcript;
 
 pub use laws::the_last_exchange_is_replied_to;
 pub use reply::Reply;
-pub use transcript::{Entry, How, Transcript};
+pub use transcript::{Entry, How, KEEPALIVE_SECONDS, Transcript};

@@ -1,16 +1,20 @@
 //! What a connection read and wrote, exchange by exchange.
-ghost use Rattle.std.specs.Prelude.{◌≡◌, ◌++◌, [], None, Some, IsSome, OnOk, OnErr, IfErr, is_some, length, slice_get, option_to_list};
+ghost use Rattle.std.specs.Prelude.{◌≡◌, ◌≤◌, ◌<◌, ◌+◌, ◌++◌, [], None, Some, IsSome, IfSome, OnOk, OnErr, IfErr, is_some, length, slice_get, option_to_list};
 ghost use Rattle.h1_error.specs.Memory.{no_memory};
 ghost use Rattle.std.specs.Borrow.{sem};
-ghost use Rattle.std.specs.Option.{option_copied};
+ghost use Rattle.h1_transcript.specs.Entries.{exchanges_of};
 
 use crate::Reply;
 use h1_body::BodyBytes;
 use h1_error::Error;
 use h1_head::{RequestHeader, ResponseHeader};
 use h1_server::Settings;
+use http_server::Log;
 use std::alloc::Global;
 use std::marker::Model;
+
+/// How long a connection waits for a head, in seconds.
+pub const KEEPALIVE_SECONDS: u64 = 60;
 
 /// How a request's body stood when its reply was made.
 #[derive(Clone, Copy, Debug, PartialEq, Eq)]
@@ -34,6 +38,8 @@ pub struct Entry {
     pub handed: u64,
     /// Why the body couldn't be read on.
     pub body_error: Option<Error>,
+    /// The read timeout in milliseconds that was in force at the read that timed out.
+    pub read_limit: Option<u64>,
     /// How the request's body stood when the reply was made.
     pub how: How,
     /// What was set as the exchange began.
@@ -60,29 +66,39 @@ pub struct Entry {
     pub owed: bool,
 }
 
+/// So many exchanges are forgotten at most. No connection lives to see more.
+const MOST_FORGOTTEN: usize = 1 << 62;
+
 /// The exchanges of a connection, in order. Contracts see those that ended as `done`, and the one
-/// that goes on as `last`.
+/// that goes on as `last`. Of those that ended, the first may be forgotten: contracts alone have
+/// them then.
 #[derive(Drop)]
 pub struct Transcript {
+    /// Those that were forgotten. It takes no memory.
+    past: Log<Entry, ()>,
+    /// How many those are.
+    forgotten: usize,
+    /// The others.
     entries: Vec<Entry>,
-    /// How many of them ended: all, or all but the last.
+    /// How many of the others ended: all, or all but the last.
     ended: usize,
 }
 
 impl Model for Transcript {
-    ghost use Rattle.std.specs.Prelude.{◌≤◌, ◌+◌, take, length, slice_get};
-    ghost use Rattle.h1_transcript.specs.Entries.{TranscriptView};
+    ghost use Rattle.std.specs.Prelude.{◌≤◌, ◌+◌, ◌^◌, ◌≡◌, ◌++◌, take, length, slice_get};
+    ghost use Rattle.h1_transcript.specs.Entries.{TranscriptView, exchanges_of};
 
     ghost Value = { TranscriptView };
 
     ghost view = { λ t. record {
-      done = take t.ended t.entries.items;
+      done = exchanges_of t.past.items ++ take t.ended t.entries.items;
       last = slice_get t.entries.items t.ended;
     } };
 
     // The exchange that goes on is the last.
     ghost invariant = { λ t. (t.ended ≤ length t.entries.items)
-        × (length t.entries.items ≤ t.ended + 1) };
+        × (length t.entries.items ≤ t.ended + 1)
+        × (t.forgotten ≡ length (exchanges_of t.past.items)) × (t.forgotten ≤ 2 ^ 62) };
 }
 
 impl Transcript {
@@ -95,6 +111,8 @@ impl Transcript {
         ensures last { result.last ≡ None }
     {
         Transcript {
+            past: Log::new(),
+            forgotten: 0,
             entries: Vec::new(alloc),
             ended: 0,
         }
@@ -117,6 +135,7 @@ impl Transcript {
             body: BodyBytes::new(alloc),
             handed: 0,
             body_error: None,
+            read_limit: None,
             how: How::Open,
             began: settings,
             left: settings,
@@ -170,17 +189,68 @@ impl Transcript {
         self.ended += 1;
     }
 
-    /// How many exchanges there are.
+    /// The memory of the exchanges that ended is given back. Contracts go on to see them.
+    pub fn forget_ended(&mut self)
+        ensures { self.new ≡ self.old }
+    {
+        if self.ended == 0 || self.forgotten > MOST_FORGOTTEN - self.ended {
+            return;
+        }
+        note(&mut self.past, &self.entries[..self.ended]);
+        drop_first(&mut self.entries, self.ended);
+        self.forgotten += self.ended;
+        self.ended = 0;
+    }
+
+    /// How many exchanges there are, those that were forgotten among them.
     pub fn len(&self) -> usize
         ensures { result ≡ length (transcript_entries self.now) }
     {
-        self.entries.len()
+        self.forgotten + self.entries.len()
     }
 
-    /// The exchange with this index, counted from 0.
+    /// The exchange with this index, counted from 0, but for one that was forgotten.
     pub fn get(&self, i: usize) -> Option<&Entry>
-        ensures { option_copied result ≡ slice_get (transcript_entries self.now) i }
+        ensures { IfSome result
+            (λ entry. slice_get (transcript_entries self.now) i ≡ Some entry.now) }
     {
-        self.entries.get(i)
+        let at = i.checked_sub(self.forgotten)?;
+        self.entries.get(at)
+    }
+
+    /// All exchanges, where none was forgotten.
+    pub fn all(&self) -> Option<&[Entry]>
+        ensures { IfSome result (λ entries. entries.now ≡ transcript_entries self.now) }
+    {
+        if self.forgotten == 0 {
+            Some(self.entries.as_slice())
+        } else {
+            None
+        }
+    }
+}
+
+/// Notes these exchanges, in contracts alone.
+#[tactic(auto, using(crate::proofs::EntryLemmas::noted_behind))]
+fn note(past: &mut Log<Entry, ()>, entries: &[Entry])
+    ensures { exchanges_of past.new.items ≡ exchanges_of past.old.items ++ entries.now }
+{
+    for entry in entries {
+        *past = past.and(entry, &());
+    }
+}
+
+/// Drops so many exchanges, the first. One more is there at most.
+fn drop_first(entries: &mut Vec<Entry>, count: usize)
+    requires some { 0 < count }
+    requires there { count ≤ length entries.old.items }
+    requires one { length entries.old.items ≤ count + 1 }
+    ensures { entries.new.items ≡ option_to_list (slice_get entries.old.items count) }
+{
+    if count < entries.len() {
+        entries.swap(0, count);
+        entries.truncate(1);
+    } else {
+        entries.clear();
     }
 }

@@ -4,7 +4,7 @@ ghost use Rattle.h1_error.specs.declared.moment.TheConstants.{YEAR_10000};
 ghost use Rattle.h1_transcript.specs.declared.transcript.Entry.{Entry};
 ghost use Rattle.h1_head.specs.Views.{RequestView};
 ghost use Rattle.h1_server.specs.declared.settings.Settings.{Settings};
-ghost use Rattle.h1_application.specs.Application.{how_of, IsAskedFor};
+ghost use Rattle.h1_application.specs.Application.{how_of, IsAskedFor, ReadsInTime};
 ghost use Rattle.h1_transcript.specs.Exchange.{given_to};
 ghost use Rattle.h1_app.specs.Beginning.{IsAnswerStage};
 ghost use Rattle.h1_app.specs.Asking.{AsksAs, RunsOn, GivesAsked, PendsAsked, IsAskedOf, noted};
@@ -83,12 +83,16 @@ where
     requires waits { session.old.body.waits ≡ false }
     requires moment { now < YEAR_10000 }
     ensures asks { AsksAs L.state session.old session.new entry.old entry.new result }
+    ensures timed { ReadsInTime L.state now session.old session.new }
     ensures plan { L.same_plan session.old.link session.new.link }
     ensures runs { (head : RequestView) (began : Settings) → IsAskedFor head session.old
         → SV.runs app.now job.old head began session.old.settings entry.old.body
-        → RunsOn (SV.runs app.now job.new head began session.new.settings entry.new.body) result }
+        session.old.read_limit
+        → RunsOn (SV.runs app.now job.new head began session.new.settings entry.new.body
+        session.new.read_limit) result }
     ensures gives { (head : RequestView) (began : Settings) → IsAskedFor head session.old
         → SV.runs app.now job.old head began session.old.settings entry.old.body
+        session.old.read_limit
         → GivesAsked (SV.gives app.now)
         (record (given_to entry.new head) { began = began }) result }
     ensures never_falls { SV.pends job.old ≤ SV.pends job.new }
@@ -123,6 +127,7 @@ fn take_back<L: Link + Drop, C: Drop>(session: &mut HttpSession<L, C>, entry: &m
         entry.body = body;
     }
     entry.body_error = session.body_error();
+    entry.read_limit = session.read_limit();
     entry.how = how_it_stands(session);
     entry.left = session.settings();
 }

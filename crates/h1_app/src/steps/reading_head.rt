@@ -6,7 +6,8 @@ ghost use Rattle.h1_server.specs.declared.settings.Settings.{Settings};
 ghost use Rattle.h1_transcript.specs.Entries.{with_last};
 ghost use Rattle.h1_modules.specs.Filters.{run};
 ghost use Rattle.h1_modules.specs.Outcome.{ErrsBy, refused_by};
-ghost use Rattle.h1_app.specs.Beginning.{BegunAs, BegunFor, HeadFiltered, HeadRefused, IfLast, IsNewEntry, StartedAs, head_time, kept_again};
+ghost use Rattle.h1_transcript.specs.Begun.{head_time};
+ghost use Rattle.h1_app.specs.Beginning.{BegunAs, BegunFor, HeadFiltered, HeadRefused, IfLast, IsNewEntry, StartedAs, kept_again};
 ghost use Rattle.h1_app.specs.Filtering.{chain_of};
 ghost use Rattle.h1_app.specs.FilterSteps.{SteppedWith};
 ghost use Rattle.h1_app.specs.declared.exchange.Stage.TheVariants as at;
@@ -22,10 +23,8 @@ use h1_head::RequestHeader;
 use h1_link::Link;
 use h1_modules::{HttpModuleBuilder, HttpModuleCtx, HttpModules};
 use h1_server::{HttpSession, ReadRequest, Request, Settings};
+use h1_transcript::KEEPALIVE_SECONDS;
 use std::alloc::Global;
-
-/// How long a connection waits for a head, in seconds.
-const KEEPALIVE_SECONDS: u64 = 60;
 
 /// Reads a head, for which there is a minute. With one, its filters run and the application is
 /// started for its request.
@@ -247,7 +246,7 @@ where
     C: Drop,
     requires { IsSome transcript.old.last }
     ensures ok { IfOk result (λ job. (transcript.new ≡ transcript.old) × SV.begins job
-        × ((head : RequestView) (began : Settings) → SV.runs app.now job head began began [])) }
+        × ((head : RequestView) (began : Settings) → SV.runs app.now job head began began [] None)) }
     ensures err { IfErr result (λ error. (error ≡ no_memory)
         × IfSome transcript.old.last (λ e.
         transcript.new ≡ with_last transcript.old (record e { filtered = None }))) }

@@ -36,7 +36,7 @@ impl<L: Link + Drop, C: Drop> ServeHttp<L, C> for Refuses {
 
     ghost pends = { λ job. job.waited };
 
-    ghost runs = { λ _ job head began now payload. Unit {0} };
+    ghost runs = { λ _ job head began now payload limit. Unit {0} };
 
     fn start(&self, alloc: Global) -> Result<Refusing, Error> {
         Ok(Refusing { alloc, waited: 0 })

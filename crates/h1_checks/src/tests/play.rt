@@ -1,8 +1,8 @@
 //! Connections that are played: a test is a list of steps.
 use crate::tests::applications::Refuses;
 use crate::tests::{
-    Served, body_error, connect, counts, end, exchanges, fail_next_read, fail_next_write, give,
-    into_link, is_shut, make_room, polled, polled_at, written,
+    Served, body_error, connect, counts, end, exchanges, fail_next_read, fail_next_write,
+    forget_ended, give, into_link, is_shut, make_room, polled, polled_at, written,
 };
 use h1_app::{End, Error, ErrorType, Progress, ServeHttp, Waiting};
 use h1_echo::EchoApp;
@@ -27,6 +27,8 @@ pub enum Step<'a> {
     ReadFails,
     /// The next write of the link is to fail.
     WriteFails,
+    /// The memory of the exchanges that ended is given back.
+    Forget,
     /// A poll at moment 0 has to wait.
     Waits(Waiting),
     /// A poll at moment 0 answers that the connection has ended.
@@ -106,6 +108,7 @@ fn act<SV: ServeHttp<MemLink, ()> + Drop>(
         Step::Room(count) => make_room(served, count),
         Step::ReadFails => fail_next_read(served),
         Step::WriteFails => fail_next_write(served),
+        Step::Forget => forget_ended(served),
         _ => {}
     }
     Ok(())

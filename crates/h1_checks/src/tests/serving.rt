@@ -50,6 +50,33 @@ fn requests_in_one_piece_are_replied_to_in_order(rt: HostRuntime) -> Result<(), 
 }
 
 #[test]
+fn the_exchange_that_goes_on_is_not_forgotten(rt: HostRuntime) -> Result<(), Fail> {
+    let link = link_of(rt.alloc(), b"GET /a HTTP/1.1\r\n\r\n")?;
+    let steps = [
+        Waits(Waiting::Read),
+        Give(b"POST /b HTTP/1.1\r\nContent-Length: 2\r\n\r\nx"),
+        Waits(Waiting::Read),
+        Counts(0, 106, 0),
+        Counts(1, 0, 1),
+        Forget,
+        Exchanges(2),
+        Counts(0, 0, 0),
+        Counts(1, 0, 1),
+        Give(b"y"),
+        Waits(Waiting::Read),
+        Counts(1, 110, 2),
+        Forget,
+        Counts(1, 0, 0),
+        NoMore,
+        Ends(End::Finished),
+        Exchanges(2),
+        WroteLen(216),
+    ];
+    play_echo(&rt, None, link, &steps)?;
+    Ok(())
+}
+
+#[test]
 fn requests_byte_by_byte_are_replied_to_as_in_one_piece(rt: HostRuntime) -> Result<(), Fail> {
     let link = MemLink::new(rt.alloc());
     let steps = [

@@ -5,6 +5,7 @@ ghost use Rattle.h1_transfer.specs.Calls.{read_fault_of};
 ghost use Rattle.h1_transfer.specs.Heads.{fault_of_stop};
 ghost use Rattle.h1_server.specs.Calls.{is_head};
 ghost use Rattle.h1_server.specs.Persistence.{is_nothing};
+ghost use Rattle.h1_server.specs.Payload.{limit_behind};
 ghost use Rattle.h1_server.specs.Requests.{StopsFor};
 
 use super::HttpSession;
@@ -38,6 +39,22 @@ fn stop_for(
     }
 }
 
+/// Notes the limit of a read of the body that timed out.
+#[inline(always)]
+fn note_limit(
+    noted: &mut Option<u64>,
+    limit: Option<u64>,
+    answer: &Poll<Result<Option<Bytes>, Error>>,
+)
+    ensures { noted.new ≡ limit_behind limit noted.old answer.now }
+{
+    if let Poll::Ready(Err(error)) = answer {
+        if error.kind == ErrorType::ReadTimedout {
+            *noted = limit;
+        }
+    }
+}
+
 /// Whether no byte is there.
 fn is_nothing(bytes: &[u8]) -> bool
     ensures { result ≡ is_nothing bytes.now }
@@ -47,7 +64,8 @@ fn is_nothing(bytes: &[u8]) -> bool
 
 impl<L: Link + Drop, C: Drop> HttpSession<L, C> {
     ghost use Rattle.h1_server.specs.Requests.{ReadsRequest};
-    ghost use Rattle.h1_server.specs.Payload.{ReadsPayload};
+    ghost use Rattle.h1_server.specs.Payload.{ReadsPayload, limit_behind};
+    ghost use Rattle.h1_server.specs.Limit.{shown};
     ghost use Rattle.h1_server.specs.Calls.{is_head};
     ghost use Rattle.h1_transfer.specs.Calls.{Called, succeeds, read_fault_of};
 
@@ -101,12 +119,23 @@ impl<L: Link + Drop, C: Drop> HttpSession<L, C> {
             × (self.new ≡ self.old)) }
         ensures reads { IfNone self.old.body.refused
             (ReadsPayload L.state now self.old self.new result) }
+        ensures limit { IfNone self.old.body.refused (self.new.read_limit
+            ≡ limit_behind (shown self.old.settings.times.read) self.old.read_limit result) }
         ensures calls { Called (L.state self.old.link) (L.state self.new.link) (succeeds result)
             (read_fault_of result) }
         ensures plan { L.same_plan self.old.link self.new.link }
         ensures bound { length self.new.received < 2 ^ 63 }
     {
-        self.transfer
-            .poll_read_body_bytes(body_deadline(self.settings.times, now))
+        let deadline = body_deadline(self.settings.times, now);
+        let refused = self.transfer.body().refused;
+        match refused {
+            // A refusal that is answered again keeps its limit.
+            Some(_) => self.transfer.poll_read_body_bytes(deadline),
+            None => {
+                let answer = self.transfer.poll_read_body_bytes(deadline);
+                note_limit(&mut self.read_limit, deadline.limit, &answer);
+                answer
+            }
+        }
     }
 }

@@ -85,6 +85,7 @@ impl<L: Link + Drop, C: Drop> HttpSession<L, C> {
         self.keep = false;
         self.settings.start_over();
         self.reusable = false;
+        self.read_limit = None;
     }
 
     /// The link for the next request, with what was received and not used.

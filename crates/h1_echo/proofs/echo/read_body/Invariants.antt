@@ -6,7 +6,7 @@ use Rattle.h1_echo.proofs.echo.read_body.Given as goal
 
 abbrev pub invariant-reads : goal.invariant-reads
 invariant-reads g l = record {
-  reading : Reading g.L.Link.state l.fn.http l.http;
+  reading : Reading g.L.Link.state l.fn.now l.fn.http l.http;
   plan : g.L.Link.same_plan l.fn.http.link l.http.link;
 }
 

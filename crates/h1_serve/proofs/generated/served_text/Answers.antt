@@ -1,6 +1,5 @@
-use Rattle.std.proofs.Common.{ap, sym, ◌∙◌}
+use Rattle.std.proofs.Common.{ap, sym, ◌∙◌, length, refl}
 use Rattle.h1_link.specs.MemState.{MemState}
-use Rattle.h1_transcript.specs.Entries.{transcript_entries}
 use Rattle.h1_serve.proofs.GeneratedLemmas.{tells_of}
 use Rattle.h1_serve.proofs.generated.served_text.Goals as goal
 
@@ -8,9 +7,9 @@ pub returns : goal.returns
 returns c =
     let told =
     ap (λ (l : MemState). l.state.written) (sym c.link.ensures) ∙ c.written.ensures in
-    tells_of c.args.connection.now (transcript_entries c.transcript-transcript.result.now)
-    c.len.result c.body_bytes.result c.in-Some.end c.written.result.now c.push.new.self
-    c.transcript-transcript.ensures c.len.ensures c.body_bytes.ensures c.in-Some.ensures
+    tells_of c.args.connection.now c.in_ok-exchanges.exchanges.now
+    (length c.in_ok-exchanges.exchanges.now) c.body_bytes.result c.in-Some.end c.written.result.now c.push.new.self
+    (c.in_ok-exchanges.ensures ∙ c.transcript.ensures) refl c.body_bytes.ensures c.in-Some.ensures
     c.requires.end told (record {
       none = c.new-text.result;
       one = c.push_count.new.text;

@@ -1,4 +1,4 @@
-use Rattle.std.proofs.Common.{◌≡◌, Some, subst}
+use Rattle.std.proofs.Common.{◌≡◌, ◌∙◌, Some, subst}
 use Rattle.h1_link.specs.MemState.{MemState}
 use Rattle.h1_serve.proofs.LineLemmas.{goes_first, goes_next, goes_last, whole_text, next_in_time}
 use Rattle.h1_serve.proofs.scripted.play.Goals as goal
@@ -27,4 +27,5 @@ returns c =
     c.loop-command.text c.written.result.now c.push_written.new.text
     c.loop-command.invariant c.loop-command-test.false (subst Written c.link.ensures c.written.ensures)
     (whole_text c.loop-command.text c.push_exchanges.new.text c.push_written.new.text _ _ c.written.result.now
-    c.in_ok-push_exchanges.ensures c.transcript.ensures c.in_ok-push_written.ensures)
+    c.in_ok-push_exchanges.ensures (c.in_ok-exchanges.ensures ∙ c.transcript.ensures)
+    c.in_ok-push_written.ensures)

@@ -3,6 +3,7 @@ use Rattle.std.proofs.Common.{Some, refl}
 use Rattle.h1_app.proofs.Words.{view_of, limit_of, served_by}
 use Rattle.h1_app.specs.Words.{arc_value}
 use Rattle.h1_app.proofs.AgreesLemmas.{agrees_sound}
+use Rattle.h1_app.proofs.BodyTimeLemmas.{body_itself}
 use Rattle.h1_app.proofs.GoneLemmas.{cause_same}
 use Rattle.h1_app.proofs.WorkLemmas.{timely_same}
 use Rattle.h1_app.proofs.LeavesLemmas.{given_none}
@@ -69,6 +70,13 @@ returns-clause-timely g c = rw (← c.self.view_is) (given_none c.self.inside.en
     (view_of (served_by server.app server.modules) (limit_of server.server_options) c.self.inside.exchange c.self.inside.end)
     c.go_on.new.self (Some 64) c.go_on.result
     (rw c.set_poll_budget.ensures at c.go_on.ensures.timely)))
+
+pub returns-in-Some-clause-body : goal.returns-in-Some-clause-body
+returns-in-Some-clause-body g c = rw (← c.self.view_is) (body_itself c.args.now _ _)
+
+pub returns-clause-body : goal.returns-clause-body
+returns-clause-body g c =
+    rw (← c.self.view_is) (rw c.set_poll_budget.ensures at c.go_on.ensures.turned.gone.body)
 
 pub returns-clause-given : goal.returns-clause-given
 returns-clause-given g c = given_while _ _ _ _ _ _ _ _ c.go_on.ensures.sound

@@ -9,28 +9,28 @@ returns-in-Reads-clause-stepped g c = λ filters shutdown allowed.
     asked_stepped g.L.Link.state g.SV.ServeHttp.pends _ (g.SV.ServeHttp.runs c.args.app.now) c.args.now
     shutdown c.args.exchange.now _ c.last_entry-entry.result.now c.ask.new.entry c.in-Answer.job c.ask.new.job
     asked.Reads c.requires.ready allowed c.in-Answer.is c.last_entry-entry.ensures.value refl refl
-    c.in-Reads.ensures.asks c.in-Reads.ensures.runs c.in-Reads.ensures.gives c.in-Reads.ensures.pends
+    c.in-Reads.ensures.asks c.ask.ensures.timed c.in-Reads.ensures.runs c.in-Reads.ensures.gives c.in-Reads.ensures.pends
 
 pub returns-in-Pends-clause-stepped : goal.returns-in-Pends-clause-stepped
 returns-in-Pends-clause-stepped g c = λ filters shutdown allowed.
     asked_stepped g.L.Link.state g.SV.ServeHttp.pends _ (g.SV.ServeHttp.runs c.args.app.now) c.args.now
     shutdown c.args.exchange.now _ c.last_entry-entry.result.now c.ask.new.entry c.in-Answer.job c.ask.new.job
     asked.Pends c.requires.ready allowed c.in-Answer.is c.last_entry-entry.ensures.value refl refl
-    c.in-Pends.ensures.asks c.in-Pends.ensures.runs c.in-Pends.ensures.gives c.in-Pends.ensures.pends
+    c.in-Pends.ensures.asks c.ask.ensures.timed c.in-Pends.ensures.runs c.in-Pends.ensures.gives c.in-Pends.ensures.pends
 
 pub returns-in-Failed-clause-stepped : goal.returns-in-Failed-clause-stepped
 returns-in-Failed-clause-stepped g c = λ filters shutdown allowed.
     asked_stepped g.L.Link.state g.SV.ServeHttp.pends _ (g.SV.ServeHttp.runs c.args.app.now) c.args.now
     shutdown c.args.exchange.now _ c.last_entry-entry.result.now c.ask.new.entry c.in-Answer.job c.ask.new.job
     (asked.Failed c.in-Failed.error) c.requires.ready allowed c.in-Answer.is c.last_entry-entry.ensures.value refl refl
-    c.in-Failed.ensures.asks c.in-Failed.ensures.runs c.in-Failed.ensures.gives c.in-Failed.ensures.pends
+    c.in-Failed.ensures.asks c.ask.ensures.timed c.in-Failed.ensures.runs c.in-Failed.ensures.gives c.in-Failed.ensures.pends
 
 pub returns-in-Replied-clause-stepped : goal.returns-in-Replied-clause-stepped
 returns-in-Replied-clause-stepped g c = λ filters shutdown allowed.
     asked_stepped g.L.Link.state g.SV.ServeHttp.pends _ (g.SV.ServeHttp.runs c.args.app.now) c.args.now
     shutdown c.args.exchange.now _ c.last_entry-entry.result.now c.ask.new.entry c.in-Answer.job c.ask.new.job
     (asked.Replied c.in-Replied.reply) c.requires.ready allowed c.in-Answer.is c.last_entry-entry.ensures.value refl refl
-    c.in-Replied.ensures.asks c.in-Replied.ensures.runs c.in-Replied.ensures.gives c.in-Replied.ensures.pends
+    c.in-Replied.ensures.asks c.ask.ensures.timed c.in-Replied.ensures.runs c.in-Replied.ensures.gives c.in-Replied.ensures.pends
 
 pub returns-in-Reads-clause-filters : goal.returns-in-Reads-clause-filters
 returns-in-Reads-clause-filters g c =

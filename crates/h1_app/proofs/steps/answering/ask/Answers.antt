@@ -1,7 +1,7 @@
 use Rattle.std.proofs.Common.{ap, ◌∙◌, refl, sym, subst}
 use Rattle.h1_app.proofs.Words.{noted, GivesAsked, lent}
 use Rattle.h1_app.specs.Words.{given_to, Entry}
-use Rattle.h1_app.proofs.AskLemmas.{asked_as, gives_asked, given_noted}
+use Rattle.h1_app.proofs.AskLemmas.{asked_as, asked_timed, gives_asked, given_noted}
 use Rattle.h1_app.proofs.steps.answering.ask.Goals as goal
 
 pub returns-clause-asks : goal.returns-clause-asks
@@ -14,6 +14,13 @@ returns-clause-asks g c =
     c.poll_response-answer.ensures.reads c.take_waits-waits.ensures.asked
     c.take_waits-waits.ensures.rest c.take_back.ensures.session c.take_back.ensures.entry refl
     c.seen_as.ensures
+
+pub returns-clause-timed : goal.returns-clause-timed
+returns-clause-timed g c =
+    asked_timed g.L.Link.state c.args.now c.args.session.now c.keep_payload.new.self
+    c.poll_response-answer.new.http c.take_waits-waits.new.self c.take_back.new.session _
+    (c.keep_payload.ensures ∙ ap (lent c.args.session.now) c.replace.ensures.value)
+    c.poll_response-answer.ensures.timed c.take_waits-waits.ensures.rest c.take_back.ensures.session
 
 pub returns-clause-gives : goal.returns-clause-gives
 returns-clause-gives g c =

@@ -2,9 +2,8 @@
 use Rattle.std.proofs.Common.{refl}
 use Rattle.h1_app.proofs.HeadLemmas.{at_head, none_few, none_stepped, head_waits, closed_none, closed_ends, failed_ends}
 use Rattle.h1_app.proofs.BeginLemmas.{begun_stepped, set_alike}
-use Rattle.h1_app.specs.Words.{keepalive_set}
+use Rattle.h1_app.specs.Words.{head_time, keepalive_set}
 use Rattle.h1_error.specs.declared.progress.Waiting.TheVariants as waiting
-use Rattle.h1_app.proofs.Words.{head_time}
 use Rattle.h1_app.proofs.SetLemmas.{set_stepped}
 use Rattle.h1_app.proofs.StartLemmas.{begun_continues, begun_leaves}
 use Rattle.h1_app.proofs.TimelyLemmas.{fails_in_time, minute, none_in_time, waits_in_time}
