@@ -1,6 +1,6 @@
 -- A connection's transcript agrees with what its link gave and took.
 use Rattle.std.proofs.Common.{◌≡◌, ℕ, ◌+◌, ◌-◌, ◌^◌, min, drop, ap, append-nil, List, [], ◌∷◌, ◌++◌, length, false, option_to_list, Option, Some, None, IfSome, refl, sym, ◌∙◌, append_assoc}
-use Rattle.h1_app.specs.Words.{Rules, AllByRecursion, End, Error, ErrorType, LinkState, RequestView, Body, whole, unfinished, broken, ahead, body, reads, HasRead, framing, SessionView, Settings, Reply, Entry, Stage, StoodAs, ReadBehind, WroteBehind, AfterRead, AfterWrote, DoneBehind, FlushedBy, render, IsAllowed}
+use Rattle.h1_app.specs.Words.{Rules, Terms, AllByRecursion, End, Error, ErrorType, LinkState, Body, whole, unfinished, broken, ahead, body, reads, HasRead, framing, SessionView, Reply, Entry, Stage, StoodAs, ReadBehind, WroteBehind, AfterRead, AfterWrote, DoneBehind, FlushedBy, render, IsAllowed}
 use Rattle.h1_application.specs.Application.{Runs}
 use Rattle.h1_error.specs.declared.error.ErrorType.TheVariants as kind
 use Rattle.h1_body.specs.Body.{payload_of}
@@ -168,13 +168,13 @@ last_wrote rest session (Some e) kept h sent = one_reply rest session e kept h s
 
 -- a sound connection's transcript agrees
 pub agrees_sound : {L C J : Type 0} (rules : Rules)
-    (runs : Runs J) (limit : Option ℕ)
+    (runs : Runs J) (terms : Terms)
     (state : L → LinkState)
     (session : SessionView L C) (done : List Entry) (last : Option Entry) (at : Stage J)
     (end : Option End) (before : LinkState)
-    → Sound rules runs limit session done last at end → Accounted state before session done last
-    → Agrees rules limit before (state session.link) (done ++ option_to_list last)
-agrees_sound rules runs limit state session done last at end before sound s = record {
+    → Sound rules runs terms session done last at end → Accounted state before session done last
+    → Agrees rules terms before (state session.link) (done ++ option_to_list last)
+agrees_sound rules runs terms state session done last at end before sound s = record {
   read = told_map before.given (state session.link).given (AfterRead done (λ rest. ReadSo rest session last)) _
       (λ since h. read_agrees (state session.link) done (option_to_list last) since h.0 h.1
       (last_read state h.0 session last s.stopped h.2)) s.read;

@@ -305,6 +305,7 @@ asked_grows {L} {C} state now old new e e2 e3 answer like a h limit =
     let within = refused_in state (lent old e.body) h.behind old.body.refused r.refused in
     let link : (state new.link) ≡ (state h.behind.link) = ap (λ (x : SessionView L C). state x.link) h.session in
     subst (λ (x : Entry). Grows now (state old.link) (state new.link) e x) (sym entry) (record {
+      history = refl;
       head = refl;
       both = refl;
       filtered = stays_itself e.filtered;

@@ -1,10 +1,11 @@
 -- Steps that begin an exchange.
-use Rattle.std.proofs.Common.{◌≡◌, ◌⊎◌, inl, inr, ℕ, ◌+◌, ◌*◌, ◌<◌, ◌≤◌, List, [], ◌∷◌, Bool, true, false, Option, Some, None, IfSome, option_map, Result, Ok, Err, refl, sym, ◌∙◌, ap, subst, lit<, arith}
+use Rattle.std.proofs.Common.{◌≡◌, ◌⊎◌, inl, inr, ℕ, ◌+◌, ◌*◌, ◌<◌, ◌≤◌, List, [], ◌∷◌, Bool, true, false, Option, Some, None, IfOk, IfSome, OnOk, option_map, Result, Ok, Err, refl, sym, ◌∙◌, ap, subst, lit<, arith}
 use Rattle.std.proofs.lemmas.Bool.{false≢true}
 use Rattle.std.proofs.lemmas.Option.{same_Some}
 use Rattle.h1_modules.specs.Outcome.{refused_by}
-use Rattle.h1_app.specs.Beginning.{NotBegun, NotStarted, StandsBegun, StartedAs, StartedWith, kept_again, with_filtered}
-use Rattle.h1_app.specs.Words.{Rules, Filters, IsRefusedBy, Given, Error, Ready, LinkState, no_memory, RequestView, body, reads, framing, SessionView, allowance, Request, Settings, Reply, Entry, Exchange, TranscriptView, Outgoing, Stage, Outcome, IsSetAlike, IsAllowed, head_time, keepalive_set}
+use Rattle.h1_transcript.specs.Entries.{new_entry, with_last}
+use Rattle.h1_app.specs.Beginning.{IfLast, NotBegun, NotStarted, StandsBegun, StartedAs, StartedWith, kept_again, with_filtered}
+use Rattle.h1_app.specs.Words.{Rules, Filters, IsRefusedBy, Given, Error, Ready, LinkState, no_memory, RequestView, body, reads, framing, SessionView, allowance, Request, Settings, Reply, Entry, Exchange, TranscriptView, Outgoing, Stage, Outcome, IsSetAlike, BeginsIn, IsAllowed, head_time, keepalive_set}
 use Rattle.h1_application.specs.Application.{Runs}
 use Rattle.h1_server.specs.declared.request.ReadRequest.TheVariants as read
 use Rattle.h1_app.specs.declared.exchange.Stage.TheVariants as stage
@@ -21,6 +22,41 @@ use Rattle.h1_app.proofs.BodyTimeLemmas.{body_begun, body_none}
 use Rattle.h1_app.proofs.HeadLemmas.{AtHead, read_noted}
 use Rattle.h1_app.proofs.StartLemmas.{errs_by}
 use Rattle.h1_app.proofs.TimelyLemmas.{fails_anyhow}
+
+-- an exchange that began is new
+pub entry_begun : (request : Request) (settings : Settings) (old new : TranscriptView)
+    (result : Result (Unit {0}) Error)
+    → OnOk result
+    (new ≡ with_last old (new_entry old.history settings request.both request.header))
+    → IfOk result (λ done. IfLast new.last
+    (λ e. IsNewEntry request settings e × (e.filtered ≡ Some request.header)))
+entry_begun request settings old new (Err error) is = tt
+entry_begun request settings old new (Ok done) is = (
+  new_entry old.history settings request.both request.header,
+  rw is refl,
+  (
+    record {
+      head = refl;
+      both = refl;
+      body = refl;
+      handed = refl;
+      body_error = refl;
+      read_limit = refl;
+      reply = refl;
+      sent_head = refl;
+      sent_body = refl;
+      date = refl;
+      date_text = refl;
+      keep = refl;
+      written = refl;
+      how = refl;
+      owed = refl;
+      began = refl;
+      left = refl;
+    },
+    refl,
+  ),
+)
 
 -- the application is started for what the filters made of the request that was read
 begun_sound : {L C J : Type 0} (runs : Runs J)
@@ -153,7 +189,8 @@ module _ {L C J M : Type 0} (state : L → LinkState) (begins : J → Type 0) (p
     (runs : Runs J) (chain : Chain M) (now : ℕ)
     (shutdown : Bool) (x : Exchange L J C) (mid : SessionView L C) (transcript : TranscriptView)
     (n : ℕ) (at : x.stage ≡ stage.Head)
-    (h : AtHead state now x.session mid x.transcript.last (Ready (Ok (read.Head n)))) where
+    (h : AtHead state now x.session mid x.transcript.last (Ready (Ok (read.Head n))))
+    (kept : BeginsIn x.transcript.history x.transcript.last transcript.last) where
   abbrev again : SessionView L C
   again = kept_again shutdown mid
 
@@ -216,6 +253,7 @@ module _ {L C J M : Type 0} (state : L → LinkState) (begins : J → Type 0) (p
         });
         begins_with = rw (h.alone, last, entry.began)
             (settings_alike, keeps_time shutdown mid.settings);
+        begins_in = kept;
         reads_not_ready = rw (h.alone, last) (few result);
         body = rw (h.alone, last) (body_begun now x.session.body.since.read
             mid.body.since.read e (read_noted state now x.session mid x.transcript.last
@@ -289,6 +327,7 @@ module _ {L C J M : Type 0} (state : L → LinkState) (begins : J → Type 0) (p
         kept = rw s.none tt;
         extends = rw (h.alone, s.none) tt;
         begins_with = rw (h.alone, s.none) settings_alike;
+        begins_in = kept;
         reads_not_ready = rw (h.alone, s.none) (omega (arith, unread));
         body = rw (h.alone, s.none) (body_none now x.session.body.since.read mid.body.since.read
             (read_noted state now x.session mid x.transcript.last (Ready (Ok (read.Head n))) h));

@@ -1,7 +1,7 @@
 -- The steps that write the body of a reply, whole.
 use Rattle.std.proofs.Common.{◌⊎◌, inl, inr, Bool, Err, IfNone, IfSome, List, None, Ok, Option, Result, Some, [], ap, arith, is_some, nat_lt, not, false, refl, sym, true, ℕ, ◌∙◌, ◌≡◌}
 use Rattle.std.proofs.lemmas.Option.{none-some}
-use Rattle.h1_app.specs.Words.{Rules, Entry, Error, ErrorType, Exchange, IsAllowed, IsRefused, LinkState, Outcome, Outgoing, Rose, Step, Pending, Poll, Ready, Reply, RequestView, SessionView, Settings, WritesPiece, after_piece, allowance, shown}
+use Rattle.h1_app.specs.Words.{Rules, Entry, Error, ErrorType, Exchange, IsAllowed, IsRefused, LinkState, Outcome, Outgoing, Rose, Step, Pending, Poll, Ready, Reply, SessionView, Settings, WritesPiece, after_piece, allowance, shown}
 use Rattle.h1_application.specs.Application.{Runs}
 use Rattle.h1_body.specs.Writer.{piece_bytes}
 use Rattle.h1_server.specs.Times.{piece_deadline}

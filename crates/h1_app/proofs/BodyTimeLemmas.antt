@@ -1,5 +1,5 @@
 -- What steps leave of the waits for a request's body, one after the other.
-use Rattle.std.proofs.Common.{◌≡◌, ◌⊎◌, inl, inr, ℕ, nat_lt, Bool, true, false, Option, Some, None, Result, Ok, Err, refl, sym, ◌∙◌, ap, subst}
+use Rattle.std.proofs.Common.{◌≡◌, ◌⊎◌, inl, inr, ℕ, nat_lt, Bool, true, false, Option, Some, None, Result, Ok, Err, refl, sym, ◌∙◌, subst}
 use Rattle.h1_app.specs.Words.{Poll, Ready, Pending, Error, Entry, Grows, LinkState, ReusesBy, SessionView, keeps_alive, allowance, Rose}
 use Rattle.h1_error.specs.declared.error.ErrorType.TheVariants as kind
 use Rattle.h1_application.specs.Application.{LimitedBy}

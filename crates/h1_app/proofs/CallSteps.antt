@@ -1,6 +1,6 @@
 -- The steps that make one call that writes a part of a reply.
 use Rattle.std.proofs.Common.{◌≢◌, ◌⊎◌, inr, Bool, Err, List, None, Ok, Option, Result, Some, [], ap, false, inl, refl, true, ℕ, ◌++◌, ◌+◌, ◌<◌, ◌∙◌, ◌≡◌, ◌≤◌}
-use Rattle.h1_app.specs.Words.{Rules, Called, Entry, Error, ErrorType, Exchange, FailureCause, IsAllowed, IsRefused, LinkState, Outcome, Outgoing, Pending, Poll, Ready, Reply, Request, RequestView, Rose, RoseBy, Settings, Stage, Step, Writes, written_of}
+use Rattle.h1_app.specs.Words.{Rules, Called, Entry, Error, ErrorType, Exchange, FailureCause, IsAllowed, IsRefused, LinkState, Outcome, Outgoing, Pending, Poll, Ready, Reply, Request, Rose, RoseBy, Stage, Step, Writes, written_of}
 use Rattle.h1_application.specs.Application.{Runs}
 use Rattle.h1_error.specs.declared.error.ErrorType.TheVariants as kind
 use Rattle.h1_transfer.specs.Calls.{CallsFew, OneOther, succeeds, write_fault_of}
@@ -44,7 +44,7 @@ pub call_continues : {L C J T : Type 0} (state : L → LinkState) (same_plan : L
     (begins : J → Type 0) (pends : J → ℕ) (x y : Exchange L J C) (result : Outcome)
     (answer : Poll (Result T Error)) (done : Bool → Bool) (from owed later : Stage J)
     → x.stage ≡ from → y.transcript.done ≡ x.transcript.done
-    → same_plan x.session.link y.session.link
+    → y.transcript.history ≡ x.transcript.history → same_plan x.session.link y.session.link
     → JobFrom begins pends from from → JobFrom begins pends from owed
     → JobFrom begins pends from later
     → Called (state x.session.link) (state y.session.link) (done (succeeds answer))
@@ -56,7 +56,7 @@ pub call_continues : {L C J T : Type 0} (state : L → LinkState) (same_plan : L
     → StandsAfter answer owed later x.stage y.stage result
     → Continues state same_plan begins pends x y result
 call_continues {L} {C} {J} {T} state same_plan begins pends x y result answer done from owed later
-    stage same plan job job_owed job_later calls once few stands =
+    stage same history plan job job_owed job_later calls once few stands =
     by_answer answer calls.others (rw stage at stands)
   where
     continues : (to : Stage J) → y.stage ≡ to → JobFrom begins pends from to
@@ -64,6 +64,7 @@ call_continues {L} {C} {J} {T} state same_plan begins pends x y result answer do
         → Continues state same_plan begins pends x y result
     continues to is job others = record {
       done = same;
+      history = history;
       plan = plan;
       job = rw (stage, is) job;
       others = rw (stage, is) others;

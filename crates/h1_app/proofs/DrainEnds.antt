@@ -3,7 +3,7 @@ use Rattle.std.proofs.Common.{◌≡◌, ℕ, ◌<◌, ◌⊎◌, inl, inr, List
 use Rattle.std.proofs.lemmas.Bool.{false≢true, and_parts, not-true, not-false}
 use Rattle.std.proofs.lemmas.Option.{IfSome_then, same_Some}
 use Rattle.std.proofs.lemmas.List.{take-append-le}
-use Rattle.h1_app.specs.Words.{Rules, Ready, Error, ErrorType, LinkState, RequestView, ResponseView, wish, whole, out, reads, end_bytes, Framing, Counted, Chunked, UntilClose, Lacks, BodyRefusal, has_reuses, keeps_alive, may_follow, SessionView, Outgoing, Settings, Reply, Stage, Entry, How, Open, Whole, Failed, IsLawful, AfterRead, is_until_close, FailureCause, IsComplete, LacksSo, IsAllowed, IsDated, given_to, is_short, may_keep, Grows, IfTold}
+use Rattle.h1_app.specs.Words.{Rules, Ready, Error, ErrorType, LinkState, ResponseView, wish, whole, out, reads, end_bytes, Framing, Counted, Chunked, UntilClose, Lacks, BodyRefusal, has_reuses, keeps_alive, may_follow, SessionView, Outgoing, Settings, Reply, Stage, Entry, How, Open, Whole, Failed, IsLawful, AfterRead, is_until_close, FailureCause, IsComplete, LacksSo, IsAllowed, IsDated, given_to, is_short, may_keep, Grows, IfTold}
 use Rattle.h1_application.specs.Application.{Runs}
 use Rattle.h1_error.specs.declared.error.ErrorType.TheVariants as kind
 use Rattle.h1_body.specs.Reader as reader
@@ -189,6 +189,7 @@ module _ {L C : Type 0} (state : L → LinkState) (old new : SessionView L C) (e
   drain_grows now =
       let g : Entry = record e { body = e.body ++ r.payload } in
       subst (λ (x : Entry). Grows now (state old.link) (state new.link) e x) (sym r.entry) (record {
+        history = refl;
         head = refl;
         both = refl;
         filtered = stays_itself e.filtered;

@@ -1,6 +1,6 @@
 -- The step that drains a request's body, whole.
-use Rattle.std.proofs.Common.{◌≡◌, ℕ, List, [], ◌∷◌, Bool, true, false, inl, IfSome, Some, Result, Ok, Err, sym, ◌∙◌, ap, subst, ◌+◌, ◌≤◌, arith, ◌-◌, ◌<◌, Option, None, option_map, refl}
-use Rattle.h1_app.specs.Words.{Rules, Poll, Ready, Pending, Error, FaultsBy, LinkState, RequestView, keeps_alive, SessionView, Settings, Entry, Exchange, TranscriptView, Stage, Outcome, IsAllowed, replies}
+use Rattle.std.proofs.Common.{◌≡◌, ℕ, [], ◌∷◌, Bool, true, false, inl, IfSome, Some, Result, Ok, Err, sym, ◌∙◌, ap, subst, ◌+◌, ◌≤◌, arith, ◌-◌, ◌<◌, Option, None, option_map, refl}
+use Rattle.h1_app.specs.Words.{Rules, Poll, Ready, Pending, Error, FaultsBy, LinkState, keeps_alive, SessionView, Settings, Entry, Exchange, TranscriptView, Stage, Outcome, IsAllowed, replies}
 use Rattle.h1_application.specs.Application.{Runs}
 use Rattle.h1_app.proofs.Words.{ReusesAs, IsDraining, JobFrom, Leaves, MovesWithin, StepReady, Stepped, OutcomeCause, FewReadsNotReady, outcome_end, ahead, CalledForReuse, ShutUnless, StandsDrained, Continues, OthersFew}
 use Rattle.h1_app.proofs.DrainEnds.{at_drain, drain_moves, drain_accounted, drain_allowed, drain_kept, drain_grows, drain_waits, drain_fails, drain_overread, drain_more, drain_shut, draining_on, drain_over}
@@ -152,9 +152,9 @@ module _ {L C J : Type 0} (state : L → LinkState)
   -- what continues through the step
   pub drain_continues : (same_plan : L → L → Type 0) (begins : J → Type 0) (pends : J → ℕ)
       (transcript : TranscriptView) → transcript.done ≡ x.transcript.done
-      → same_plan x.session.link new.link → Continues state same_plan begins pends x
+      → transcript.history ≡ x.transcript.history → same_plan x.session.link new.link → Continues state same_plan begins pends x
       (record { session = new; transcript = transcript; stage = to }) result
-  drain_continues same_plan begins pends transcript same plan =
+  drain_continues same_plan begins pends transcript same history plan =
       by_answer answer (keeps_alive new) called.others stands
     where
       y : Exchange L J C
@@ -164,7 +164,13 @@ module _ {L C J : Type 0} (state : L → LinkState)
           → OthersFew (state x.session.link) (state new.link) at.Drain at_last result
           → Continues state same_plan begins pends x y result
       continues at_last is job few =
-          record { done = same; plan = plan; job = rw (stage, is) job; others = rw (stage, is) few }
+          record {
+            done = same;
+            history = history;
+            plan = plan;
+            job = rw (stage, is) job;
+            others = rw (stage, is) few;
+          }
 
       by_answer : (answer : Poll (Result Bool Error)) (alive : Bool)
           → CallsFew (state x.session.link) (state new.link) (is_reused answer)

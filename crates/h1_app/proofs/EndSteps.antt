@@ -1,7 +1,7 @@
 -- The step that ends a reply, whole.
-use Rattle.std.proofs.Common.{Bool, Err, IfNone, IfSome, List, None, Ok, Option, Result, Some, ap, arith, false, inl, inr, refl, subst, sym, ℕ, ◌∙◌, ◌≡◌, ◌⊎◌}
+use Rattle.std.proofs.Common.{Bool, Err, IfNone, IfSome, None, Ok, Option, Result, Some, ap, arith, false, inl, inr, refl, subst, sym, ℕ, ◌∙◌, ◌≡◌, ◌⊎◌}
 use Rattle.std.proofs.lemmas.Bool.{false≢true}
-use Rattle.h1_app.specs.Words.{Rules, EndCall, Entry, Error, ErrorType, Exchange, IsAllowed, LinkState, Outcome, Pending, Poll, Ready, RequestView, Settings, Stage, stage_of}
+use Rattle.h1_app.specs.Words.{Rules, EndCall, Entry, Error, ErrorType, Exchange, IsAllowed, LinkState, Outcome, Pending, Poll, Ready, Stage, stage_of}
 use Rattle.h1_application.specs.Application.{Runs}
 use Rattle.h1_app.specs.Timely.{FailsInTime, StepsInTime}
 use Rattle.h1_app.specs.Work.{rest_waits}

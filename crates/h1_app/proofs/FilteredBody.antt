@@ -4,7 +4,7 @@ use Rattle.std.proofs.lemmas.Bool.{false≢true, ne_eqb}
 use Rattle.h1_modules.specs.Filters.{run}
 use Rattle.h1_modules.specs.Outcome.{ErrsBy, Outcome as Made, Piece, refused_by}
 use Rattle.h1_transcript.specs.Refusals.{IsReplyRefusedBy}
-use Rattle.h1_app.specs.Words.{End, Entry, Error, Exchange, Filters, Given, LinkState, Outcome, Reply, RequestView, ResponseView, Settings, no_memory}
+use Rattle.h1_app.specs.Words.{End, Entry, Error, Exchange, Filters, Given, LinkState, Outcome, Reply, ResponseView, no_memory}
 use Rattle.h1_application.specs.Application.{Runs}
 use Rattle.h1_app.proofs.RefusedSteps.{erred_by}
 use Rattle.h1_app.proofs.ReplyLemmas.{at_some}

@@ -1,7 +1,7 @@
 -- The end of the reply's body is written, and what is left of the request's body may be read.
 use Rattle.std.proofs.Common.{Bool, Err, IfNone, IfSome, IsSome, List, None, Ok, Option, Result, Some, [], ap, append-nil, arith, false, inl, inr, not, refl, subst, sym, true, ℕ, ◌++◌, ◌+◌, ◌<◌, ◌^◌, ◌∙◌, ◌≡◌, ◌⊎◌}
 use Rattle.std.proofs.lemmas.Bool.{false≢true}
-use Rattle.h1_app.specs.Words.{Chunked, Counted, EndCall, Entry, Error, ErrorType, EndCause, FailureCause, FlushedBy, Framing, IsComplete, IsRefused, IsWrittenShort, LinkState, Outgoing, Pending, Poll, Ready, Reply, Request, RequestView, ResponseView, Rose, RoseBy, SessionView, Settings, Step, UntilClose, WriterView, Writes, after_piece, allowance, begun, end_bytes, is_replied, out, stage_of, written_of}
+use Rattle.h1_app.specs.Words.{Chunked, Counted, EndCall, Entry, Error, ErrorType, EndCause, FailureCause, FlushedBy, Framing, IsComplete, IsRefused, IsWrittenShort, LinkState, Outgoing, Pending, Poll, Ready, Reply, Request, ResponseView, Rose, RoseBy, SessionView, Step, UntilClose, WriterView, Writes, after_piece, allowance, begun, end_bytes, is_replied, out, stage_of, written_of}
 use Rattle.h1_application.specs.Application.{Runs}
 use Rattle.h1_server.specs.Writes.{EndsShort, WritesEnd}
 use Rattle.h1_transfer.specs.EndWrites.{EndAnswer, end_stage, goes_on, starts}

@@ -45,7 +45,7 @@ pub turned_stays : {L C A J : Type 0} (state : L → LinkState) (same_plan : L �
 turned_stays state same_plan now shutdown at end stop plan more leaves = record {
   gone = record {
     served = refl;
-    limit = refl;
+    terms = refl;
     plan = plan;
     moves = moves_none state at.session at.session refl refl refl;
     accounted = λ before s. s;
@@ -67,7 +67,7 @@ gone_on : {L C A J : Type 0} {state : L → LinkState} {same_plan : L → L → 
     → Gone state same_plan now shutdown b c → Gone state same_plan now shutdown a c
 gone_on {state = state} {now = now} {shutdown = shutdown} a b c on x y = record {
   served = y.served ∙ x.served;
-  limit = y.limit ∙ x.limit;
+  terms = y.terms ∙ x.terms;
   plan = on x.plan y.plan;
   moves = moves_on state a.session b.session c.session x.moves y.moves;
   accounted = λ before s. y.accounted before (x.accounted before s);

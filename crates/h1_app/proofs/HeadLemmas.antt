@@ -3,7 +3,7 @@ use Rattle.std.proofs.Common.{◌≡◌, ◌⊎◌, ℕ, ◌+◌, ◌≤◌, nat
 use Rattle.h1_server.specs.Times.{head_limit}
 use Rattle.h1_app.specs.BodyTimes.{IsNotedIn}
 use Rattle.h1_app.proofs.BodyTimeLemmas.{body_none, head_noted}
-use Rattle.h1_app.specs.Words.{End, Given, Poll, Ready, Pending, Error, LinkState, Rose, RequestView, SessionView, BodyState, allowance, Settings, Reply, Entry, Exchange, Outcome, Stage, AfterRead, EndCause, IfTold, IsSetAlike}
+use Rattle.h1_app.specs.Words.{End, Given, Poll, Ready, Pending, Error, LinkState, Rose, SessionView, BodyState, allowance, Settings, Reply, Entry, Exchange, Outcome, Stage, AfterRead, EndCause, IfTold, IsSetAlike}
 use Rattle.h1_application.specs.Application.{Runs}
 use Rattle.h1_error.specs.declared.progress.Waiting.TheVariants as waiting
 use Rattle.h1_error.specs.declared.progress.End.TheVariants as end
@@ -195,6 +195,7 @@ none_stepped state pends gives runs chain now shutdown modules x y answer result
       extends = rw (same, h.alone) tt;
       begins_with = rw (same, h.alone, none.settings)
           (record { closing = refl; pipelining = refl; reuses = refl; times = refl });
+      begins_in = rw (same, h.alone) tt;
       reads_not_ready = rw (same, h.alone) few;
       body = rw (same, h.alone) (body_none now x.session.body.since.read y.session.body.since.read
           (read_noted state now x.session y.session x.transcript.last answer h));

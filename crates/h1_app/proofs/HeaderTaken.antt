@@ -9,7 +9,8 @@ use Rattle.httpdate.proofs.Theorems.{unix_secs_injective}
 use Rattle.h1_app.proofs.PartLemmas.{Part, WritesPart, replying}
 use Rattle.h1_app.proofs.ReplyLemmas.{ahead_wrote, at_none, at_some}
 use Rattle.h1_transcript.proofs.GrowthLemmas.{stays_itself}
-use Rattle.h1_app.proofs.Words.{IsHeaded, IsReplied, IsUnwritten, coming, fresh, ahead}
+use Rattle.h1_server.specs.Replies.{kept_by}
+use Rattle.h1_app.proofs.Words.{IsHeaded, IsReplied, IsUnwritten, NotesHeader, coming, fresh, ahead}
 use Rattle.h1_app.specs.declared.exchange.Stage.TheVariants as at
 
 -- what an exchange notes of a header that is taken up
@@ -24,6 +25,36 @@ taken_up e header now text session =
       owed = true;
       written = session.reply.sent;
     }
+
+-- a header that was taken up is noted
+pub header_noted : (headed keep : Bool) (sent : ResponseView) (now written : ℕ) (date : List ℕ)
+    (old new : Entry) → headed ≡ true → IsDateAt (now / 1000) date
+    → new ≡ record old {
+      sent_head = Some sent;
+      date = now / 1000;
+      date_text = date;
+      keep = keep;
+      owed = true;
+      written = written;
+    } → NotesHeader (kept_by (Some sent) headed) sent now keep written old new
+header_noted headed keep sent now written date old new is dated noted =
+    rw (is, noted) (dated, refl)
+
+-- and so is the reply's own
+pub own_header_noted : (headed keep : Bool) (reply : Option Reply) (now written : ℕ)
+    (date : List ℕ) (old new : Entry) → headed ≡ true → IsDateAt (now / 1000) date
+    → IfSome reply (λ reply. new ≡ record old {
+      sent_head = Some reply.header;
+      date = now / 1000;
+      date_text = date;
+      keep = keep;
+      owed = true;
+      written = written;
+    }) → IfSome reply (λ reply.
+    NotesHeader (kept_by (Some reply.header) headed) reply.header now keep written old new)
+own_header_noted headed keep None now written date old new is dated noted = tt
+own_header_noted headed keep (Some reply) now written date old new is dated noted =
+    header_noted headed keep reply.header now written date old new is dated noted
 
 -- the call with the header handed in
 pub taking_header : {L C : Type 0} (state : L → LinkState) (old new : SessionView L C)

@@ -1,6 +1,6 @@
 -- A step in which no filter of the exchange runs leaves its modules as they stand.
 use Rattle.std.proofs.Common.{◌≡◌, ◌<◌, ◌⊎◌, inl, inr, ℕ, List, Bool, Option, Some, None, IsSome}
-use Rattle.h1_app.specs.Words.{Entry, Exchange, Given, LinkState, Outcome, Reply, RequestView, ResponseView, Settings, YEAR_10000}
+use Rattle.h1_app.specs.Words.{Entry, Exchange, Given, LinkState, Outcome, Reply, RequestView, ResponseView, Terms, YEAR_10000}
 use Rattle.h1_application.specs.Application.{Runs}
 use Rattle.h1_app.specs.Filtering.{StandBehindHeader, StandBehindRequest, StandIn}
 use Rattle.h1_app.proofs.Words.{Chain, FilterReady, FiltersStay, ModulesStand, SoundWith, SteppedBy, SteppedWith, filters_of, outcome_end}
@@ -54,10 +54,10 @@ stepped_with state pends gives runs chain now shutdown modules x y result ready 
 
 -- a sound connection that goes on is ready for a step
 pub ready_with : {L C J M : Type 0} (gives : Given → Reply → Type 0)
-    (runs : Runs J) (chain : Chain M) (limit : Option ℕ)
-    (now : ℕ) (modules : List M) (x : Exchange L J C) → SoundWith gives runs chain limit x modules None
+    (runs : Runs J) (chain : Chain M) (terms : Terms)
+    (now : ℕ) (modules : List M) (x : Exchange L J C) → SoundWith gives runs chain terms x modules None
     → IsSome x.session.budget → now < YEAR_10000 → FilterReady gives runs chain now modules x
-ready_with gives runs chain limit now modules x s budget moment = record {
+ready_with gives runs chain terms now modules x s budget moment = record {
   ready = record { sound = s.sound.stage; kept = s.sound.kept; budget = budget; moment = moment };
   allowed = s.sound.allowed;
   stand = s.stand;

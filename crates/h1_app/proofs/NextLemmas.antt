@@ -1,7 +1,7 @@
 -- What becomes of a connection where its last exchange is over and the next head is awaited.
 use Rattle.std.proofs.Common.{◌≡◌, ℕ, ◌+◌, ◌<◌, List, [], ◌∷◌, ◌++◌, length, Bool, true, false, Option, Some, None, refl, sym, ◌∙◌, ap, subst, append-nil, length-append, arith}
 use Rattle.std.proofs.lemmas.Bool.{false≢true}
-use Rattle.h1_app.specs.Words.{Filters, Given, Rules, End, LinkState, RequestView, AwaitsNext, AfterRead, WithinRead, may_follow, one_less, BodyState, SessionView, Settings, Reply, Entry, Exchange, Stage, AreBegun, IfTold, IsNextSet, reuses_at, IsAllowed, Extends}
+use Rattle.h1_app.specs.Words.{Filters, Terms, Given, Rules, End, LinkState, AwaitsNext, AfterRead, WithinRead, may_follow, one_less, BodyState, SessionView, Settings, Reply, Entry, Exchange, Stage, AreBegun, IfTold, IsNextSet, reuses_at, IsAllowed, Extends}
 use Rattle.h1_application.specs.Application.{Runs}
 use Rattle.h1_app.specs.declared.exchange.Stage.TheVariants as stage
 use Rattle.h1_app.specs.declared.exchange.Outcome.TheVariants as outcome
@@ -48,36 +48,36 @@ one_fewer None i = refl
 one_fewer (Some limit) i = ap (λ (n : ℕ). Some n) (omega arith)
 
 -- what is set for the next exchange is what the last one left, with one request fewer to follow
-next_set : {L C : Type 0} (limit : Option ℕ) (old new : SessionView L C) (done : List Entry)
+next_set : {L C : Type 0} (terms : Terms) (old new : SessionView L C) (done : List Entry)
     (e : Entry) → IsDraining e old
-    → AwaitsNext old new → e.left.reuses ≡ e.began.reuses → AreBegun limit 0 false (done ++ e ∷ [])
-    → IsNextSet limit (done ++ e ∷ []) new.settings
-next_set limit old new done e d a reuses begun =
+    → AwaitsNext old new → e.left.reuses ≡ e.began.reuses → AreBegun terms 0 false (done ++ e ∷ [])
+    → IsNextSet terms (done ++ e ∷ []) new.settings
+next_set terms old new done e d a reuses begun =
     let settings = ap (λ s. s.settings) a.rest in
-    let left : old.settings.reuses ≡ reuses_at limit (0 + length done) =
-    ap (λ (s : Settings). s.reuses) (sym d.left) ∙ reuses ∙ begun_last limit 0 false done e begun in
+    let left : old.settings.reuses ≡ reuses_at terms.limit (0 + length done) =
+    ap (λ (s : Settings). s.reuses) (sym d.left) ∙ reuses ∙ begun_last terms 0 false done e begun in
     let more : 0 + length done + 1 ≡ length (done ++ e ∷ []) = omega (arith, length-append done (e ∷ [])) in
     record {
       closing = ap (λ (s : Settings). s.closing) settings;
       pipelining_is = ap (λ (s : Settings). s.pipelining) settings ∙ ap (λ (s : Settings). s.pipelining) (sym d.left)
           ∙ sym (pipelining_last false done e);
       reuses = ap (λ (s : Settings). s.reuses) settings ∙ ap one_less left
-          ∙ one_fewer limit (0 + length done) ∙ ap (reuses_at limit) more;
+          ∙ one_fewer terms.limit (0 + length done) ∙ ap (reuses_at terms.limit) more;
       times = ap (λ (s : Settings). s.times) settings;
     }
 
 -- the next head is awaited, and the connection is sound
 sound_joined : {L C J : Type 0} (rules : Rules)
-    (runs : Runs J) (limit : Option ℕ)
+    (runs : Runs J) (terms : Terms)
     (old new : SessionView L C) (done : List Entry) (e : Entry)
-    → Sound rules runs limit old done (Some e) stage.Next None
+    → Sound rules runs terms old done (Some e) stage.Next None
     → IsDraining e old → AwaitsNext old new
-    → Sound rules runs limit new (done ++ e ∷ []) None stage.Head None
-sound_joined rules runs limit old new done e s d a = record {
+    → Sound rules runs terms new (done ++ e ∷ []) None stage.Head None
+sound_joined rules runs terms old new done e s d a = record {
   ended = all_join (IsAllowed rules) done e s.ended s.allowed;
   allowed = tt;
   kept = tt;
-  begun = subst (λ xs. AreBegun limit 0 false xs) (sym (append-nil (done ++ e ∷ []))) s.begun;
+  begun = subst (λ xs. AreBegun terms 0 false xs) (sym (append-nil (done ++ e ∷ []))) s.begun;
   stage = (
     refl,
     record {
@@ -93,7 +93,7 @@ sound_joined rules runs limit old new done e s d a = record {
       read_limit = ap (λ s. s.read_limit) a.rest;
     },
   );
-  next = next_set limit old new done e d a s.allowed.reuses s.begun;
+  next = next_set terms old new done e d a s.allowed.reuses s.begun;
 }
 
 -- an exchange that left pipelining off was alone
@@ -142,7 +142,7 @@ turned_joined state same_plan now shutdown from new e plan d o a =
     record {
       gone = record {
         served = refl;
-        limit = refl;
+        terms = refl;
         plan = rw again.link plan;
         moves = moves_none state from.session new again.link (ap (λ s. s.budget) a.rest)
             (ap (λ s. s.context) a.rest);
@@ -176,54 +176,55 @@ turned_joined state same_plan now shutdown from new e plan d o a =
 
 -- the last exchange is over where the next one begins
 pub over_next : {L C J : Type 0} (rules : Rules)
-    (runs : Runs J) (limit : Option ℕ)
+    (runs : Runs J) (terms : Terms)
     (session : SessionView L C) (done : List Entry) (last : Option Entry) (at : Stage J)
-    → Sound rules runs limit session done last at None → at ≡ stage.Next → LastMayGoOn session last
-over_next rules runs limit session done last at sound is = over_at sound.stage where
+    → Sound rules runs terms session done last at None → at ≡ stage.Next → LastMayGoOn session last
+over_next rules runs terms session done last at sound is = over_at sound.stage where
   over_at : SoundStage runs session last at → LastMayGoOn session last
   over_at h = rw is at h
 
 sound_next : {L C J : Type 0} (rules : Rules)
-    (runs : Runs J) (limit : Option ℕ)
+    (runs : Runs J) (terms : Terms)
     (x y : Exchange L J C)
-    → Sound rules runs limit x.session x.transcript.done x.transcript.last x.stage None
+    → Sound rules runs terms x.session x.transcript.done x.transcript.last x.stage None
     → x.stage ≡ stage.Next → JoinsNext x y
-    → Sound rules runs limit y.session y.transcript.done y.transcript.last y.stage None
-sound_next rules runs limit x y s is h =
-    let over = over_next rules runs limit x.session x.transcript.done x.transcript.last x.stage s is in
-    rw (h.done, over.1, h.last, h.stage) (sound_joined rules runs limit x.session y.session
+    → Sound rules runs terms y.session y.transcript.done y.transcript.last y.stage None
+sound_next rules runs terms x y s is h =
+    let over = over_next rules runs terms x.session x.transcript.done x.transcript.last x.stage s is in
+    rw (h.done, over.1, h.last, h.stage) (sound_joined rules runs terms x.session y.session
     x.transcript.done over.0 (rw (is, over.1) at s) over.2 h.awaits)
 
 -- where no exchange is last, any modules may stand
 pub sound_next_with : {L C J M : Type 0} (gives : Given → Reply → Type 0)
-    (runs : Runs J) (chain : Chain M) (limit : Option ℕ)
-    (x y : Exchange L J C) (modules : List M) → SoundWith gives runs chain limit x modules None
-    → x.stage ≡ stage.Next → JoinsNext x y → SoundWith gives runs chain limit y modules None
-sound_next_with gives runs chain limit x y modules s is h = record {
-  sound = sound_next (rules_with gives chain) runs limit x y s.sound is h;
+    (runs : Runs J) (chain : Chain M) (terms : Terms)
+    (x y : Exchange L J C) (modules : List M) → SoundWith gives runs chain terms x modules None
+    → x.stage ≡ stage.Next → JoinsNext x y → SoundWith gives runs chain terms y modules None
+sound_next_with gives runs chain terms x y modules s is h = record {
+  sound = sound_next (rules_with gives chain) runs terms x y s.sound is h;
   stand = rw h.last tt;
+  history = h.history ∙ s.history;
 }
 
 -- what the step to the next exchange leaves
 pub turned_next : {L C A J : Type 0} (state : L → LinkState) (same_plan : L → L → Type 0)
-    (now : ℕ) (shutdown : Bool) (served : A) (limit : Option ℕ)
+    (now : ℕ) (shutdown : Bool) (served : A) (terms : Terms)
     (x y : Exchange L J C) (first : Option End)
     → same_plan x.session.link x.session.link → LastMayGoOn x.session x.transcript.last
     → x.stage ≡ stage.Next → JoinsNext x y
-    → Turned state same_plan now shutdown (view_of served limit x first) (view_of served limit y None)
+    → Turned state same_plan now shutdown (view_of served terms x first) (view_of served terms y None)
     false
-turned_next state same_plan now shutdown served limit x y first plan over is h =
+turned_next state same_plan now shutdown served terms x y first plan over is h =
     rw (h.done, over.1, h.last, h.stage, is) (turned_joined state same_plan now shutdown
-    (view_of served limit x first) y.session over.0 plan over.2 over.3 h.awaits)
+    (view_of served terms x first) y.session over.0 plan over.2 over.3 h.awaits)
 
 -- and why it goes on
 pub caused_next : {L C A J : Type 0} (filters : Filters) (state : L → LinkState)
     (begins : J → Type 0) (pends : J → ℕ)
-    (served : A) (limit : Option ℕ) (x y : Exchange L J C) (first second : Option End)
+    (served : A) (terms : Terms) (x y : Exchange L J C) (first second : Option End)
     → LastMayGoOn x.session x.transcript.last → x.stage ≡ stage.Next → JoinsNext x y
-    → TurnCause filters state begins pends (view_of served limit x first) (view_of served limit y second)
+    → TurnCause filters state begins pends (view_of served terms x first) (view_of served terms y second)
     outcome.Done
-caused_next {J = J} filters state begins pends served limit x y first second over is h =
+caused_next {J = J} filters state begins pends served terms x y first second over is h =
     rw (h.done, over.1, h.stage, is) (
       nearer x.session.budget y.session.budget J (ap (λ s. s.budget) h.awaits.rest),
       (λ same. absurd (omega (arith, same, length-append x.transcript.done (over.0 ∷ [])))),

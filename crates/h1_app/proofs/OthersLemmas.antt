@@ -1,6 +1,6 @@
 -- How many link calls of a connection moved no byte.
-use Rattle.std.proofs.Common.{◌≡◌, ℕ, ◌+◌, ◌*◌, ◌≤◌, List, length, Bool, false, Option, Some, None, option_to_list, refl, sym, ◌∙◌, ap, length-append, arith}
-use Rattle.h1_app.specs.Words.{LinkState, RequestView, SessionView, Settings, Entry, Stage, Outcome, ExtendsLast}
+use Rattle.std.proofs.Common.{◌≡◌, ℕ, ◌+◌, ◌*◌, ◌≤◌, length, Bool, false, Option, Some, None, option_to_list, refl, sym, ◌∙◌, ap, length-append, arith}
+use Rattle.h1_app.specs.Words.{LinkState, SessionView, Entry, Stage, Outcome, ExtendsLast}
 use Rattle.h1_application.specs.Application.{Runs}
 use Rattle.h1_app.specs.declared.exchange.Stage.TheVariants as stage
 use Rattle.h1_app.specs.declared.exchange.Outcome.TheVariants as outcome

@@ -155,6 +155,7 @@ pub part_grows : {L C : Type 0} (state : L → LinkState) (now : ℕ) (old new :
     → WritesPart state now old new taking left e p
     → Grows now (state old.link) (state new.link) e (replying e p)
 part_grows state now old new taking left e p w = record {
+  history = refl;
   head = refl;
   both = refl;
   filtered = stays_itself e.filtered;

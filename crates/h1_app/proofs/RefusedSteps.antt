@@ -1,9 +1,9 @@
 -- Steps in which the filters make nothing of a reply: one refuses it, or there is no memory.
-use Rattle.std.proofs.Common.{[], ◌≡◌, ℕ, ◌⊎◌, inl, inr, Bool, List, None, Some, Result, Ok, Err, ap, refl, false, arith}
+use Rattle.std.proofs.Common.{[], ◌≡◌, ℕ, ◌⊎◌, inl, inr, Bool, None, Some, Result, Ok, Err, ap, refl, false, arith}
 use Rattle.h1_modules.specs.Outcome.{ErrsBy, refused_by}
 use Rattle.h1_transcript.specs.Refusals.{IsReplyRefusedBy}
 use Rattle.h1_transfer.specs.Deadline.{is_timeout}
-use Rattle.h1_app.specs.Words.{Entry, Error, Exchange, LinkState, Outcome, Reply, RequestView, Rules, Settings, no_memory}
+use Rattle.h1_app.specs.Words.{Entry, Error, Exchange, LinkState, Outcome, Reply, Rules, no_memory}
 use Rattle.h1_application.specs.Application.{Runs}
 use Rattle.h1_app.proofs.StepLemmas.{AllowedReady, kept_stepped}
 use Rattle.h1_app.proofs.TimelyLemmas.{fails_anyhow}

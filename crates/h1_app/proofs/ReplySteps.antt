@@ -1,12 +1,13 @@
 -- The steps that write the header of a reply, whole.
-use Rattle.std.proofs.Common.{◌⊎◌, inl, inr, Bool, Err, IfNone, IfSome, List, None, Ok, Option, Result, Some, ap, arith, false, refl, sym, true, ℕ, ◌||◌, ◌∙◌, ◌≡◌, ◌≤◌}
+use Rattle.std.proofs.Common.{◌⊎◌, inl, inr, Bool, Err, IfNone, IfSome, IsSome, List, None, Ok, Option, Result, Some, [], ap, arith, false, refl, sym, true, ℕ, ◌||◌, ◌∙◌, ◌≡◌, ◌≤◌}
 use Rattle.std.proofs.lemmas.Bool.{false≢true}
 use Rattle.std.proofs.lemmas.Option.{none-some, same_Some}
-use Rattle.h1_app.specs.Words.{Entry, Error, ErrorType, Exchange, FailureCause, Given, HeaderAnswer, HeaderCall, HeaderWrite, IsAllowed, IsLawful, LawfulRules, LinkState, Outcome, Outgoing, Poll, Pending, Ready, Reply, Request, RequestView, ResponseView, Rules, SessionView, Settings, WritesHeader, given_to, is_passed_over, no_memory}
+use Rattle.h1_app.specs.Words.{Entry, Error, ErrorType, Exchange, FailureCause, Given, HeaderAnswer, HeaderCall, HeaderWrite, IsAllowed, IsLawful, LawfulRules, LinkState, Outcome, Outgoing, Poll, Pending, Ready, Reply, Request, RequestView, ResponseView, Rules, SessionView, WritesHeader, given_to, is_passed_over, no_memory}
 use Rattle.h1_application.specs.Application.{Runs}
 use Rattle.h1_error.specs.declared.head_fault.HeadFault.TheVariants.{UnsupportedVersion}
 use Rattle.h1_head.specs.Versions.{is_http_1, is_http_10, is_http_11}
-use Rattle.h1_modules.specs.Outcome.{ErrsBy, refused_by}
+use Rattle.h1_modules.specs.Filters.{run}
+use Rattle.h1_modules.specs.Outcome.{ErrsBy, Outcome as Made, refused_by}
 use Rattle.h1_server.specs.HeaderWrites.{HeaderRefusal}
 use Rattle.h1_transcript.specs.Refusals.{IsReplyRefusedBy}
 use Rattle.h1_transfer.specs.Deadline.{is_timeout}
@@ -199,6 +200,22 @@ module _ {L C J : Type 0} (state : L → LinkState) (pends : J → ℕ) (rules :
 if_none : {A : Type 0} (o : Option A) (P : Type 0) → P → IfNone o P
 if_none None P h = h
 if_none (Some end) P h = tt
+
+-- without modules the reply's own header goes out
+pub own_made : {M : Type 0} (filter : Bool → M → ResponseView → Made M ResponseView ℕ)
+    (modules : List M) (reply : Option Reply) (header : ResponseView)
+    → modules ≡ [] → IfSome reply (λ reply. header ≡ reply.header)
+    → IfSome reply (λ reply. run (filter (is_empty reply.body)) modules reply.header
+    ≡ Ok (modules, header))
+own_made filter modules None header none is = tt
+own_made filter modules (Some reply) header none is = rw (none, is) refl
+
+-- and is noted
+pub own_noted : (P : ResponseView → Type 0) (reply : Option Reply) (header : ResponseView)
+    → IsSome reply → IfSome reply (λ reply. header ≡ reply.header)
+    → IfSome reply (λ reply. P reply.header) → P header
+own_noted P (Some reply) header some is noted = rw is noted
+own_noted P None header some is noted = absurd (false≢true some)
 
 -- the modules made this header of the reply's, and stand so behind it
 abbrev pub Makes : {M : Type 0} → Chain M → List M → List M → Option Entry → ResponseView → Type 0

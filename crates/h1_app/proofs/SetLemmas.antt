@@ -1,6 +1,6 @@
 -- What is set before a head is read is no matter to the step.
 use Rattle.std.proofs.Common.{◌≡◌, inl, inr, ℕ, List, Bool, Option, Some, None, refl}
-use Rattle.h1_app.specs.Words.{Given, LinkState, RequestView, SessionView, Settings, Reply, Entry, Exchange, Outcome, Stage, Waiting, BeginsWith, IsSetAlike}
+use Rattle.h1_app.specs.Words.{Given, LinkState, SessionView, Settings, Reply, Entry, Exchange, Outcome, Stage, Waiting, BeginsWith, IsSetAlike}
 use Rattle.h1_application.specs.Application.{Runs}
 use Rattle.h1_error.specs.declared.progress.Waiting.TheVariants as waiting
 use Rattle.h1_link.proofs.Laters.{keeps_itself}
@@ -74,6 +74,7 @@ set_stepped {L} {C} state pends gives runs chain now shutdown modules x y settin
       extends = s.extends;
       begins_with = begins_set x.session.settings settings y.session.settings x.transcript.last
           y.transcript.last alike s.begins_with;
+      begins_in = s.begins_in;
       reads_not_ready = s.reads_not_ready;
       body = s.body;
       timely = timely_set state pends runs x.session y.session settings y.transcript.last x.stage

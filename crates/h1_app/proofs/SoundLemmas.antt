@@ -1,7 +1,7 @@
 -- A connection stays sound where only its link and its budget changed; and what a sound one shows of
 -- the exchange that goes on.
 use Rattle.std.proofs.Common.{◌≡◌, ℕ, List, Option, None, Some, IfNone, IfSome, IsSome, refl}
-use Rattle.h1_app.specs.Words.{Given, Rules, End, RequestView, SessionView, Settings, Reply, Request, Entry, Exchange, Stage, IsAllowed}
+use Rattle.h1_app.specs.Words.{Given, Rules, End, SessionView, Reply, Request, Entry, Exchange, Stage, IsAllowed, Terms}
 use Rattle.h1_application.specs.Application.{Runs}
 use Rattle.h1_app.specs.Answering.{bare, IsAskedIn}
 use Rattle.h1_app.specs.declared.exchange.Stage.TheVariants as stage
@@ -9,12 +9,12 @@ use Rattle.h1_app.proofs.Words.{Chain, Sound, SoundStage, SoundWith, rules_with}
 
 -- what is sound says nothing of the link and the budget
 sound_linked : {L C J : Type 0} (rules : Rules)
-    (runs : Runs J) (limit : Option ℕ)
+    (runs : Runs J) (terms : Terms)
     (session : SessionView L C) (link : L) (budget : Option ℕ) (done : List Entry)
     (last : Option Entry) (at : Stage J) (end : Option End)
-    → Sound rules runs limit session done last at end
-    → Sound rules runs limit (record session { link = link; budget = budget }) done last at end
-sound_linked rules runs limit session link budget done last at end s = record {
+    → Sound rules runs terms session done last at end
+    → Sound rules runs terms (record session { link = link; budget = budget }) done last at end
+sound_linked rules runs terms session link budget done last at end s = record {
   ended = s.ended;
   allowed = s.allowed;
   kept = s.kept;
@@ -25,15 +25,16 @@ sound_linked rules runs limit session link budget done last at end s = record {
 
 -- nor does it say anything of the modules that stands on them
 pub sound_linked_with : {L C J M : Type 0} (gives : Given → Reply → Type 0)
-    (runs : Runs J) (chain : Chain M) (limit : Option ℕ)
+    (runs : Runs J) (chain : Chain M) (terms : Terms)
     (x : Exchange L J C) (link : L) (budget : Option ℕ) (modules : List M) (end : Option End)
-    → SoundWith gives runs chain limit x modules end
-    → SoundWith gives runs chain limit
+    → SoundWith gives runs chain terms x modules end
+    → SoundWith gives runs chain terms
     (record x { session = record x.session { link = link; budget = budget } }) modules end
-sound_linked_with gives runs chain limit x link budget modules end s = record {
-  sound = sound_linked (rules_with gives chain) runs limit x.session link budget x.transcript.done
+sound_linked_with gives runs chain terms x link budget modules end s = record {
+  sound = sound_linked (rules_with gives chain) runs terms x.session link budget x.transcript.done
       x.transcript.last x.stage end s.sound;
   stand = s.stand;
+  history = s.history;
 }
 
 -- the exchange that goes on has a head for its application
@@ -66,8 +67,8 @@ module _ {L C J : Type 0} (rules : Rules)
   given_at stage.Next allowed h =
       one h.0 h.1 (replied h.0 h.2.reply (rw h.1 at allowed) h.2.replied)
 
-  pub given_while : (limit : Option ℕ) (done : List Entry) (at : Stage J) (end : Option End)
-      → Sound rules runs limit session done last at end
+  pub given_while : (terms : Terms) (done : List Entry) (at : Stage J) (end : Option End)
+      → Sound rules runs terms session done last at end
       → IfNone end (IfSome last (λ e. IsSome e.filtered))
-  given_while limit done at None s = given_at at s.allowed s.stage
-  given_while limit done at (Some reason) s = tt
+  given_while terms done at None s = given_at at s.allowed s.stage
+  given_while terms done at (Some reason) s = tt

@@ -8,7 +8,7 @@ use Rattle.h1_server.specs.Heads.{with_header}
 use Rattle.h1_transcript.specs.Entries.{with_last}
 use Rattle.h1_transfer.specs.Calls.{no_fault}
 use Rattle.h1_app.specs.Beginning.{BegunFor, HeadFiltered, HeadRefused, IfLast, StandsBegun, StartedAs, with_filtered}
-use Rattle.h1_app.specs.Words.{Called, Error, LinkState, Request, RequestView, SessionView, Settings, Entry, Outcome, Stage, TranscriptView}
+use Rattle.h1_app.specs.Words.{BeginsIn, History, Called, Error, LinkState, Request, RequestView, SessionView, Settings, Entry, Outcome, Stage, TranscriptView}
 use Rattle.h1_application.specs.Application.{Runs}
 use Rattle.h1_app.specs.declared.exchange.Stage.TheVariants as stage
 use Rattle.h1_app.proofs.Words.{BegunAs, Chain, Continues, IsNewEntry, JobFrom, Leaves, OthersFew, behind_request, outcome_end}
@@ -77,12 +77,14 @@ module _ {L C J M : Type 0} (state : L → LinkState) (begins : J → Type 0)
 
   pub begun_continues : (same_plan : L → L → Type 0) (pends : J → ℕ) (from : Stage J)
       (before behind : TranscriptView) → from ≡ stage.Head → behind.done ≡ before.done
+      → behind.history ≡ before.history
       → same_plan old.link mid.link
       → Continues state same_plan begins pends
       (record { session = old; transcript = before; stage = from })
       (record { session = new; transcript = behind; stage = to }) result
-  begun_continues same_plan pends from before behind at done plan = record {
+  begun_continues same_plan pends from before behind at done history plan = record {
     done = done;
+    history = history;
     plan = rw same_link plan;
     job = started_job begins runs chain mid new modules last pends from to result begun.0 begun.1
         begun.2;
@@ -117,6 +119,13 @@ new_filtered request settings e filtered is = record {
   began = is.began;
   left = is.left;
 }
+
+-- an exchange that began is kept as the connection keeps its exchanges, whatever its head becomes
+pub kept_on : (history : History) (old before : Option Entry) (e : Entry) (filtered : Option RequestView)
+    → before ≡ Some e → BeginsIn history old before
+    → BeginsIn history old (Some (record e { filtered = filtered }))
+kept_on history None before e filtered is kept = rw is at kept
+kept_on history (Some first) before e filtered is kept = tt
 
 -- the exchange that is lent is the one that began
 pub lent_new : (request : Request) (settings : Settings) (e : Entry) (last : Option Entry)
@@ -159,16 +168,16 @@ module _ {L C M : Type 0} (chain : Chain M) (old : SessionView L C) (modules : L
       }) begun.is
 
   -- what they make is noted, or nothing is
-  module _ (e : Entry) (given head : RequestView) (filtered : Option RequestView)
+  module _ (e : Entry) (given head : RequestView) (f : Entry)
       (goes_on : before.last ≡ Some e)
       (lent : IfSome old.request (λ request. given ≡ request.header)) where
     same_head : given ≡ begun.request.header
     same_head = rw begun.is at lent
 
-    pub filtered_head : {T : Type 0} (result : Result T Error) → OnOk result ((filtered ≡ Some head)
+    pub filtered_head : {T : Type 0} (result : Result T Error) → OnOk result ((f ≡ record e { filtered = Some head })
         × (behind_request chain given ≡ Ok (modules, head)))
         → OnOk result (HeadFiltered chain old (with_header old head) modules before
-        (with_last before (record e { filtered = filtered })))
+        (with_last before f))
     filtered_head (Ok noted) done = record {
       request = begun.request;
       e = e;
@@ -182,9 +191,9 @@ module _ {L C M : Type 0} (chain : Chain M) (old : SessionView L C) (modules : L
     filtered_head (Err error) done = tt
 
     pub refused_head : {T : Type 0} (result : Result T Error) → IfErr result
-        (λ error. (filtered ≡ None) × ErrsBy refused_by (behind_request chain given) error)
+        (λ error. (f ≡ record e { filtered = None }) × ErrsBy refused_by (behind_request chain given) error)
         → IfErr result (HeadRefused chain old (with_header old head) before
-        (with_last before (record e { filtered = filtered })))
+        (with_last before f))
     refused_head (Ok noted) why = tt
     refused_head (Err error) why = record {
       request = begun.request;

@@ -1,6 +1,6 @@
 -- What a step of the exchange that is last leaves, whole.
 use Rattle.std.proofs.Common.{◌⊎◌, Bool, IfSome, IsSome, List, Ok, inl, ◌<◌, None, Option, Some, [], ap, arith, refl, true, ℕ, ◌∷◌, ◌≡◌}
-use Rattle.h1_app.specs.Words.{Rules, Entry, Exchange, Grows, IsAllowed, IsDated, IsLawful, LinkState, Outcome, Reply, RequestView, ResponseView, SessionView, Settings, YEAR_10000, replies}
+use Rattle.h1_app.specs.Words.{Rules, Entry, Exchange, Grows, IsAllowed, IsDated, IsLawful, LinkState, Outcome, Reply, ResponseView, SessionView, YEAR_10000, replies}
 use Rattle.h1_application.specs.Application.{Runs}
 use Rattle.h1_transcript.proofs.GrowthLemmas.{grows_same}
 use Rattle.h1_app.specs.BodyTimes.{BodyInTime}
@@ -57,6 +57,7 @@ filtered_stepped state pends rules runs now shutdown x y e f result was is went 
       kept = rw is kept;
       extends = rw (was, is) grows;
       begins_with = rw was tt;
+      begins_in = rw was tt;
       reads_not_ready = rw (was, is) few;
       body = rw (was, is) body;
       timely = rw is timely;

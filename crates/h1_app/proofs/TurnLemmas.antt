@@ -1,6 +1,6 @@
 -- What one step makes of a connection: the exchange that is last goes on, or the next one is awaited.
 use Rattle.std.proofs.Common.{◌≡◌, ℕ, ◌+◌, ◌<◌, ◌≤◌, ◌⊎◌, inl, inr, List, [], ◌∷◌, ◌++◌, length, Bool, false, Option, Some, None, IfNone, option_to_list, refl, sym, ◌∙◌, subst, append-nil, arith}
-use Rattle.h1_app.specs.Words.{AllByRecursion, End, LinkState, RequestView, SessionView, Settings, Reply, Entry, Exchange, Stage, Outcome, Filters, Given, Rules, AreBegun, BeginsWith, IsNextSet, IsSetAlike, ExtendsLast, replies}
+use Rattle.h1_app.specs.Words.{AllByRecursion, End, LinkState, SessionView, Settings, Reply, Entry, Exchange, Stage, Outcome, Filters, Given, Rules, AreBegun, BeginsIn, BeginsWith, IsNextSet, IsSetAlike, ExtendsLast, Terms, replies}
 use Rattle.h1_application.specs.Application.{Runs}
 use Rattle.h1_app.specs.declared.exchange.Stage.TheVariants as stage
 use Rattle.h1_app.specs.declared.exchange.Outcome.TheVariants as outcome
@@ -22,25 +22,29 @@ pub pipelining_last : (first : Bool) (done : List Entry) (e : Entry)
 pipelining_last first [] e = refl
 pipelining_last first (f ∷ more) e = pipelining_last f.left.pipelining more e
 
-begun_join : (limit : Option ℕ) (i : ℕ) (first : Bool) (done : List Entry) (e : Entry)
-    → AreBegun limit i first done
-    → IsBegunFor limit (i + length done) (pipelining_behind first done) e.began
-    → AreBegun limit i first (done ++ e ∷ [])
-begun_join limit i first [] e h is =
+begun_join : (terms : Terms) (i : ℕ) (first : Bool) (done : List Entry) (e : Entry)
+    → AreBegun terms i first done
+    → IsBegunFor terms (i + length done) (pipelining_behind first done) e
+    → AreBegun terms i first (done ++ e ∷ [])
+begun_join terms i first [] e h is =
     let same : i + 0 ≡ i = omega arith in
-    (subst (λ n. IsBegunFor limit n first e.began) same is, tt)
-begun_join limit i first (f ∷ more) e h is =
+    (subst (λ n. IsBegunFor terms n first e) same is, tt)
+begun_join terms i first (f ∷ more) e h is =
     let same : i + length (f ∷ more) ≡ i + 1 + length more = omega arith in (
       h.0,
-      begun_join limit (i + 1) f.left.pipelining more e h.1
-          (subst (λ n. IsBegunFor limit n (pipelining_behind f.left.pipelining more) e.began) same is),
+      begun_join terms (i + 1) f.left.pipelining more e h.1
+          (subst (λ n. IsBegunFor terms n (pipelining_behind f.left.pipelining more) e) same is),
     )
 
-begun_grows : (limit : Option ℕ) (i : ℕ) (first : Bool) (done : List Entry) (a b : Entry)
-    → b.began ≡ a.began
-    → AreBegun limit i first (done ++ a ∷ []) → AreBegun limit i first (done ++ b ∷ [])
-begun_grows limit i first [] a b is h = (subst (λ s. IsBegunFor limit i first s) (sym is) h.0, tt)
-begun_grows limit i first (f ∷ more) a b is h = (h.0, begun_grows limit (i + 1) f.left.pipelining more a b is h.1)
+begun_grows : (terms : Terms) (i : ℕ) (first : Bool) (done : List Entry) (a b : Entry)
+    → b.began ≡ a.began → b.history ≡ a.history
+    → AreBegun terms i first (done ++ a ∷ []) → AreBegun terms i first (done ++ b ∷ [])
+begun_grows terms i first [] a b is kept h = (
+  record { set = rw is h.0.set; keepalive = rw is h.0.keepalive; history = kept ∙ h.0.history },
+  tt,
+)
+begun_grows terms i first (f ∷ more) a b is kept h =
+    (h.0, begun_grows terms (i + 1) f.left.pipelining more a b is kept h.1)
 
 set_alike : (limit : Option ℕ) (i : ℕ) (pipelining : Bool) (old new : Settings)
     → IsSetFor limit i pipelining old → IsSetAlike old new → IsSetFor limit i pipelining new
@@ -52,40 +56,44 @@ set_alike limit i pipelining old new h alike = record {
 }
 
 -- each exchange began as the one before it left what is set, after a step too
-begun_stepped : (limit : Option ℕ) (now : ℕ) (shutdown : Bool) (first second : LinkState)
+begun_stepped : (terms : Terms) (now : ℕ) (shutdown : Bool) (first second : LinkState)
     (old new : Settings) (done : List Entry) (last behind : Option Entry)
-    → AreBegun limit 0 false (done ++ option_to_list last)
+    → AreBegun terms 0 false (done ++ option_to_list last)
     → ExtendsLast now shutdown first second last behind
-    → BeginsWith old new last behind → (last ≡ None → IsNextSet limit done old)
-    → AreBegun limit 0 false (done ++ option_to_list behind)
-begun_stepped limit now shutdown first second old new done None None h extends begins next = h
-begun_stepped limit now shutdown first second old new done None (Some e) h extends begins next =
+    → BeginsWith old new last behind → BeginsIn terms.history last behind
+    → (last ≡ None → IsNextSet terms done old)
+    → AreBegun terms 0 false (done ++ option_to_list behind)
+begun_stepped terms now shutdown first second old new done None None h extends begins kept next = h
+begun_stepped terms now shutdown first second old new done None (Some e) h extends begins kept next =
     let same : length done ≡ 0 + length done = omega arith in
-    let set : IsBegunFor limit (length done) (pipelining_behind false done) e.began = record {
-      set = set_alike limit (length done) (pipelining_behind false done) old e.began (next refl)
+    let set : IsBegunFor terms (length done) (pipelining_behind false done) e = record {
+      set = set_alike terms.limit (length done) (pipelining_behind false done) old e.began (next refl)
           begins.0;
       keepalive = begins.1;
+      history = kept;
     } in
-    begun_join limit 0 false done e (subst (λ xs. AreBegun limit 0 false xs) (append-nil done) h)
-    (subst (λ n. IsBegunFor limit n (pipelining_behind false done) e.began) same set)
-begun_stepped limit now shutdown first second old new done (Some a) None h extends begins next = absurd extends
-begun_stepped limit now shutdown first second old new done (Some a) (Some b) h extends begins next =
-    begun_grows limit 0 false done a b extends.began h
+    begun_join terms 0 false done e (subst (λ xs. AreBegun terms 0 false xs) (append-nil done) h)
+    (subst (λ n. IsBegunFor terms n (pipelining_behind false done) e) same set)
+begun_stepped terms now shutdown first second old new done (Some a) None h extends begins kept next =
+    absurd extends
+begun_stepped terms now shutdown first second old new done (Some a) (Some b) h extends begins kept next =
+    begun_grows terms 0 false done a b extends.began extends.history h
 
 -- and after a step it is still set so
 next_stepped : {L C J : Type 0} (runs : Runs J)
-    (limit : Option ℕ) (now : ℕ) (shutdown : Bool) (first second : LinkState)
+    (terms : Terms) (now : ℕ) (shutdown : Bool) (first second : LinkState)
     (old : Settings) (session : SessionView L C) (done : List Entry) (last behind : Option Entry) (to : Stage J)
     → SoundStage runs session behind to → ExtendsLast now shutdown first second last behind
-    → BeginsWith old session.settings last behind → (last ≡ None → IsNextSet limit done old)
-    → IfAwaiting to (IsNextSet limit done session.settings)
-next_stepped runs limit now shutdown first second old session done None None stage.Head h extends begins next =
-    set_alike limit (length done) (pipelining_behind false done) old session.settings (next refl) begins
-next_stepped runs limit now shutdown first second old session done (Some a) None stage.Head h extends begins next =
+    → BeginsWith old session.settings last behind → (last ≡ None → IsNextSet terms done old)
+    → IfAwaiting to (IsNextSet terms done session.settings)
+next_stepped runs terms now shutdown first second old session done None None stage.Head h extends begins next =
+    set_alike terms.limit (length done) (pipelining_behind false done) old session.settings (next refl)
+    begins
+next_stepped runs terms now shutdown first second old session done (Some a) None stage.Head h extends begins next =
     absurd extends
-next_stepped runs limit now shutdown first second old session done last (Some b) stage.Head h extends begins next =
+next_stepped runs terms now shutdown first second old session done last (Some b) stage.Head h extends begins next =
     let clash = h.0 in cc
-next_stepped runs limit now shutdown first second old session done last behind _ h extends begins next = tt
+next_stepped runs terms now shutdown first second old session done last behind _ h extends begins next = tt
 
 pub if_none : {T : Type 0} (end : Option T) (P Q : Type 0) → (P → Q) → IfNone end P → IfNone end Q
 if_none None P Q on p = on p
@@ -105,29 +113,30 @@ stage_stepped state pends runs filters old new behind from to (outcome.Ends reas
 
 -- a step of the exchange that is last leaves a sound connection
 pub sound_stepped : {L C J : Type 0} (rules : Rules)
-    (runs : Runs J) (limit : Option ℕ)
+    (runs : Runs J) (terms : Terms)
     (state : L → LinkState) (pends : J → ℕ) (now : ℕ) (shutdown : Bool) (x y : Exchange L J C)
     (result : Outcome)
-    → Sound rules runs limit x.session x.transcript.done x.transcript.last x.stage None
+    → Sound rules runs terms x.session x.transcript.done x.transcript.last x.stage None
+    → x.transcript.history ≡ terms.history
     → Stepped state pends rules runs now shutdown x y result → y.transcript.done ≡ x.transcript.done
-    → Sound rules runs limit y.session y.transcript.done y.transcript.last y.stage
+    → Sound rules runs terms y.session y.transcript.done y.transcript.last y.stage
     (outcome_end result)
-sound_stepped rules runs limit state pends now shutdown x y result s made same = rw same (record {
+sound_stepped rules runs terms state pends now shutdown x y result s kept made same = rw same (record {
   ended = s.ended;
   allowed = made.allowed;
   kept = made.kept;
-  begun = begun_stepped limit now shutdown (state x.session.link) (state y.session.link)
+  begun = begun_stepped terms now shutdown (state x.session.link) (state y.session.link)
       x.session.settings y.session.settings x.transcript.done x.transcript.last
-      y.transcript.last s.begun made.extends made.begins_with next;
+      y.transcript.last s.begun made.extends made.begins_with (rw kept at made.begins_in) next;
   stage = staged;
   next = if_none (outcome_end result) (SoundStage runs y.session y.transcript.last y.stage)
-      (IfAwaiting y.stage (IsNextSet limit x.transcript.done y.session.settings))
-      (λ h. next_stepped runs limit now shutdown (state x.session.link) (state y.session.link)
+      (IfAwaiting y.stage (IsNextSet terms x.transcript.done y.session.settings))
+      (λ h. next_stepped runs terms now shutdown (state x.session.link) (state y.session.link)
       x.session.settings y.session x.transcript.done x.transcript.last y.transcript.last
       y.stage h made.extends made.begins_with next) staged;
 }) where
   next : x.transcript.last ≡ None
-      → IsNextSet limit x.transcript.done x.session.settings
+      → IsNextSet terms x.transcript.done x.session.settings
   next none =
       rw (awaits_head runs x.session x.transcript.last x.stage s.stage none) at s.next
 
@@ -137,17 +146,19 @@ sound_stepped rules runs limit state pends now shutdown x y result s made same =
 
 -- and one with modules
 pub sound_stepped_with : {L C J M : Type 0} (gives : Given → Reply → Type 0)
-    (runs : Runs J) (chain : Chain M) (limit : Option ℕ)
+    (runs : Runs J) (chain : Chain M) (terms : Terms)
     (state : L → LinkState) (pends : J → ℕ) (now : ℕ) (shutdown : Bool) (x y : Exchange L J C)
-    (first second : List M) (result : Outcome) → SoundWith gives runs chain limit x first None
+    (first second : List M) (result : Outcome) → SoundWith gives runs chain terms x first None
     → SteppedWith state pends gives runs chain now shutdown second x y result
-    → y.transcript.done ≡ x.transcript.done
-    → SoundWith gives runs chain limit y second (outcome_end result)
-sound_stepped_with gives runs chain limit state pends now shutdown x y first second result s made same = record {
-  sound = sound_stepped (rules_with gives chain) runs limit state pends now shutdown x y result s.sound
-      made.stepped same;
-  stand = made.stand;
-}
+    → y.transcript.done ≡ x.transcript.done → y.transcript.history ≡ x.transcript.history
+    → SoundWith gives runs chain terms y second (outcome_end result)
+sound_stepped_with gives runs chain terms state pends now shutdown x y first second result s made same
+    kept = record {
+      sound = sound_stepped (rules_with gives chain) runs terms state pends now shutdown x y result s.sound
+          s.history made.stepped same;
+      stand = made.stand;
+      history = kept ∙ s.history;
+    }
 
 few_stepped : (old now : LinkState) (done : List Entry) (last behind : Option Entry)
     (result : Outcome)
@@ -165,21 +176,21 @@ few_stepped old now done last behind _ h =
 pub turned_stepped : {L C A J : Type 0} {rules : Rules}
     {runs : Runs J} (state : L → LinkState)
     (begins : J → Type 0) (pends : J → ℕ) (same_plan : L → L → Type 0) (now : ℕ) (shutdown : Bool)
-    (served : A) (limit : Option ℕ) (x y : Exchange L J C) (first : Option End) (result : Outcome)
+    (served : A) (terms : Terms) (x y : Exchange L J C) (first : Option End) (result : Outcome)
     → SoundStage runs x.session x.transcript.last x.stage
     → Stepped state pends rules runs now shutdown x y result
     → Continues state same_plan begins pends x y result → LeavesBy state x y result
-    → Turned state same_plan now shutdown (view_of served limit x first)
-    (view_of served limit y (outcome_end result)) (stops result)
-turned_stepped {runs = runs} state begins pends same_plan now shutdown served limit x y first result
+    → Turned state same_plan now shutdown (view_of served terms x first)
+    (view_of served terms y (outcome_end result)) (stops result)
+turned_stepped {runs = runs} state begins pends same_plan now shutdown served terms x y first result
     sound s c leaves =
-    let from = view_of served limit x first in
-    let to = record (view_of served limit y (outcome_end result))
+    let from = view_of served terms x first in
+    let to = record (view_of served terms y (outcome_end result))
     { done = x.transcript.done } in
     let made : Turned state same_plan now shutdown from to (stops result) = record {
       gone = record {
         served = refl;
-        limit = refl;
+        terms = refl;
         plan = c.plan;
         moves = s.moves;
         accounted = λ before h. s.accounted before x.transcript.done h;
@@ -215,24 +226,24 @@ new_job begins pends from _ less h = tt
 pub caused_stepped : {L C A J : Type 0} (filters : Filters) (state : L → LinkState)
     (begins : J → Type 0)
     (pends : J → ℕ) (runs : Runs J)
-    (same_plan : L → L → Type 0) (served : A) (limit : Option ℕ) (x y : Exchange L J C)
+    (same_plan : L → L → Type 0) (served : A) (terms : Terms) (x y : Exchange L J C)
     (first second : Option End) (result : Outcome)
     → Continues state same_plan begins pends x y result
     → OutcomeCause state pends runs x.session y.session y.transcript.last x.stage y.stage result
     ⊎ StepRefuses filters y.session y.transcript.last result
-    → TurnCause filters state begins pends (view_of served limit x first)
-    (view_of served limit y second) result
-caused_stepped filters state begins pends runs same_plan served limit x y first second outcome.Done c
+    → TurnCause filters state begins pends (view_of served terms x first)
+    (view_of served terms y second) result
+caused_stepped filters state begins pends runs same_plan served terms x y first second outcome.Done c
     (inl h) = (h.2, (λ _. h.1), new_job begins pends x.stage y.stage h.1 c.job)
-caused_stepped filters state begins pends runs same_plan served limit x y first second outcome.Done c
+caused_stepped filters state begins pends runs same_plan served terms x y first second outcome.Done c
     (inr h) = absurd h
-caused_stepped filters state begins pends runs same_plan served limit x y first second
+caused_stepped filters state begins pends runs same_plan served terms x y first second
     (outcome.Waits what) c (inl h) = (c.done, h.1)
-caused_stepped filters state begins pends runs same_plan served limit x y first second
+caused_stepped filters state begins pends runs same_plan served terms x y first second
     (outcome.Waits what) c (inr h) = absurd h
-caused_stepped filters state begins pends runs same_plan served limit x y first second
+caused_stepped filters state begins pends runs same_plan served terms x y first second
     (outcome.Ends reason) c (inl h) = (c.done, λ since s. inl (h since y.transcript.done s))
-caused_stepped filters state begins pends runs same_plan served limit x y first second
+caused_stepped filters state begins pends runs same_plan served terms x y first second
     (outcome.Ends reason) c (inr h) = (
       c.done,
       λ since s. inr (

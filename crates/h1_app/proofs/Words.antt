@@ -15,6 +15,6 @@ pub use Rattle.h1_app.specs.FilterSteps.{FilterReady, SoundWith, SteppedWith}
 pub use Rattle.h1_app.specs.Beginning.{BegunAs, IsNewEntry, IsPieceOf, failure_of}
 pub use Rattle.h1_app.specs.Step.{Continues, JobFrom, MovesWithin, StepReady, StepRefuses, Stepped, SteppedBy}
 pub use Rattle.h1_app.specs.Turn.{Gone, JobNew, LeavesBy, TurnCause, Turned, one_where, outcome_end, still_calls, stops, waiting_for}
-pub use Rattle.h1_app.specs.View.{Served, View, entries, limit_of, served_by, view_of}
+pub use Rattle.h1_app.specs.View.{Served, View, entries, limit_of, served_by, terms_of, view_of}
 pub use Rattle.h1_app.specs.Waits.{FewReadsNotReady, OthersFew, still}
 pub use Rattle.h1_app.specs.Replying.{NotesBody, NotesHeader, StandsAfter, going}

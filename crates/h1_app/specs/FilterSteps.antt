@@ -1,6 +1,6 @@
 -- What a step in which filters run asks for, and what it leaves.
-use Rattle.std.specs.Prelude.{ℕ, List, Bool, Option, IfNone, IfSome}
-use Rattle.h1_app.specs.Words.{End, LinkState, RequestView, Settings, Given, Reply, Exchange, Outcome, IsAllowed}
+use Rattle.std.specs.Prelude.{◌≡◌, ℕ, List, Bool, Option, IfNone, IfSome}
+use Rattle.h1_app.specs.Words.{End, LinkState, Given, Reply, Exchange, Outcome, IsAllowed, Terms}
 use Rattle.h1_application.specs.Application.{Runs}
 use Rattle.h1_app.specs.Filtering.{Chain, ModulesStand, rules_with}
 use Rattle.h1_app.specs.Sound.{Sound}
@@ -28,8 +28,10 @@ pub record SteppedWith {L C J M : Type 0} (state : L → LinkState) (pends : J �
 -- what always holds of a connection with these modules
 pub record SoundWith {L C J M : Type 0} (gives : Given → Reply → Type 0)
     (runs : Runs J) (chain : Chain M)
-    (limit : Option ℕ) (x : Exchange L J C) (modules : List M) (end : Option End) : Type 0 where
-  pub sound : Sound (rules_with gives chain) runs limit x.session x.transcript.done x.transcript.last
+    (terms : Terms) (x : Exchange L J C) (modules : List M) (end : Option End) : Type 0 where
+  pub sound : Sound (rules_with gives chain) runs terms x.session x.transcript.done x.transcript.last
       x.stage end
   -- until an end came the modules are as the filters left them that ran
   pub stand : IfNone end (ModulesStand chain x.transcript.last modules)
+  -- exchanges are kept, or not, as the connection was made
+  pub history : x.transcript.history ≡ terms.history

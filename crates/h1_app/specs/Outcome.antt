@@ -1,6 +1,6 @@
 -- Why a step goes on, waits or ends.
 use Rattle.std.specs.Prelude.{◌≡◌, ℕ, ◌<◌, ◌⊎◌, List, true, Option, Some}
-use Rattle.h1_app.specs.Words.{Waiting, LinkState, Rose, raised, RequestView, SessionView, Settings, Entry, Stage, Outcome, EndCause, LacksSo, OfLast}
+use Rattle.h1_app.specs.Words.{Waiting, LinkState, Rose, raised, SessionView, Entry, Stage, Outcome, EndCause, LacksSo, OfLast}
 use Rattle.h1_application.specs.Application.{Runs}
 use Rattle.h1_error.specs.declared.progress.Waiting.TheVariants as waiting
 use Rattle.h1_app.specs.declared.exchange.Stage.TheVariants as stage

@@ -1,6 +1,6 @@
 -- What always holds of a connection: each stage stands where the session and the last exchange do.
 use Rattle.std.specs.Prelude.{◌≡◌, ℕ, List, [], ◌++◌, false, Option, Some, None, IfSome, IfNone, option_to_list}
-use Rattle.h1_app.specs.Words.{AllByRecursion, End, RequestView, SessionView, AreBegun, IsNextSet, Settings, Request, Reply, Entry, Stage, Rules, IsAllowed}
+use Rattle.h1_app.specs.Words.{AllByRecursion, End, SessionView, AreBegun, IsNextSet, Request, Reply, Entry, Stage, Rules, IsAllowed, Terms}
 use Rattle.h1_application.specs.Application.{Runs}
 use Rattle.h1_transfer.specs.declared.outgoing.Step.TheVariants as step
 use Rattle.h1_app.specs.declared.exchange.Stage.TheVariants as stage
@@ -61,12 +61,12 @@ IfAwaiting _ P = Unit {0}
 -- Every exchange is allowed, and began as the one before it left what is set; and while the
 -- connection goes on, its stage is sound.
 pub record Sound {L C J : Type 0} (rules : Rules)
-    (runs : Runs J) (limit : Option ℕ)
+    (runs : Runs J) (terms : Terms)
     (session : SessionView L C) (done : List Entry) (last : Option Entry) (at : Stage J)
     (end : Option End) : Type 0 where
   pub ended : AllByRecursion (IsAllowed rules) done
   pub allowed : IfSome last (IsAllowed rules)
   pub kept : IfSome last (IsKept session)
-  pub begun : AreBegun limit 0 false (done ++ option_to_list last)
+  pub begun : AreBegun terms 0 false (done ++ option_to_list last)
   pub stage : IfNone end (SoundStage runs session last at)
-  pub next : IfNone end (IfAwaiting at (IsNextSet limit done session.settings))
+  pub next : IfNone end (IfAwaiting at (IsNextSet terms done session.settings))

@@ -1,6 +1,6 @@
 -- What each step of an exchange asks for, and what it leaves.
 use Rattle.std.specs.Prelude.{◌≡◌, ℕ, ◌<◌, List, Bool, IsSome, IfSome, option_to_list, Option, ◌-◌, ◌≤◌, ◌⊎◌, option_map, [], None}
-use Rattle.h1_app.specs.Words.{YEAR_10000, LinkState, RequestView, Settings, Reply, Entry, Exchange, Outcome, Given, Filters, Rules, RefusesLast, OfLast, BeginsWith, IsAllowed, ExtendsLast, Moved, SessionView, Stage}
+use Rattle.h1_app.specs.Words.{YEAR_10000, LinkState, Reply, Entry, Exchange, Outcome, Given, Filters, Rules, RefusesLast, OfLast, BeginsIn, BeginsWith, IsAllowed, ExtendsLast, Moved, SessionView, Stage}
 use Rattle.h1_application.specs.Application.{Runs}
 use Rattle.h1_app.specs.Accounted.{Accounted}
 use Rattle.h1_app.specs.BodyTimes.{BodyInTime}
@@ -69,6 +69,8 @@ pub record Stepped {L C J : Type 0} (state : L → LinkState) (pends : J → ℕ
   -- an exchange that began took what was set
   pub begins_with : BeginsWith old.session.settings new.session.settings
       old.transcript.last new.transcript.last
+  -- and is kept as the connection keeps its exchanges
+  pub begins_in : BeginsIn old.transcript.history old.transcript.last new.transcript.last
   -- reads that were not ready
   pub reads_not_ready : FewReadsNotReady (state old.session.link) (state new.session.link)
       (option_to_list old.transcript.last) (option_to_list new.transcript.last) result
@@ -97,6 +99,8 @@ pub record Continues {L C J : Type 0} (state : L → LinkState) (same_plan : L �
     (old new : Exchange L J C) (result : Outcome) : Type 0 where
   -- the exchanges that ended stay
   pub done : new.transcript.done ≡ old.transcript.done
+  -- whether exchanges are kept
+  pub history : new.transcript.history ≡ old.transcript.history
   -- what is still to come from the link is planned as before
   pub plan : same_plan old.session.link new.session.link
   -- the job was there, or it began in this step

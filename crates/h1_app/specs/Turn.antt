@@ -39,7 +39,7 @@ AccountedFrom state at P =
 pub record Gone {L C A J : Type 0} (state : L → LinkState) (same_plan : L → L → Type 0) (now : ℕ)
     (shutdown : Bool) (from to : View L C A J) : Type 0 where
   pub served : to.served ≡ from.served
-  pub limit : to.limit ≡ from.limit
+  pub terms : to.terms ≡ from.terms
   pub plan : same_plan from.session.link to.session.link
   pub moves : MovesWithin state from.session to.session
   pub accounted : AccountedFrom state from (λ before. Accounted state before to.session to.done to.last)

@@ -1,7 +1,7 @@
 -- What contracts see of a connection.
 use Rattle.std.specs.Prelude.{◌≡◌, ℕ, List, [], ◌++◌, option_to_list, Option, Some, None}
 use Rattle.h1_server.specs.Keepalive.{new_settings}
-use Rattle.h1_app.specs.Words.{End, SessionView, Entry, Exchange, Stage}
+use Rattle.h1_app.specs.Words.{End, SessionView, Entry, Exchange, History, Kept, Stage, Terms}
 use Rattle.h1_app.specs.Work.{Work, reads_head, work_at}
 use Rattle.h1_app.specs.declared.options.HttpServerOptions.{HttpServerOptions}
 
@@ -17,8 +17,8 @@ served_by app builders = record { app = app; builders = builders }
 pub record View (L C A J : Type 0) : Type 0 where
   pub session : SessionView L C
   pub served : A
-  -- how many requests more than the first may be served; none is no limit
-  pub limit : Option ℕ
+  -- what it is made with
+  pub terms : Terms
   -- every exchange but the last
   pub done : List Entry
   pub last : Option Entry
@@ -30,12 +30,12 @@ abbrev pub entries : {L C A J : Type 0} → View L C A J → List Entry
 entries view = view.done ++ option_to_list view.last
 
 -- the view of a connection with this exchange
-abbrev pub view_of : {L C A J : Type 0} → A → Option ℕ → Exchange L J C → Option End → View L C A J
-view_of served limit x end =
+abbrev pub view_of : {L C A J : Type 0} → A → Terms → Exchange L J C → Option End → View L C A J
+view_of served terms x end =
     record {
       session = x.session;
       served = served;
-      limit = limit;
+      terms = terms;
       done = x.transcript.done;
       last = x.transcript.last;
       stage = x.stage;
@@ -47,6 +47,15 @@ abbrev pub limit_of : Option HttpServerOptions → Option ℕ
 limit_of None = None
 limit_of (Some options) = options.keepalive_request_limit
 
+-- whether a server's connections keep their exchanges
+abbrev pub history_of : Option HttpServerOptions → History
+history_of None = Kept
+history_of (Some options) = options.history
+
+-- what a connection of a server is made with
+abbrev pub terms_of : Option HttpServerOptions → Terms
+terms_of options = record { limit = limit_of options; history = history_of options }
+
 -- what the connection does that may wait only so long, and since when it waits
 abbrev pub work_of : {L C A J : Type 0} → View L C A J → Work
 work_of view = work_at view.stage view.last view.session
@@ -57,7 +66,7 @@ pub record IsNewConnection {L C A J : Type 0} (server : A) (options : Option Htt
   pub link : made.session.link ≡ start
   pub settings : made.session.settings ≡ record new_settings { reuses = limit_of options }
   pub served : made.served ≡ server
-  pub limit : made.limit ≡ limit_of options
+  pub terms : made.terms ≡ terms_of options
   pub done : made.done ≡ []
   pub last : made.last ≡ None
   pub work : work_of made ≡ reads_head None

@@ -43,7 +43,7 @@ pub use Rattle.h1_server.specs.Writes.{EndCall, Writes, WritesPiece}
 pub use Rattle.h1_server.specs.declared.request.Request.{Request}
 pub use Rattle.h1_server.specs.declared.settings.Settings.{Settings}
 pub use Rattle.h1_transcript.specs.Alone.{JoinAlone, WithinRead}
-pub use Rattle.h1_transcript.specs.Begun.{AreBegun, BeginsWith, IsNextSet, IsSetAlike, head_time, reuses_at}
+pub use Rattle.h1_transcript.specs.Begun.{AreBegun, BeginsIn, Terms, BeginsWith, IsNextSet, IsSetAlike, head_time, reuses_at}
 pub use Rattle.h1_transcript.specs.Behind.{AfterRead, AfterWrote, DoneBehind, FlushedBy, IsBelow, ReadBehind, StoodAs, WroteBehind, is_until_close, written_of}
 pub use Rattle.h1_transcript.specs.Ends.{AreAllDone, EndCause, FailureCause, IsComplete, IsWrittenShort, LacksSo, LastStands, OfLast}
 pub use Rattle.h1_transcript.specs.Entries.{TranscriptView, replies}
@@ -55,9 +55,11 @@ pub use Rattle.h1_transcript.specs.Refusals.{EndsBy, IsRefusedBy, IsWrittenSoFar
 pub use Rattle.h1_transcript.specs.Rules.{ArePlain, Filters, LawfulRules, Rules}
 pub use Rattle.h1_transcript.specs.Told.{IfTold, ToldGrowth}
 pub use Rattle.h1_transcript.specs.declared.reply.Reply.{Reply}
-pub use Rattle.h1_transcript.specs.declared.transcript.Entry.{Entry}
-pub use Rattle.h1_transcript.specs.declared.transcript.How.{How}
-pub use Rattle.h1_transcript.specs.declared.transcript.How.TheVariants.{Failed, Open, Whole}
+pub use Rattle.h1_transcript.specs.Entry.{Entry}
+pub use Rattle.h1_transcript.specs.declared.entry.How.{How}
+pub use Rattle.h1_transcript.specs.declared.history.History.{History}
+pub use Rattle.h1_transcript.specs.declared.history.History.TheVariants.{Kept}
+pub use Rattle.h1_transcript.specs.declared.entry.How.TheVariants.{Failed, Open, Whole}
 pub use Rattle.h1_transfer.specs.Budget.{allowance}
 pub use Rattle.h1_transfer.specs.Calls.{Called, Fault, FaultsBy}
 pub use Rattle.h1_transfer.specs.Decoding.{Decoded, Lacks}

@@ -44,14 +44,14 @@ where
     ghost use Rattle.std.specs.Arc.{arc_value};
     ghost use Rattle.h1_app.specs.Filtering.{chain_of};
     ghost use Rattle.h1_app.specs.FilterSteps.{SoundWith};
-    ghost use Rattle.h1_app.specs.View.{Served, View, limit_of, served_by};
+    ghost use Rattle.h1_app.specs.View.{Served, View, served_by, terms_of};
 
     ghost Value = { View L C (Served SV B) SV.Job };
 
     ghost view = { λ c. record {
       session = c.exchange.session;
       served = served_by (arc_value c.server).app (arc_value c.server).modules;
-      limit = limit_of (arc_value c.server).server_options;
+      terms = terms_of (arc_value c.server).server_options;
       done = c.exchange.transcript.done;
       last = c.exchange.transcript.last;
       stage = c.exchange.stage;
@@ -61,7 +61,7 @@ where
     ghost invariant = { λ c. SoundWith (SV.gives (arc_value c.server).app)
         (SV.runs (arc_value c.server).app)
         (chain_of B.HttpModuleBuilder B.Module.HttpModule (arc_value c.server).modules)
-        (limit_of (arc_value c.server).server_options) c.exchange c.modules.modules c.end };
+        (terms_of (arc_value c.server).server_options) c.exchange c.modules.modules c.end };
 }
 
 impl<L, SV, B, C> Connection<L, SV, B, C>
@@ -98,13 +98,14 @@ where
     {
         let mut session = HttpSession::new(alloc, link)?;
         session.set_keepalive_reuses_remaining(server.request_limit());
+        let history = server.history();
         Ok(Connection {
             alloc,
             server,
             modules: HttpModuleCtx::empty(alloc),
             exchange: Exchange {
                 session,
-                transcript: Transcript::new(alloc),
+                transcript: Transcript::new(alloc, history),
                 stage: Stage::Head,
             },
             end: None,
@@ -116,7 +117,7 @@ where
     /// with keep-alive off, and is the last unless the application turns it on.
     pub fn poll(&mut self, now: u64, shutdown: bool) -> Progress
         requires { now < YEAR_10000 }
-        ensures served { (self.new.served ≡ self.old.served) × (self.new.limit ≡ self.old.limit) }
+        ensures served { (self.new.served ≡ self.old.served) × (self.new.terms ≡ self.old.terms) }
         ensures later { Later (L.state self.old.session.link) (L.state self.new.session.link) }
         ensures plan { L.same_plan self.old.session.link self.new.session.link }
         ensures context { self.new.session.context ≡ self.old.session.context }
@@ -124,7 +125,7 @@ where
             Accounted L.state before self.new.session self.new.done self.new.last) }
         ensures agrees { AccountedFrom L.state self.old (λ before.
             Agrees (rules_of SV.gives B.HttpModuleBuilder B.Module.HttpModule self.new.served)
-            self.new.limit before (L.state self.new.session.link) (entries self.new)) }
+            self.new.terms before (L.state self.new.session.link) (entries self.new)) }
         ensures extends { Extends now shutdown (L.state self.old.session.link)
             (L.state self.new.session.link) (entries self.old) (entries self.new) }
         ensures alone { AccountedFrom L.state self.old (λ before.
@@ -170,7 +171,7 @@ where
         ensures turned { Turned L.state L.same_plan now shutdown self.old self.new true }
         ensures sound { Sound
             (rules_of SV.gives B.HttpModuleBuilder B.Module.HttpModule self.new.served)
-            (SV.runs self.new.served.app) self.new.limit self.new.session self.new.done
+            (SV.runs self.new.served.app) self.new.terms self.new.session self.new.done
             self.new.last self.new.stage self.new.end }
         ensures timely { IsTimely L.state now self.old self.new result }
         ensures cause { AccountedFrom L.state self.old (λ before.
@@ -197,7 +198,7 @@ where
             (stops result) }
         ensures sound { Sound
             (rules_of SV.gives B.HttpModuleBuilder B.Module.HttpModule self.new.served)
-            (SV.runs self.new.served.app) self.new.limit self.new.session self.new.done
+            (SV.runs self.new.served.app) self.new.terms self.new.session self.new.done
             self.new.last self.new.stage self.new.end }
         ensures end { self.new.end ≡ outcome_end result }
         ensures timely { TurnsInTime L.state now self.old self.new result }
@@ -236,17 +237,10 @@ where
 
     /// What was read and written so far.
     pub fn transcript(&self) -> &Transcript
-        ensures { transcript_entries result.now ≡ entries self.now }
+        ensures entries { transcript_entries result.now ≡ entries self.now }
+        ensures history { result.now.history ≡ self.now.terms.history }
     {
         &self.exchange.transcript
-    }
-
-    /// The memory of the exchanges that ended is given back: what a poll says of them stays, but
-    /// they are read no more.
-    pub fn forget_ended(&mut self)
-        ensures { self.new ≡ self.old }
-    {
-        self.exchange.transcript.forget_ended();
     }
 
     /// Why the connection ended.

@@ -11,7 +11,7 @@ ghost use Rattle.h1_link.specs.LinkState.{LinkState};
 ghost use Rattle.bytes.specs.Filled.{Filled};
 ghost use Rattle.h1_server.specs.Reuse.{prefix_of};
 ghost use Rattle.h1_server.specs.SessionView.{SessionView, IsNewSession};
-ghost use Rattle.h1_transcript.specs.declared.transcript.Entry.{Entry};
+ghost use Rattle.h1_transcript.specs.Entry.{Entry};
 ghost use Rattle.h1_app.specs.declared.reused.HttpPersistentSettings.{HttpPersistentSettings};
 ghost use Rattle.h1_app.specs.Persistent.{applied, with_prefix};
 ghost use Rattle.h1_app.specs.Joins.{IsDoneIn, IsRestarted};
@@ -23,6 +23,7 @@ ghost use Rattle.h1_transcript.specs.Complete.{IsValid, GaveOf, AreWithin, NoFau
 ghost use Rattle.h1_transcript.specs.Stream.{Message};
 ghost use Rattle.h1_transcript.specs.Rules.{Filters};
 ghost use Rattle.h1_app.specs.View.{Served, View};
+ghost use Rattle.h1_transcript.specs.Begun.{Terms};
 
 use crate::ServeHttp;
 use h1_link::Link;
@@ -53,12 +54,12 @@ pub fn a_link_that_is_handed_on_goes_on<L: Link, C>()
 /// was reached, every end that is no refusal of a filter is that of a connection whose requests were
 /// all served, or out of memory.
 pub fn valid_input_is_served<L: Link + Drop, SV: ServeHttp<L, C> + Drop, C: Drop>()
-    ensures { (app : SV) (filters : Filters) (limit : Option ℕ) (before old now : LinkState)
+    ensures { (app : SV) (filters : Filters) (terms : Terms) (before old now : LinkState)
         (input : List ℕ) (requests : List Message)
         → (done : List Entry) (last : Option Entry) (reason : End)
-        → IsValid input requests → GaveOf input before now → AreWithin limit (length requests)
+        → IsValid input requests → GaveOf input before now → AreWithin terms.limit (length requests)
         → NoFault old now → IsInTime now reason
-        → Agrees (record { gives = SV.gives app; filters = filters }) limit before now
+        → Agrees (record { gives = SV.gives app; filters = filters }) terms before now
         (done ++ option_to_list last)
         → AllByRecursion KeepsOn (done ++ option_to_list last)
         → EndCause before old now done last reason

@@ -24,7 +24,7 @@ pub use h1_echo::{EchoApp, EchoJob};
 pub use h1_error::{End, Error, ErrorType, HeadFault, Progress, Waiting};
 pub use h1_modules::{HttpModule, HttpModuleBuilder, HttpModuleCtx, HttpModules, NoModules};
 pub use h1_server::{CALL_BUDGET, HttpSession};
-pub use h1_transcript::{Entry, How, Reply, Transcript};
+pub use h1_transcript::{Entry, History, How, Reply, Transcript};
 pub use lawful::LawfulFor;
 pub use laws::{
     a_link_that_is_handed_on_goes_on, only_the_budget_is_awaited,

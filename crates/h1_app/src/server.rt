@@ -5,12 +5,13 @@ ghost use Rattle.h1_error.specs.Memory.{no_memory};
 ghost use Rattle.h1_modules.specs.Builders.{has_key, placed};
 ghost use Rattle.h1_modules.specs.Outcome.{duplicate};
 ghost use Rattle.std.specs.Option.{option_copied};
-ghost use Rattle.h1_app.specs.View.{limit_of};
+ghost use Rattle.h1_app.specs.View.{history_of, limit_of};
 
 use crate::{HttpServerOptions, ServeHttp};
 use h1_error::Error;
 use h1_link::Link;
 use h1_modules::{HttpModuleBuilder, HttpModules, NoModules};
+use h1_transcript::History;
 use std::alloc::Global;
 
 /// An application with its modules.
@@ -45,6 +46,16 @@ impl<SV: Drop, B: HttpModuleBuilder + Drop> HttpServer<SV, B> {
         ensures same { OnErr result (self.new ≡ self.old) }
     {
         self.modules.add_module(builder)
+    }
+
+    /// Whether a connection keeps its exchanges.
+    pub(crate) fn history(&self) -> History
+        ensures { result ≡ history_of self.now.server_options }
+    {
+        match &self.server_options {
+            Some(options) => options.history,
+            None => History::Kept,
+        }
     }
 
     /// How many requests more than the first a connection may serve; None is no limit.

@@ -9,8 +9,8 @@ use Rattle.h1_transfer.specs.Moved.{Moved}
 use Rattle.h1_transfer.specs.Decoding.{Lacks}
 use Rattle.h1_transfer.specs.declared.body.BodyState.{BodyState}
 use Rattle.h1_transcript.specs.declared.reply.Reply.{Reply}
-use Rattle.h1_transcript.specs.declared.transcript.How.{How}
-use Rattle.h1_transcript.specs.declared.transcript.How.TheVariants.{Open, Whole, Failed}
+use Rattle.h1_transcript.specs.declared.entry.How.{How}
+use Rattle.h1_transcript.specs.declared.entry.How.TheVariants.{Open, Whole, Failed}
 use Rattle.h1_transcript.specs.BodyLimits.{IsNotedAt, IsOverAt}
 use Rattle.h1_transcript.specs.Given.{Given}
 

@@ -1,7 +1,7 @@
 //! A connection that is given input in pieces.
 ghost use Rattle.std.specs.Prelude.{◌<◌};
 
-use h1_app::{Connection, EchoApp, HttpServer, NoModules};
+use h1_app::{Connection, EchoApp, History, HttpServer, HttpServerOptions, NoModules};
 use h1_error::{Error, Progress, Waiting};
 use h1_link::MemLink;
 use std::alloc::Global;
@@ -31,7 +31,13 @@ pub(crate) struct Served {
 pub(crate) fn serve(alloc: Global, bytes: &[u8], piece: usize, work: Work) -> Result<Served, Error>
     requires { 0 < piece }
 {
-    let server = Arc::new(alloc, HttpServer::new_app(alloc, EchoApp))?;
+    let mut server = HttpServer::new_app(alloc, EchoApp);
+    server.server_options = Some(HttpServerOptions {
+        keepalive_request_limit: None,
+        allow_connect_method_proxying: false,
+        history: History::Forgotten,
+    });
+    let server = Arc::new(alloc, server)?;
     let mut connection: Connection<MemLink, EchoApp, NoModules, ()> = Connection::new(
         alloc,
         server,

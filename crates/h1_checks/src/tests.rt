@@ -13,7 +13,7 @@ mod servers;
 mod serving;
 mod waiting;
 
-use h1_app::{Connection, HttpServer, HttpServerOptions, NoModules, Progress, ServeHttp};
+use h1_app::{Connection, History, HttpServer, HttpServerOptions, NoModules, Progress, ServeHttp};
 use h1_error::Error;
 use h1_link::{Link, MemLink};
 use std::alloc::Global;
@@ -61,10 +61,22 @@ fn connect<L: Link + Drop, SV: ServeHttp<L, ()> + Drop>(
     limit: Option<u32>,
     link: L,
 ) -> Result<Served<L, SV>, Error> {
+    connect_with(alloc, app, limit, History::Kept, link)
+}
+
+/// The same, which keeps its exchanges or forgets them.
+fn connect_with<L: Link + Drop, SV: ServeHttp<L, ()> + Drop>(
+    alloc: Global,
+    app: SV,
+    limit: Option<u32>,
+    history: History,
+    link: L,
+) -> Result<Served<L, SV>, Error> {
     let mut server = HttpServer::new_app(alloc, app);
     server.server_options = Some(HttpServerOptions {
         keepalive_request_limit: limit,
         allow_connect_method_proxying: false,
+        history,
     });
     let connection = Connection::new(alloc, Arc::new(alloc, server)?, link)?;
     Ok(Served { connection })
@@ -114,11 +126,6 @@ fn fail_next_write<SV: ServeHttp<MemLink, ()> + Drop>(served: &mut Served<MemLin
     served.connection.with_link(|link| link.fail_next_write());
 }
 
-/// The memory of the exchanges that ended is given back.
-fn forget_ended<SV: ServeHttp<MemLink, ()> + Drop>(served: &mut Served<MemLink, SV>) {
-    served.connection.forget_ended();
-}
-
 /// Whether the link of the connection was shut.
 fn is_shut<SV: ServeHttp<MemLink, ()> + Drop>(served: &Served<MemLink, SV>) -> bool {
     served.connection.link().is_shut()
@@ -140,7 +147,7 @@ fn counts<SV: ServeHttp<MemLink, ()> + Drop>(
     i: usize,
 ) -> (u64, usize) {
     match served.connection.transcript().get(i) {
-        Some(entry) => (entry.written, entry.body.as_slice().len()),
+        Some(entry) => (entry.written(), entry.body().len()),
         None => (0, 0),
     }
 }
@@ -151,7 +158,7 @@ fn body_error<SV: ServeHttp<MemLink, ()> + Drop>(
     i: usize,
 ) -> Option<Error> {
     match served.connection.transcript().get(i) {
-        Some(entry) => entry.body_error,
+        Some(entry) => entry.body_error(),
         None => None,
     }
 }

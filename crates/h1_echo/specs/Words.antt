@@ -15,4 +15,4 @@ pub use Rattle.h1_server.specs.declared.settings.Settings.{Settings}
 pub use Rattle.h1_transcript.specs.Given.{Given}
 pub use Rattle.h1_transcript.specs.Lawful.{IsLawful}
 pub use Rattle.h1_transcript.specs.declared.reply.Reply.{Reply}
-pub use Rattle.h1_transcript.specs.declared.transcript.How.TheVariants.{Failed, Open, Whole}
+pub use Rattle.h1_transcript.specs.declared.entry.How.TheVariants.{Failed, Open, Whole}

@@ -13,8 +13,8 @@ use Rattle.h1_body.specs.Writer.{body_bytes}
 use Rattle.h1_body.proofs.LawLemmas.{bodies_grow}
 use Rattle.h1_transcript.specs.Agrees.{AreOf}
 use Rattle.h1_transcript.specs.Stream.{Message, Begins, BehindBody}
-use Rattle.h1_transcript.specs.declared.transcript.Entry.{Entry}
-use Rattle.h1_transcript.specs.declared.transcript.How.TheVariants.{Failed}
+use Rattle.h1_transcript.specs.Entry.{Entry}
+use Rattle.h1_transcript.specs.declared.entry.How.TheVariants.{Failed}
 use Rattle.h1_transcript.specs.declared.reply.Reply.{Reply}
 use Rattle.h1_transcript.specs.Behind.{StoodAs}
 use Rattle.h1_transcript.proofs.BehindLemmas.{whole_stays, whole_within}

@@ -14,7 +14,7 @@ use Rattle.h1_body.specs.declared.framing.Framing.TheVariants as as_framing
 use Rattle.h1_transcript.specs.Behind.{is_until_close}
 use Rattle.h1_transcript.specs.Exchange.{shown, is_short}
 use Rattle.h1_transcript.specs.declared.reply.Reply.{Reply}
-use Rattle.h1_transcript.specs.declared.transcript.Entry.{Entry}
+use Rattle.h1_transcript.specs.Entry.{Entry}
 use Rattle.h1_application.specs.LengthLine.{length_line}
 use Rattle.h1_echo.specs.Echo.{echo_body, echo_fields, echo_reply, refused_reply}
 use Rattle.h1_generator.specs.Generated.{form_of, asked, asked_as, head_of}

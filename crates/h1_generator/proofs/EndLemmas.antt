@@ -13,10 +13,11 @@ use Rattle.h1_link.specs.LinkState.{LinkState}
 use Rattle.h1_body.specs.Body.{unfinished, broken}
 use Rattle.h1_transcript.specs.Rules.{plain}
 use Rattle.h1_transcript.specs.declared.reply.Reply.{Reply}
-use Rattle.h1_transcript.specs.declared.transcript.Entry.{Entry}
-use Rattle.h1_transcript.specs.declared.transcript.How.{How}
-use Rattle.h1_transcript.specs.declared.transcript.How.TheVariants.{Open, Whole, Failed}
+use Rattle.h1_transcript.specs.Entry.{Entry}
+use Rattle.h1_transcript.specs.declared.entry.How.{How}
+use Rattle.h1_transcript.specs.declared.entry.How.TheVariants.{Open, Whole, Failed}
 use Rattle.h1_transcript.specs.Agrees.{Agrees, AreOf}
+use Rattle.h1_transcript.specs.declared.history.History.{History}
 use Rattle.h1_transcript.specs.Behind.{ReadBehind, AfterRead, is_until_close}
 use Rattle.h1_transcript.specs.Complete.{GaveOf, NoFault, IsInTime, KeepsOn, ServesAll}
 use Rattle.h1_transcript.specs.Ends.{EndCause, FailureCause, StopsLast, LastAfter, LastStands, AreAllDone, OfLast, ReadAll}
@@ -189,7 +190,9 @@ pub record Over (count : ℕ) (before old now : LinkState) (done : List Entry)
   pub gave : GaveOf (generated count) before now
   pub faultless : NoFault old now
   pub ready : IsReady old now
-  pub agrees : Agrees (plain EchoGives) None before now (done ++ option_to_list last)
+  pub history : History
+  pub agrees : Agrees (plain EchoGives) (record { limit = None; history = history }) before now
+      (done ++ option_to_list last)
   pub kept : AllByRecursion IsKeptOn (done ++ option_to_list last)
   pub behind : IfTold before.given now.given (AfterRead done (λ rest. Unit {0}))
 
@@ -362,7 +365,8 @@ kept_ends : (count : ℕ) (before old now : LinkState) (done : List Entry) (last
     → EndCause before old now done last reason
     → ServesAll before now (messages count) done last reason
 kept_ends count before old now done last reason o none cause =
-    served (plain EchoGives) None before old now (generated count) (messages count) done last reason
+    served (plain EchoGives) (record { limit = None; history = o.history }) before old now
+    (generated count) (messages count) done last reason
     (valid count o.few) o.gave tt o.faultless (in_time count before old now done last reason o none cause) o.agrees
     (keeps_all (done ++ option_to_list last) (known_of count before old now done last o) none) cause
 

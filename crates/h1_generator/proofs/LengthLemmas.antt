@@ -17,7 +17,7 @@ use Rattle.h1_body.specs.Framing.{out}
 use Rattle.h1_body.specs.Writer.{body_bytes}
 use Rattle.h1_body.specs.declared.framing.Framing.TheVariants as as_framing
 use Rattle.h1_transcript.specs.declared.reply.Reply.{Reply}
-use Rattle.h1_transcript.specs.declared.transcript.Entry.{Entry}
+use Rattle.h1_transcript.specs.Entry.{Entry}
 use Rattle.h1_transcript.specs.Agrees.{AreReplies}
 use Rattle.h1_transcript.specs.Exchange.{render, render_body, shown, IsDated, given_to}
 use Rattle.h1_transcript.specs.Lawful.{IsLawful}

@@ -7,7 +7,7 @@ use Rattle.h1_error.specs.declared.error.Error.{Error}
 use Rattle.h1_error.specs.Memory.{no_memory}
 use Rattle.h1_head.specs.Faults.{line_fault, RefusedFor}
 use Rattle.h1_transcript.specs.declared.reply.Reply.{Reply}
-use Rattle.h1_transcript.specs.declared.transcript.Entry.{Entry}
+use Rattle.h1_transcript.specs.Entry.{Entry}
 use Rattle.futures.specs.declared.task.Poll.TheVariants.{Ready}
 use Rattle.h1_head.specs.Views.{RequestView}
 use Rattle.h1_server.specs.SessionView.{SessionView}

@@ -16,9 +16,9 @@ use Rattle.h1_transcript.specs.Agrees.{Agrees}
 use Rattle.h1_transcript.specs.Rules.{Filters, Rules}
 use Rattle.h1_app.specs.Causes.{Cause, PendedNew, PendedOn, PendedBy}
 use Rattle.h1_app.specs.Accounted.{Accounted}
-use Rattle.h1_app.specs.View.{View, entries, limit_of, IsNewConnection}
+use Rattle.h1_app.specs.View.{View, entries, terms_of, IsNewConnection}
 use Rattle.h1_app.specs.declared.options.HttpServerOptions.{HttpServerOptions}
-use Rattle.h1_transcript.specs.declared.transcript.Entry.{Entry}
+use Rattle.h1_transcript.specs.Entry.{Entry}
 use Rattle.h1_app.specs.declared.exchange.Stage.{Stage}
 use Rattle.h1_app.specs.declared.exchange.Stage.TheVariants as stage
 use Rattle.h1_greeting.specs.Polled.{Polled}
@@ -37,10 +37,10 @@ pub record IsServed {C A J : Type 0} (rules : A → Rules) (server : A) (given :
   pub same : served.served ≡ server
   pub put : served.session.link.put ≡ given
   pub ready : NeverWaits served.session.link
-  pub limit : served.limit ≡ None
+  pub terms : served.terms ≡ terms_of None
   pub accounted : Accounted (λ link. link.state) new_mem_state.state served.session served.done
       served.last
-  pub agrees : Agrees (rules server) None new_mem_state.state served.session.link.state
+  pub agrees : Agrees (rules server) (terms_of None) new_mem_state.state served.session.link.state
       (entries served)
   pub polled : Polled polls served.end served.session.link.state
 
@@ -135,7 +135,8 @@ fed_link fresh fed ended given new made said =
     (λ (l : MemState). record l { put = l.put ++ given; reads_noted = l.state.read_waits }) new)
 
 -- no exchange was begun, and nothing was read or written
-agrees_none : (rules : Rules) → Agrees rules None new_mem_state.state new_mem_state.state []
+agrees_none : (rules : Rules)
+    → Agrees rules (terms_of None) new_mem_state.state new_mem_state.state []
 agrees_none rules = record {
   read = ([], refl, ([], tt, tt));
   allowed = tt;
@@ -160,7 +161,7 @@ served_none rules server started given options link made starts unset fed new ac
       put = ap (λ (l : MemState). l.put) linked;
       ready = subst NeverWaits (sym linked)
           (record { end_at = refl; gate = refl; reads = refl; writes = refl });
-      limit = new.limit ∙ ap limit_of unset;
+      terms = new.terms ∙ ap terms_of unset;
       accounted = subst (λ s. Accounted (λ (link : MemState). link.state) s made.session made.done
           made.last) (ap (λ (l : MemState). l.state) fed) accounted;
       agrees = rw (new.done, new.last, linked) (agrees_none (rules server));
@@ -171,10 +172,10 @@ served_none rules server started given options link made starts unset fed new ac
 pub served_on : {C A J : Type 0} (rules : A → Rules) (server : A) (given : List ℕ) (polls : ℕ)
     (from to : View MemState C A J) (answer : Progress)
     → IsServed rules server given polls from → polls < 1000 → from.end ≡ None
-    → (to.served ≡ from.served) × (to.limit ≡ from.limit)
+    → (to.served ≡ from.served) × (to.terms ≡ from.terms)
     → SamePlan from.session.link to.session.link → Rule to.session.link
     → Accounted (λ link. link.state) new_mem_state.state to.session to.done to.last
-    → Agrees (rules to.served) to.limit new_mem_state.state to.session.link.state (entries to)
+    → Agrees (rules to.served) to.terms new_mem_state.state to.session.link.state (entries to)
     → Cause (rules to.served).filters (λ (link : MemState). link.state) (λ _. Unit {0}) (λ _. 0)
     new_mem_state.state from to answer
     → IsServed rules server given (polls + 1) to
@@ -183,12 +184,12 @@ served_on rules server given polls from to answer was small on same plan rule si
       same = same.0 ∙ was.same;
       put = plan.put ∙ was.put;
       ready = ready;
-      limit = same.1 ∙ was.limit;
+      terms = same.1 ∙ was.terms;
       accounted = since;
       agrees =
           subst (λ l. Agrees (rules server) l new_mem_state.state to.session.link.state (entries to))
-          (same.1 ∙ was.limit)
-          (subst (λ s. Agrees (rules s) to.limit new_mem_state.state to.session.link.state
+          (same.1 ∙ was.terms)
+          (subst (λ s. Agrees (rules s) to.terms new_mem_state.state to.session.link.state
           (entries to)) (same.0 ∙ was.same) agrees);
       polled =
           polled_on (rules to.served).filters new_mem_state.state polls from to answer small on

@@ -8,7 +8,7 @@ use Rattle.h1_error.specs.Memory.{no_memory}
 use Rattle.h1_head.specs.Faults.{line_fault, RefusedFor}
 use Rattle.h1_head.specs.Views.{RequestView, ResponseView}
 use Rattle.h1_transcript.specs.declared.reply.Reply.{Reply}
-use Rattle.h1_transcript.specs.declared.transcript.Entry.{Entry}
+use Rattle.h1_transcript.specs.Entry.{Entry}
 use Rattle.h1_transcript.specs.Exchange.{IsAllowed, given_to}
 use Rattle.h1_greeting.specs.Greeting.{Greeting, greeting}
 use Rattle.h1_greeting.specs.Stamped.{stamped, stamped_greeting}

@@ -5,7 +5,7 @@ ghost use Rattle.h1_error.specs.Memory.{no_memory};
 ghost use Rattle.h1_link.specs.MemState.{new_mem_state};
 ghost use Rattle.h1_transcript.specs.Agrees.{Agrees};
 ghost use Rattle.h1_transcript.specs.Rules.{plain};
-ghost use Rattle.h1_app.specs.View.{entries};
+ghost use Rattle.h1_app.specs.View.{entries, terms_of};
 ghost use Rattle.h1_greeting.specs.Greeting.{Greeting, greeting};
 ghost use Rattle.h1_greeting.specs.Polled.{Polled};
 
@@ -74,8 +74,8 @@ pub fn greet(alloc: Global, given: &[u8]) -> Result<Greeted, Error>
         (λ served. served.session.link.state.given
         ≡ Some (take served.session.link.state.bytes_in given.now)) }
     ensures agrees { IfOk result
-        (λ served. Agrees (plain Greeting) None new_mem_state.state served.session.link.state
-        (entries served)) }
+        (λ served. Agrees (plain Greeting) (terms_of None) new_mem_state.state
+        served.session.link.state (entries served)) }
     ensures greeted { IfOk result
         (λ served. All (λ exchange. IfSome exchange.reply (λ reply. reply ≡ greeting))
         (entries served)) }

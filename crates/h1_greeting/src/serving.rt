@@ -4,7 +4,7 @@ ghost use Rattle.h1_error.specs.Memory.{no_memory};
 ghost use Rattle.h1_link.specs.MemState.{new_mem_state};
 ghost use Rattle.h1_transcript.specs.Agrees.{Agrees};
 ghost use Rattle.h1_app.specs.Filtering.{chain_of, rules_with};
-ghost use Rattle.h1_app.specs.View.{entries};
+ghost use Rattle.h1_app.specs.View.{entries, terms_of};
 ghost use Rattle.h1_greeting.specs.Greeting.{Greeting};
 ghost use Rattle.h1_greeting.specs.Polled.{Polled};
 
@@ -34,7 +34,7 @@ pub fn serve<B: LawfulFor<MemLink, (), Greets> + Drop>(
     ensures agrees { IfOk result
         (λ served. Agrees
         (rules_with Greeting (chain_of B.HttpModuleBuilder B.Module.HttpModule server.modules))
-        None new_mem_state.state served.session.link.state (entries served)) }
+        (terms_of None) new_mem_state.state served.session.link.state (entries served)) }
     // It ended, or each of its polls moved bytes in 64 calls: no poll waited for the link or for the
     // application.
     ensures polled { IfOk result

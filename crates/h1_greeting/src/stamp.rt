@@ -4,7 +4,7 @@ ghost use Rattle.std.specs.List.{All};
 ghost use Rattle.h1_error.specs.Memory.{no_memory};
 ghost use Rattle.h1_link.specs.MemState.{new_mem_state};
 ghost use Rattle.h1_transcript.specs.Agrees.{Agrees};
-ghost use Rattle.h1_app.specs.View.{entries};
+ghost use Rattle.h1_app.specs.View.{entries, terms_of};
 ghost use Rattle.h1_greeting.specs.Greeting.{greeting};
 ghost use Rattle.h1_greeting.specs.Polled.{Polled};
 ghost use Rattle.h1_greeting.specs.Stamped.{stamped, stamped_greeting};
@@ -120,7 +120,7 @@ pub fn greet_stamped(alloc: Global, given: &[u8]) -> Result<Stamped, Error>
         (λ served. served.session.link.state.given
         ≡ Some (take served.session.link.state.bytes_in given.now)) }
     ensures agrees { IfOk result
-        (λ served. Agrees stamped_greeting None new_mem_state.state
+        (λ served. Agrees stamped_greeting (terms_of None) new_mem_state.state
         served.session.link.state (entries served)) }
     ensures stamped { IfOk result
         (λ served. All (λ exchange. IfSome exchange.sent_head

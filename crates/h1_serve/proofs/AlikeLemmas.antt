@@ -13,9 +13,9 @@ use Rattle.h1_body.specs.Body.{Body, whole, payload_of}
 use Rattle.h1_body.specs.Framing.{framing}
 use Rattle.h1_body.specs.Reader.{body}
 use Rattle.h1_transcript.specs.declared.reply.Reply.{Reply}
-use Rattle.h1_transcript.specs.declared.transcript.Entry.{Entry}
-use Rattle.h1_transcript.specs.declared.transcript.How.{How}
-use Rattle.h1_transcript.specs.declared.transcript.How.TheVariants.{Open, Whole, Failed}
+use Rattle.h1_transcript.specs.Entry.{Entry}
+use Rattle.h1_transcript.specs.declared.entry.How.{How}
+use Rattle.h1_transcript.specs.declared.entry.How.TheVariants.{Open, Whole, Failed}
 use Rattle.h1_transcript.specs.Behind.{StoodAs, ReadBehind, WroteBehind, DoneBehind}
 use Rattle.h1_echo.specs.Echo.{EchoGives, echo_reply}
 use Rattle.h1_transcript.specs.Exchange.{render, render_parts, given_to, IsAllowed}

@@ -1,7 +1,7 @@
 -- Lemmas on the lines of exchanges, one exchange after the other.
 use Rattle.std.proofs.Common.{◌≡◌, ℕ, ◌+◌, ◌<◌, List, [], ◌∷◌, ◌++◌, length, take, get_or, sym, ap, ◌∙◌}
 use Rattle.std.proofs.lemmas.List.{take_more, flat_map_more}
-use Rattle.h1_transcript.specs.declared.transcript.Entry.{Entry}
+use Rattle.h1_transcript.specs.Entry.{Entry}
 use Rattle.h1_serve.specs.ExchangeText.{exchange_lines, exchanges_lines}
 
 -- the lines of one exchange more

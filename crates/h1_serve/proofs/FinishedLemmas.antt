@@ -14,7 +14,7 @@ use Rattle.h1_head.specs.Views.{ResponseView}
 use Rattle.h1_words.specs.Script.{ScriptOutcome, script_of, commands}
 use Rattle.h1_words.specs.declared.command.Command.{Command}
 use Rattle.h1_words.specs.declared.command.Command.TheVariants as command
-use Rattle.h1_transcript.specs.declared.transcript.Entry.{Entry}
+use Rattle.h1_transcript.specs.Entry.{Entry}
 use Rattle.h1_transcript.specs.Behind.{ReadBehind, WroteBehind, FlushedBy}
 use Rattle.h1_transcript.specs.Ends.{EndCause, ReadAll}
 use Rattle.h1_transcript.specs.Refusals.{EndsBy}

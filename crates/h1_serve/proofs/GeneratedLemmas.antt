@@ -1,9 +1,7 @@
 -- Lemmas on the numbers that `gen N` tells.
-use Rattle.std.proofs.Common.{◌≡◌, ℕ, zero, suc, ◌+◌, ◌*◌, ◌<◌, ◌≤◌, ◌%◌, List, [], ◌∷◌, ◌++◌, length, take, map, get_or, option_to_list, Option, Some, refl, sym, ap, subst, ◌∙◌, arith, append-nil, length-append, codes}
-use Rattle.std.proofs.lemmas.List.{take_more, length-replicate}
+use Rattle.std.proofs.Common.{◌≡◌, ℕ, zero, suc, ◌+◌, ◌*◌, ◌<◌, ◌≤◌, ◌%◌, ◌-◌, ◌^◌, min, List, [], ◌∷◌, ◌++◌, length, map, option_to_list, Option, Some, refl, sym, ap, subst, ◌∙◌, arith, append-nil, length-append, codes}
+use Rattle.std.proofs.lemmas.List.{length-replicate}
 use Rattle.std.proofs.lemmas.List.Concat.{flat_map-cons}
-use Rattle.std.proofs.lemmas.List.Folds.{length-flat_map-take}
-use Rattle.std.proofs.lemmas.List.{flat_map_more}
 use Rattle.h1_error.specs.declared.progress.End.{End}
 use Rattle.h1_error.specs.declared.progress.End.TheVariants as end
 use Rattle.h1_error.specs.declared.progress.Progress.TheVariants as progress
@@ -11,7 +9,8 @@ use Rattle.h1_words.specs.Report.{answer_text}
 use Rattle.h1_body.specs.Body.{payload_of}
 use Rattle.h1_transcript.specs.Complete.{AreServed}
 use Rattle.h1_transcript.specs.Stream.{Message}
-use Rattle.h1_transcript.specs.declared.transcript.Entry.{Entry}
+use Rattle.h1_transcript.specs.Entries.{bodies}
+use Rattle.h1_transcript.specs.Entry.{Entry}
 use Rattle.h1_app.specs.View.{entries}
 use Rattle.h1_generator.specs.Generated.{asked_as, asked, asked_from, form_of}
 use Rattle.h1_generator.specs.Messages.{message_of, messages}
@@ -20,29 +19,7 @@ use Rattle.h1_generator.specs.declared.generator.Form.TheVariants.{Plain, Counte
 use Rattle.h1_link.specs.MemState.{MemState}
 use Rattle.h1_serving.specs.Served.{EchoedView}
 use Rattle.h1_serving.specs.Whole.{IsServedWhole}
-use Rattle.h1_serve.specs.Generated.{bodies, payloads, count_line, gen_lines, TellsServed, IsGenText}
-
--- the bodies with one exchange more
-pub record MoreBodies (exchanges : List Entry) (i : ℕ) (e : Entry) : Type 0 where
-  pub is : length (bodies (take (i + 1) exchanges))
-      ≡ length (bodies (take i exchanges)) + length e.body
-  pub most : length (bodies (take i exchanges)) + length e.body ≤ length (bodies exchanges)
-
-pub more_bodies : (exchanges : List Entry) (i : ℕ) (e : Entry) → i < length exchanges
-    → e ≡ get_or exchanges i e → MoreBodies exchanges i e
-more_bodies exchanges i e within at =
-    let item = sym at in
-    let taken : take (i + 1) exchanges ≡ take i exchanges ++ e ∷ [] =
-    take_more exchanges i e within ∙ ap (λ (x : Entry). take i exchanges ++ x ∷ []) item in
-    let joined : bodies (take i exchanges) ++ e.body ≡ bodies (take i exchanges ++ e ∷ []) =
-    flat_map_more (λ (x : Entry). x.body) [] (take i exchanges) e in
-    let most = length-flat_map-take (λ (x : Entry). x.body) exchanges i e within in
-    record {
-      is = ap (λ es. length (bodies es)) taken ∙ ap length (sym joined)
-          ∙ length-append (bodies (take i exchanges)) e.body;
-      most = subst (λ (x : Entry). length (bodies (take i exchanges)) + length x.body
-          ≤ length (bodies exchanges)) item most;
-    }
+use Rattle.h1_serve.specs.Generated.{payloads, count_line, gen_lines, TellsServed, IsGenText}
 
 -- the bodies of exchanges that are these requests are their payloads
 same_bodies : (done : List Entry) (requests : List Message) → AreServed done requests
@@ -150,19 +127,24 @@ is_finished reason met is finished = cc
 -- so they tell of the connection whose values they are
 pub tells_of : (served : EchoedView MemState) (kept : List Entry) (requests body : ℕ) (reason : End)
     (written text : List ℕ)
-    → kept ≡ entries served → requests ≡ length kept → body ≡ length (bodies kept)
+    → kept ≡ entries served → requests ≡ min (length kept) (2 ^ 64 - 1)
+    → body ≡ min (length (bodies kept)) (2 ^ 64 - 1)
+    → length (entries served) < 2 ^ 64 → length (bodies (entries served)) < 2 ^ 64
     → Some reason ≡ served.end → served.end ≡ Some end.Finished
     → served.session.link.state.written ≡ Some written
     → Adds requests body (length written) reason text → TellsServed served text
-tells_of served kept requests body reason written text kept_is many paid is finished told adds =
+tells_of served kept requests body reason written text same many paid few small is done told adds =
     let w = length written in
-    let ended : reason ≡ end.Finished = is_finished reason served.end is finished in
+    let ended : reason ≡ end.Finished = is_finished reason served.end is done in
+    let counted : requests ≡ length (entries served) =
+    omega (arith, many, ap length same, few) in
+    let measured : body ≡ length (bodies (entries served)) =
+    omega (arith, paid, ap (λ es. length (bodies es)) same, small) in
     record {
       written = written;
       told = told;
       is = added requests body w reason text adds
           ∙ ap (λ r. lines requests body w r) ended
-          ∙ ap (λ n. lines n body w end.Finished) (many ∙ ap length kept_is)
-          ∙ ap (λ n. lines (length (entries served)) n w end.Finished)
-          (paid ∙ ap (λ es. length (bodies es)) kept_is);
+          ∙ ap (λ n. lines n body w end.Finished) counted
+          ∙ ap (λ n. lines (length (entries served)) n w end.Finished) measured;
     }

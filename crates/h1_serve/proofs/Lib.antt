@@ -3,6 +3,7 @@ pub mod ListenLemmas
 pub mod OrderLemmas
 pub mod PollLemmas
 pub mod LineLemmas
+pub mod KeptLemmas
 pub mod ModuleLemmas
 pub mod LinkLineLemmas
 pub mod ExchangeLemmas

@@ -2,7 +2,7 @@
 use Rattle.std.proofs.Common.{◌≡◌, ◌⊎◌, inl, inr, ℕ, ◌+◌, ◌≤◌, ◌<◌, true, List, [], ◌∷◌, ◌++◌, length, drop, get_or, drop-cons, add-one, suc, Some, refl, sym, ap, subst, ◌∙◌, append-nil, append_assoc}
 use Rattle.std.proofs.lemmas.List.{drop_all}
 use Rattle.std.specs.Prelude.{Result, Ok, Err, OnOk}
-use Rattle.h1_transcript.specs.declared.transcript.Entry.{Entry}
+use Rattle.h1_transcript.specs.Entry.{Entry}
 use Rattle.h1_words.specs.Script.{place_after}
 use Rattle.h1_words.specs.declared.command.Command.{Command}
 use Rattle.h1_words.specs.declared.command.Command.TheVariants as command
@@ -76,6 +76,17 @@ pub next_in_time : (all : List Command) (i : ℕ) (asked : Command) (scripted : 
 next_in_time all i asked scripted text within is goes =
     let order = subst (AreInOrder goes.place) (left_at all i asked within is) goes.order in order.0
 
+-- after the last command its lines are those of all
+pub lines_last : (all : List Command) (scripted : Scripted) (n : ℕ) (text : List ℕ)
+    → Goes all (drop n all) scripted text → length all ≤ n
+    → Lines (start_with (limit_in all) (modules_in all)) all text (state_of scripted)
+lines_last all scripted n text goes past =
+    let now = state_of scripted in
+    let none : Lines now (drop n all) [] now =
+    subst (λ left. Lines now left [] now) (sym (drop_all n all past)) (refl, refl) in
+    subst (λ words. Lines (start_with (limit_in all) (modules_in all)) all words now)
+    (append-nil text) (goes.lines now [] none)
+
 pub goes_last : (all : List Command) (scripted : Scripted) (n : ℕ) (text written whole : List ℕ)
     → Goes all (drop n all) scripted text → length all ≤ n
     → scripted.connection.session.link.state.written ≡ Some written
@@ -85,9 +96,7 @@ goes_last all scripted n text written whole goes past told is = record {
   last = state_of scripted;
   polls = text;
   written = written;
-  lines = subst (λ words. Lines (start_with (limit_in all) (modules_in all)) all words (state_of scripted)) (append-nil text)
-      (goes.lines (state_of scripted) []
-      (subst (λ left. Lines (state_of scripted) left [] (state_of scripted)) (sym (drop_all n all past)) (refl, refl)));
+  lines = lines_last all scripted n text goes past;
   told = told;
   is = is;
 }

@@ -1,5 +1,5 @@
 -- Lemmas on peers that are served one after another.
-use Rattle.std.proofs.Common.{◌≡◌, ℕ, ◌+◌, ◌≤◌, List, [], ◌∷◌, ◌++◌, length, Option, Some, length-append, append-nil, append_assoc, refl, sym, ap, subst, ◌∙◌, arith}
+use Rattle.std.proofs.Common.{◌≡◌, ℕ, ◌+◌, ◌≤◌, List, [], ◌∷◌, ◌++◌, length, length-append, append-nil, append_assoc, refl, sym, ap, subst, ◌∙◌, arith}
 use Rattle.std.specs.List.{AllByRecursion}
 use Rattle.std.specs.Io.KnownBytes.{append_known}
 use Rattle.h1_error.specs.declared.progress.Progress.{Progress}
@@ -15,10 +15,10 @@ use Rattle.h1_app.specs.Accounted.{Accounted}
 use Rattle.h1_app.specs.View.{entries}
 use Rattle.h1_serving.specs.Served.{EchoedView, IsUnpolled, KeptInCall, AnswersFor}
 use Rattle.h1_serving.specs.declared.serving.TheConstants.{MOST_POLLS}
-use Rattle.h1_serve.specs.declared.listening.TheConstants.{REQUEST_LIMIT}
 use Rattle.h1_serve.specs.declared.status.Status.{Status}
 use Rattle.h1_serve.specs.declared.status.Status.TheVariants as status
-use Rattle.h1_serve.specs.Listening.{listen_line, listen_lines, IsServed, Serves, ServesOne, Accepts, ListenCause, StopCause}
+use Rattle.h1_transcript.specs.Begun.{Terms}
+use Rattle.h1_serve.specs.Listening.{listen_line, listen_lines, listen_terms, IsServed, Serves, ServesOne, Accepts, ListenCause, StopCause}
 
 -- the line of one answer more
 lines_more : (number : ℕ) (answers : List Progress) (one : Progress)
@@ -153,23 +153,23 @@ stopped_cause state count number sink sink' sink'' net net' net'' status.Source 
 -- what one call leaves of a connection that is new over its link
 pub served_of : {L : Type 0} (state : L → LinkState) (same_plan : L → L → Type 0) (first last : ℕ)
     (start : L) (made served : EchoedView L) (answer : Progress)
-    → made.session.link ≡ start → made.limit ≡ Some REQUEST_LIMIT → IsUnpolled made
+    → made.session.link ≡ start → made.terms ≡ listen_terms → IsUnpolled made
     → Accounted state (state start) made.session made.done made.last
     → KeptInCall same_plan first last made served
     → ((before : LinkState) → Accounted state before made.session made.done made.last
-    → Agrees (plain EchoGives) served.limit before (state served.session.link) (entries served))
+    → Agrees (plain EchoGives) served.terms before (state served.session.link) (entries served))
     → ((before : LinkState) → Accounted state before made.session made.done made.last
     → AnswersFor state MOST_POLLS before (state made.session.link) served answer)
     → IsServed state answer
 served_of state same_plan first last start made served answer link limit unpolled accounted kept agrees answers =
     let from = subst (λ l. Accounted state (state l) made.session made.done made.last) (sym link) accounted in
-    let limited : served.limit ≡ Some REQUEST_LIMIT = kept.limit ∙ limit in
+    let limited : served.terms ≡ listen_terms = kept.terms ∙ limit in
     record {
       made = made;
       served = served;
       unpolled = unpolled;
-      limit = limited;
-      agrees = subst (λ (n : Option ℕ). Agrees (plain EchoGives) n (state made.session.link)
+      terms = limited;
+      agrees = subst (λ (n : Terms). Agrees (plain EchoGives) n (state made.session.link)
           (state served.session.link) (entries served)) limited
           (agrees (state made.session.link) from);
       cause = answers (state made.session.link) from;

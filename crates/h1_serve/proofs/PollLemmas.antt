@@ -225,11 +225,11 @@ pub record Polled (begins : EchoJob → Type 0) (moment : ℕ) (old : Scripted) 
   pub later : Later old.connection.session.link.state new.connection.session.link.state
   pub plan : SamePlan old.connection.session.link new.connection.session.link
   pub modules : new.connection.served.builders ≡ old.connection.served.builders
-  pub limit : new.connection.limit ≡ old.connection.limit
+  pub terms : new.connection.terms ≡ old.connection.terms
   pub shut : new.shutdown ≡ old.shutdown
   pub accounted : Accounted link_state new_link new.connection.session new.connection.done
       new.connection.last
-  pub agrees : Agrees (rules (state_of new)) new.connection.limit new_link new.connection.session.link.state
+  pub agrees : Agrees (rules (state_of new)) new.connection.terms new_link new.connection.session.link.state
       (entries new.connection)
   pub extends : Extends moment old.shutdown old.connection.session.link.state
       new.connection.session.link.state (entries old.connection) (entries new.connection)
@@ -271,7 +271,7 @@ polls begins place moment old new answer running polled before behind answered =
     let ends = ends_on place.ended from to running.end_at polled.plan in
     record {
       modules = polled.modules;
-      limit = polled.limit;
+      terms = polled.terms;
       shut = polled.shut;
       later = polled.later;
       agrees = polled.agrees;

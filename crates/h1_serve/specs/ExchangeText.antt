@@ -6,7 +6,7 @@ use Rattle.h1_fields.specs.Lines.{Line}
 use Rattle.h1_head.specs.Views.{RequestView}
 use Rattle.h1_head.specs.Versions.{is_http_10}
 use Rattle.h1_words.specs.Report.{counted_text}
-use Rattle.h1_transcript.specs.declared.transcript.Entry.{Entry}
+use Rattle.h1_transcript.specs.Entry.{Entry}
 
 abbrev pub version_text : Version → List ℕ
 version_text version = if is_http_10 version then codes "HTTP/1.0" else codes "HTTP/1.1"

@@ -7,16 +7,12 @@ use Rattle.h1_error.specs.declared.progress.Progress.TheVariants as progress
 use Rattle.h1_words.specs.Report.{answer_text}
 use Rattle.h1_body.specs.Body.{payload_of}
 use Rattle.h1_transcript.specs.Stream.{Message}
-use Rattle.h1_transcript.specs.declared.transcript.Entry.{Entry}
+use Rattle.h1_transcript.specs.Entries.{bodies}
 use Rattle.h1_app.specs.View.{entries}
 use Rattle.h1_generator.specs.Messages.{messages}
 use Rattle.h1_serving.specs.Whole.{IsServedWhole}
 use Rattle.h1_serving.specs.Served.{EchoedView}
 use Rattle.h1_link.specs.MemState.{MemState}
-
--- the bodies of these exchanges, as they were read
-abbrev pub bodies : List Entry → List ℕ
-bodies exchanges = flat_map (λ e. e.body) exchanges
 
 -- the payloads of these requests
 abbrev pub payloads : List Message → List ℕ

@@ -10,6 +10,8 @@ use Rattle.h1_link.specs.SinkState.{SinkState}
 use Rattle.h1_words.specs.Report.{answer_text}
 use Rattle.h1_transcript.specs.Rules.{plain}
 use Rattle.h1_transcript.specs.Agrees.{Agrees}
+use Rattle.h1_transcript.specs.Begun.{Terms}
+use Rattle.h1_transcript.specs.declared.history.History.TheVariants.{Forgotten}
 use Rattle.h1_echo.specs.Echo.{EchoGives}
 use Rattle.h1_app.specs.View.{entries}
 use Rattle.h1_serving.specs.Served.{EchoedView, IsUnpolled, AnswersFor}
@@ -29,6 +31,10 @@ abbrev pub listen_lines : ℕ → List Progress → List ℕ
 listen_lines number [] = []
 listen_lines number (answer ∷ more) = listen_line number answer ++ listen_lines (number + 1) more
 
+-- so many requests may follow the first, and no exchange is kept
+abbrev pub listen_terms : Terms
+listen_terms = record { limit = Some REQUEST_LIMIT; history = Forgotten }
+
 -- A connection of the echo application over a link, which was not polled before, was served by one
 -- call, and this is its answer, which has its cause. What was read and replied to agrees with what
 -- the link gave and took.
@@ -36,8 +42,8 @@ pub record IsServed {L : Type 0} (state : L → LinkState) (answer : Progress) :
   pub made : EchoedView L
   pub served : EchoedView L
   pub unpolled : IsUnpolled made
-  pub limit : served.limit ≡ Some REQUEST_LIMIT
-  pub agrees : Agrees (plain EchoGives) (Some REQUEST_LIMIT) (state made.session.link)
+  pub terms : served.terms ≡ listen_terms
+  pub agrees : Agrees (plain EchoGives) listen_terms (state made.session.link)
       (state served.session.link) (entries served)
   pub cause : AnswersFor state MOST_POLLS (state made.session.link) (state made.session.link)
       served answer

@@ -64,14 +64,14 @@ AnswersInTime moment s t (progress.Ready reason) =
     EndsInTime moment s.link t.link (work_before s t) t.work t.last reason
 
 -- One poll at a moment, between two states: what was read and written agrees with the transcript
--- and the limit, and goes on from the state before; the link did what the lines before set, and the
--- answer has its cause.
+-- and with what the connection is made with, and goes on from the state before; the link did what
+-- the lines before set, and the answer has its cause.
 pub record Polls (moment : ℕ) (s : State) (answer : Progress) (t : State) : Type 0 where
   pub modules : t.modules ≡ s.modules
-  pub limit : t.limit ≡ s.limit
+  pub terms : t.terms ≡ s.terms
   pub shut : t.shut ≡ s.shut
   pub later : Later s.link t.link
-  pub agrees : Agrees (rules t) t.limit new_link t.link (transcript t)
+  pub agrees : Agrees (rules t) t.terms new_link t.link (transcript t)
   pub extends : Extends moment s.shut s.link t.link (transcript s) (transcript t)
   pub gives : GivesAhead s t
   pub takes : TakesWithin s t

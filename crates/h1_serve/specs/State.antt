@@ -7,7 +7,9 @@ use Rattle.h1_link.specs.MemPlan.{faults_due}
 use Rattle.h1_link.specs.MemState.{MemState, new_mem_state}
 use Rattle.h1_link.specs.declared.memory.gate.Gate.{Gate}
 use Rattle.h1_link.specs.declared.memory.gate.Gate.TheVariants.{Open}
-use Rattle.h1_transcript.specs.declared.transcript.Entry.{Entry}
+use Rattle.h1_transcript.specs.Begun.{Terms}
+use Rattle.h1_transcript.specs.Entry.{Entry}
+use Rattle.h1_transcript.specs.declared.history.History.TheVariants.{Kept}
 use Rattle.h1_echo.specs.declared.echo.EchoApp.{EchoApp}
 use Rattle.h1_echo.specs.declared.echo.EchoJob.{EchoJob}
 use Rattle.h1_marking.specs.Marking.{marking_rules}
@@ -39,8 +41,8 @@ pub record State : Type 0 where
   pub work : Work
   -- the modules of the server, in the order in which they were added
   pub modules : List MarkingBuilder
-  -- how many requests more than the first may be served, and whether the server shuts down
-  pub limit : Option ℕ
+  -- what the connection is made with, and whether the server shuts down
+  pub terms : Terms
   pub shut : Bool
   -- why the connection ended
   pub end : Option End
@@ -63,7 +65,7 @@ start_with limit modules = record {
   flush_waits = 0;
   work = reads_head None;
   modules = modules;
-  limit = limit;
+  terms = record { limit = limit; history = Kept };
   shut = false;
   end = None;
 }
@@ -108,7 +110,7 @@ state_of scripted = record {
   flush_waits = scripted.connection.session.link.flush_waits;
   work = work_of scripted.connection;
   modules = scripted.connection.served.builders;
-  limit = scripted.connection.limit;
+  terms = scripted.connection.terms;
   shut = scripted.shutdown;
   end = scripted.connection.end;
 }

@@ -1,23 +1,26 @@
 //! The lines of a report that tell what was read and written.
-ghost use Rattle.std.specs.Prelude.{◌≡◌, ◌++◌, OnOk, IfOk, Some};
+ghost use Rattle.std.specs.Prelude.{◌≡◌, ◌++◌, OnOk, IfOk};
+ghost use Rattle.std.specs.List.{All};
 ghost use Rattle.h1_transcript.specs.Entries.{transcript_entries};
+ghost use Rattle.h1_transcript.specs.declared.history.History.TheVariants.{Kept};
 ghost use Rattle.h1_serve.specs.ExchangeText.{version_text, request_line, field_line, field_lines, body_line, exchange_lines, exchanges_lines, wrote_line};
 
 use h1_app::{Entry, Transcript};
-use h1_error::{Error, ErrorType};
+use h1_error::Error;
 use h1_fields::Fields;
 use h1_head::RequestHeader;
 use h1_words::Text;
 use http::Version;
 use std::alloc::Global;
 
-/// All exchanges of a connection. One that forgot some has no memory of them.
-pub(crate) fn all_exchanges(transcript: &Transcript) -> Result<&[Entry], Error>
-    ensures { IfOk result (λ exchanges. exchanges.now ≡ transcript_entries transcript.now) }
+/// All exchanges of a connection that keeps them.
+pub(crate) fn all_exchanges(transcript: &Transcript) -> &[Entry]
+    requires { transcript.now.history ≡ Kept }
+    ensures { result.now ≡ transcript_entries transcript.now }
 {
     match transcript.all() {
-        Some(exchanges) => Ok(exchanges),
-        None => Err(Error::from(ErrorType::NoMemory)),
+        Some(exchanges) => exchanges,
+        None => unreachable!(),
     }
 }
 
@@ -27,6 +30,7 @@ pub(crate) fn push_exchanges(
     exchanges: &[Entry],
     text: &mut Text,
 ) -> Result<(), Error>
+    requires { All (λ e. e.history ≡ Kept) exchanges.now }
     ensures { OnOk result (text.new ≡ text.old ++ exchanges_lines exchanges.now) }
 {
     for entry in exchanges {
@@ -55,12 +59,16 @@ fn wrote_line(alloc: Global, written: &[u8]) -> Result<Text, Error>
 }
 
 fn exchange_lines(alloc: Global, entry: &Entry) -> Result<Text, Error>
+    requires { entry.now.history ≡ Kept }
     ensures { IfOk result (λ text. text ≡ exchange_lines entry.now) }
 {
-    let mut text = request_line(alloc, &entry.head)?;
-    let fields = field_lines(alloc, entry.head.fields())?;
+    let Some(head) = entry.head() else {
+        unreachable!()
+    };
+    let mut text = request_line(alloc, head)?;
+    let fields = field_lines(alloc, head.fields())?;
     text.push(fields.as_slice())?;
-    let body = body_line(alloc, entry.body.as_slice())?;
+    let body = body_line(alloc, entry.body())?;
     text.push(body.as_slice())?;
     Ok(text)
 }

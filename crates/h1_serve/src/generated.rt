@@ -1,11 +1,10 @@
 //! The text of `gen N`: requests that are made and served, told in numbers.
 ghost use Rattle.std.specs.Prelude.{◌≡◌, ◌<◌, ◌≤◌, ◌++◌, ◌^◌, codes, length, IfOk, OnOk, Some};
 ghost use Rattle.h1_error.specs.declared.progress.End.TheVariants as end;
+ghost use Rattle.h1_transcript.specs.Entries.{bodies};
 ghost use Rattle.h1_app.specs.View.{entries};
-ghost use Rattle.h1_serve.specs.Generated.{bodies, count_line, TellsServed, IsGenText};
+ghost use Rattle.h1_serve.specs.Generated.{count_line, TellsServed, IsGenText};
 
-use crate::exchange::all_exchanges;
-use h1_app::Entry;
 use h1_error::{Error, Progress};
 use h1_link::MemLink;
 use h1_serving::{Echoed, serve_gen};
@@ -24,16 +23,17 @@ pub(crate) fn gen_text(alloc: Global, count: u32) -> Result<Text, Error>
 /// The four lines that tell of a connection that finished.
 fn served_text(alloc: Global, connection: &Echoed<MemLink>) -> Result<Text, Error>
     requires end { connection.now.end ≡ Some end.Finished }
+    requires few { length (entries connection.now) < 2 ^ 64 }
     requires small { length (bodies (entries connection.now)) < 2 ^ 64 }
     ensures { IfOk result (TellsServed connection.now) }
 {
     let Some(end) = connection.end() else {
         unreachable!()
     };
-    let exchanges = all_exchanges(connection.transcript())?;
+    let transcript = connection.transcript();
     let mut text = Text::new(alloc);
-    push_count(alloc, b"requests ", exchanges.len() as u64, &mut text)?;
-    push_count(alloc, b"body bytes ", body_bytes(exchanges), &mut text)?;
+    push_count(alloc, b"requests ", transcript.len() as u64, &mut text)?;
+    push_count(alloc, b"body bytes ", transcript.payload_len(), &mut text)?;
     push_count(
         alloc,
         b"written ",
@@ -43,18 +43,6 @@ fn served_text(alloc: Global, connection: &Echoed<MemLink>) -> Result<Text, Erro
     text.push_answer(alloc, Progress::Ready(end))?;
     text.push(b"\n")?;
     Ok(text)
-}
-
-/// How many bytes the bodies of the exchanges have.
-fn body_bytes(exchanges: &[Entry]) -> u64
-    requires { length (bodies exchanges.now) < 2 ^ 64 }
-    ensures { result ≡ length (bodies exchanges.now) }
-{
-    let mut count = 0u64;
-    for exchange in exchanges {
-        count += exchange.body.as_slice().len() as u64;
-    }
-    count
 }
 
 /// Adds a line with a number.

@@ -5,7 +5,7 @@ ghost use Rattle.h1_serve.specs.Listening.{listen_line, IsServed, IsServedLine, 
 use crate::output::{Written, write_whole};
 use crate::scripted::options_of;
 use crate::status::Status;
-use h1_app::{Connection, EchoApp, HttpServer};
+use h1_app::{Connection, EchoApp, History, HttpServer};
 use h1_error::{Error, Progress};
 use h1_link::{Acceptor, Clock, Link, Sink};
 use h1_serving::{Echoed, serve_link};
@@ -94,10 +94,10 @@ fn serve_peer<L: Link + Drop, T: Clock>(
     ensures clock { T.moment clock.old ≤ T.moment clock.new }
 {
     let mut server = HttpServer::new_app(alloc, EchoApp);
-    server.server_options = options_of(Some(REQUEST_LIMIT));
+    server.server_options = options_of(Some(REQUEST_LIMIT), History::Forgotten);
     let server = Arc::new(alloc, server)?;
     let mut connection: Echoed<L> = Connection::new(alloc, server, link)?;
-    let answer = serve_link(&mut connection, clock, true);
+    let answer = serve_link(&mut connection, clock);
     // A connection may end without a flush, as behind a reply that is shorter than stated. The line
     // tells why it ended, whatever comes of this one.
     let mut served = connection.into_link();

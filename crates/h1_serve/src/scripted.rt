@@ -3,7 +3,8 @@ ghost use Rattle.std.specs.Prelude.{◌≡◌, ◌≤◌, ◌<◌, ◌^◌, leng
 ghost use Rattle.h1_words.specs.declared.command.Command.TheVariants as command;
 ghost use Rattle.h1_words.specs.declared.place.Place.{Place};
 ghost use Rattle.h1_words.specs.Script.{place_after};
-ghost use Rattle.h1_app.specs.View.{limit_of};
+ghost use Rattle.h1_transcript.specs.declared.history.History.TheVariants.{Kept};
+ghost use Rattle.h1_app.specs.View.{history_of, limit_of, terms_of};
 ghost use Rattle.h1_serve.specs.State.{state_of, start_with};
 ghost use Rattle.h1_serve.specs.PollLine.{IsAnswered, poll_line};
 ghost use Rattle.h1_serve.specs.Report.{IsTextOf, limit_in, marking_of, modules_in};
@@ -12,7 +13,7 @@ ghost use Rattle.h1_serve.specs.Done.{ObeysOnce};
 
 use crate::exchange::{all_exchanges, push_exchanges, push_written};
 use crate::link_lines::{give, plan_read_fault, plan_write_fault, say_end, set_block, set_room};
-use h1_app::{Connection, EchoApp, HttpServer, HttpServerOptions};
+use h1_app::{Connection, EchoApp, History, HttpServer, HttpServerOptions};
 use h1_error::{End, Error, ErrorType, Progress};
 use h1_link::MemLink;
 use h1_marking::{Marking, MarkingBuilder};
@@ -51,7 +52,7 @@ fn play(alloc: Global, scripted: &mut Scripted, commands: &[Command]) -> Result<
     for command in commands {
         obey(alloc, scripted, command, &mut text)?;
     }
-    let exchanges = all_exchanges(scripted.connection.transcript())?;
+    let exchanges = all_exchanges(scripted.connection.transcript());
     push_exchanges(alloc, exchanges, &mut text)?;
     push_written(alloc, scripted.connection.link().written(), &mut text)?;
     Ok(text)
@@ -70,6 +71,7 @@ fn limit_in(commands: &[Command]) -> Option<u32>
 }
 
 fn connect(alloc: Global, server: HttpServer<EchoApp, MarkingBuilder>) -> Result<Scripted, Error>
+    requires { history_of server.server_options ≡ Kept }
     ensures state { IfOk result (λ made. state_of made
         ≡ start_with (limit_of server.server_options) server.modules) }
     ensures running { IfOk result (λ made. IsRunning first_place made.connection) }
@@ -89,10 +91,11 @@ fn server_for(
 ) -> Result<HttpServer<EchoApp, MarkingBuilder>, Error>
     requires { length commands.now < 2 ^ 32 }
     ensures limit { IfOk result (λ server. limit_of server.server_options ≡ limit_in commands.now) }
+    ensures history { IfOk result (λ server. history_of server.server_options ≡ Kept) }
     ensures modules { IfOk result (λ server. server.modules ≡ modules_in commands.now) }
 {
     let mut server = HttpServer::new_app(alloc, EchoApp);
-    server.server_options = options_of(limit_in(commands));
+    server.server_options = options_of(limit_in(commands), History::Kept);
     let mut key = 0;
     for command in commands {
         if let Some(marking) = marking_of(command) {
@@ -115,12 +118,13 @@ fn marking_of(command: &Command) -> Option<Marking>
 }
 
 /// What is set on a server with this request limit, if there is one.
-pub(crate) fn options_of(limit: Option<u32>) -> Option<HttpServerOptions>
-    ensures { limit_of result ≡ limit }
+pub(crate) fn options_of(limit: Option<u32>, history: History) -> Option<HttpServerOptions>
+    ensures { terms_of result ≡ record { limit = limit; history = history } }
 {
-    limit.map(|limit| HttpServerOptions {
-        keepalive_request_limit: Some(limit),
+    Some(HttpServerOptions {
+        keepalive_request_limit: limit,
         allow_connect_method_proxying: false,
+        history,
     })
 }
 

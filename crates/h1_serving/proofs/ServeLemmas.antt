@@ -14,7 +14,7 @@ use Rattle.h1_link.specs.LinkState.{LinkState}
 use Rattle.h1_link.proofs.Laters.{later_itself, rose_read_faults, rose_read_waits}
 use Rattle.h1_head.specs.Views.{ResponseView}
 use Rattle.h1_transcript.specs.Rules.{ArePlain, Filters, Rules, plain}
-use Rattle.h1_transcript.specs.declared.transcript.Entry.{Entry}
+use Rattle.h1_transcript.specs.Entry.{Entry}
 use Rattle.h1_transcript.specs.Agrees.{Agrees}
 use Rattle.h1_transcript.specs.Ends.{EndCause, FailureCause, StopsLast}
 use Rattle.h1_transcript.specs.Growth.{Stays, DatedAt, RoseFor, RefusedIn, Grows, IsBegun, Extends}
@@ -181,14 +181,14 @@ ends_in_call before a b c done last (end.Failed error) later h =
 pub record IsPoll {L C A J : Type 0} (state : L → LinkState) (same_plan : L → L → Type 0)
     (begins : J → Type 0) (now : ℕ)
     (from to : View L C A J) (answer : Progress) : Type 0 where
-  pub app : (to.served ≡ from.served) × (to.limit ≡ from.limit)
+  pub app : (to.served ≡ from.served) × (to.terms ≡ from.terms)
   pub later : Later (state from.session.link) (state to.session.link)
   pub leaves : PollLeaves state from to answer
   pub plan : same_plan from.session.link to.session.link
   pub accounted : (before : LinkState) → Accounted state before from.session from.done from.last
       → Accounted state before to.session to.done to.last
   pub agrees : (before : LinkState) → Accounted state before from.session from.done from.last
-      → Agrees (plain EchoGives) to.limit before (state to.session.link) (entries to)
+      → Agrees (plain EchoGives) to.terms before (state to.session.link) (entries to)
   pub extends : Extends now false (state from.session.link) (state to.session.link) (entries from)
       (entries to)
   pub cause : IfNone from.end ((before : LinkState)
@@ -203,13 +203,13 @@ if_none (Some reason) f p = tt
 -- one poll at the moment that the clock told, of a connection whose modules change nothing
 pub poll_of : {L C A J : Type 0} {state : L → LinkState} {same_plan : L → L → Type 0}
     {begins : J → Type 0} {told now : ℕ} {from to : View L C A J} {answer : Progress}
-    (filters : Filters) → ArePlain filters → told ≡ now → (to.served ≡ from.served) × (to.limit ≡ from.limit)
+    (filters : Filters) → ArePlain filters → told ≡ now → (to.served ≡ from.served) × (to.terms ≡ from.terms)
     → Later (state from.session.link) (state to.session.link)
     → PollLeaves state from to answer → same_plan from.session.link to.session.link
     → ((before : LinkState) → Accounted state before from.session from.done from.last
     → Accounted state before to.session to.done to.last)
     → ((before : LinkState) → Accounted state before from.session from.done from.last
-    → Agrees (record { gives = EchoGives; filters = filters }) to.limit before (state to.session.link)
+    → Agrees (record { gives = EchoGives; filters = filters }) to.terms before (state to.session.link)
     (entries to))
     → Extends told false (state from.session.link) (state to.session.link) (entries from)
     (entries to)
@@ -227,7 +227,7 @@ poll_of {state = state} {begins = begins} {from = from} {to = to} {answer = answ
       leaves = leaves;
       plan = plan;
       accounted = accounted;
-      agrees = λ before h. plain_agrees rules none to.limit before (state to.session.link) (entries to)
+      agrees = λ before h. plain_agrees rules none to.terms before (state to.session.link) (entries to)
           (agrees before h);
       extends = subst (λ now. Extends now false (state from.session.link) (state to.session.link)
           (entries from) (entries to)) at extends;
@@ -267,7 +267,7 @@ pub record IsCall {L C A J : Type 0} (state : L → LinkState) (same_plan : L �
   pub accounted : (before : LinkState) → Accounted state before from.session from.done from.last
       → Accounted state before to.session to.done to.last
   pub agrees : (before : LinkState) → Accounted state before from.session from.done from.last
-      → Agrees (plain EchoGives) to.limit before (state to.session.link) (entries to)
+      → Agrees (plain EchoGives) to.terms before (state to.session.link) (entries to)
   pub served : AllByRecursion
       (BeganInCall first now (state from.session.link) (state to.session.link))
       (entries to)
@@ -292,7 +292,7 @@ pub serving_none : {L C A J : Type 0} (state : L → LinkState) (same_plan : L �
     → same_plan from.session.link from.session.link → IsUnpolled from
     → IsServing state same_plan 0 first first from from
 serving_none state same_plan first from plan new = record {
-  kept = record { served = refl; limit = refl; plan = plan; clock = omega arith };
+  kept = record { served = refl; terms = refl; plan = plan; clock = omega arith };
   leaves = subst (LeavesInCall 0 (state from.session.link) (state from.session.link) (entries from))
       (sym new.end) (leaves_none (state from.session.link) (entries from));
   accounted = λ before h. h;
@@ -313,7 +313,7 @@ kept_on : {L C A J : Type 0} {state : L → LinkState} {same_plan : L → L → 
     → IsPoll state same_plan begins now at to answer → KeptInCall same_plan first now from to
 kept_on {from = from} {at = at} {to = to} plan_on high s p = record {
   served = p.app.0 ∙ s.kept.served;
-  limit = p.app.1 ∙ s.kept.limit;
+  terms = p.app.1 ∙ s.kept.terms;
   plan = plan_on from.session.link at.session.link to.session.link s.kept.plan p.plan;
   clock = omega (arith, s.kept.clock, high);
 }

@@ -1,13 +1,13 @@
 -- Since when the work of a connection waits that is served by one call: since moments of the call.
-use Rattle.std.proofs.Common.{◌≡◌, ℕ, ◌≤◌, ◌⊎◌, inl, inr, Bool, true, false, ◌==◌, Option, Some, None, IfSome, length, refl, sym, subst, arith, if◌then◌else◌}
+use Rattle.std.proofs.Common.{ℕ, ◌≤◌, ◌⊎◌, inl, inr, Bool, true, false, ◌==◌, Option, Some, None, IfSome, length, sym, subst, if◌then◌else◌}
 use Rattle.h1_link.specs.LinkState.{LinkState}
 use Rattle.h1_error.specs.declared.progress.Waiting.{Waiting}
 use Rattle.h1_error.specs.declared.progress.Progress.TheVariants as progress
 use Rattle.h1_transfer.specs.Deadline.{Wait, start_of, left_of}
 use Rattle.h1_transfer.specs.declared.since.Since.{Since}
 use Rattle.h1_server.specs.Times.{drain_limits}
-use Rattle.h1_transfer.specs.ReadWaits.{no_wait, rest_since, rest_wait, total_wait}
-use Rattle.h1_app.specs.Timely.{IsTimely, WaitsInTime, head_wait, noted_of, wait_at, work_before}
+use Rattle.h1_transfer.specs.ReadWaits.{rest_since, rest_wait, total_wait}
+use Rattle.h1_app.specs.Timely.{IsTimely, head_wait, noted_of, wait_at, work_before}
 use Rattle.h1_app.specs.View.{View, work_of}
 use Rattle.h1_app.specs.Work.{Work, reads_head, drains, writes_piece, untimed, work_on, head_since, drain_since, piece_since}
 use Rattle.h1_serving.specs.Served.{WaitsFrom}

@@ -13,7 +13,7 @@ use Rattle.h1_error.specs.declared.progress.Waiting.TheVariants as waiting
 use Rattle.h1_link.specs.Later.{Later}
 use Rattle.h1_link.specs.LinkState.{LinkState}
 use Rattle.h1_link.proofs.Laters.{later_itself, later_on}
-use Rattle.h1_transcript.specs.declared.transcript.Entry.{Entry}
+use Rattle.h1_transcript.specs.Entry.{Entry}
 use Rattle.h1_transcript.specs.Entries.{replies}
 use Rattle.h1_transcript.specs.Growth.{Extends}
 use Rattle.h1_transcript.specs.Told.{ToldGrowth}

@@ -17,8 +17,9 @@ use Rattle.h1_link.specs.MemState.{MemState, new_mem_state}
 use Rattle.h1_link.specs.declared.memory.gate.Gate.{Gate}
 use Rattle.h1_link.specs.declared.memory.gate.Gate.TheVariants.{Open, Room, Blocked}
 use Rattle.h1_transcript.specs.Rules.{plain}
-use Rattle.h1_transcript.specs.declared.transcript.Entry.{Entry}
+use Rattle.h1_transcript.specs.Entry.{Entry}
 use Rattle.h1_transcript.specs.Agrees.{Agrees}
+use Rattle.h1_transcript.specs.declared.history.History.TheVariants.{Forgotten}
 use Rattle.h1_transcript.specs.Complete.{GaveOf, AreServed}
 use Rattle.h1_transcript.specs.Growth.{RefusedIn}
 use Rattle.h1_transcript.specs.Stream.{Message}
@@ -27,7 +28,7 @@ use Rattle.h1_transcript.proofs.BehindLemmas.{read_map}
 use Rattle.h1_echo.specs.Echo.{EchoGives}
 use Rattle.h1_app.specs.Accounted.{Accounted, ReadSo}
 use Rattle.h1_app.specs.Leaves.{ShutBy}
-use Rattle.h1_app.specs.View.{Served, View, entries, IsNewConnection, limit_of}
+use Rattle.h1_app.specs.View.{Served, View, entries, IsNewConnection, terms_of}
 use Rattle.h1_app.specs.declared.options.HttpServerOptions.{HttpServerOptions}
 use Rattle.h1_echo.specs.declared.echo.EchoApp.{EchoApp}
 use Rattle.h1_modules.specs.declared.no_modules.NoModules.{NoModules}
@@ -39,7 +40,7 @@ use Rattle.h1_generator.proofs.EndLemmas.{Over, ends_served}
 use Rattle.h1_generator.proofs.LengthLemmas.{never_spent}
 use Rattle.h1_generator.proofs.ValidLemmas.{many}
 use Rattle.h1_serving.specs.Served.{EchoedView, BeganInCall, Waited, AnswersFor}
-use Rattle.h1_serving.specs.Whole.{failure_of, IsFed, IsReady, IsServedWhole}
+use Rattle.h1_serving.specs.Whole.{failure_of, IsFed, IsReady, IsServedWhole, gen_terms}
 use Rattle.h1_serving.specs.declared.serving.TheConstants.{MOST_POLLS}
 
 -- what every link has, of a link in memory
@@ -154,7 +155,7 @@ pub record IsCalled {C A J : Type 0} (count first last : ℕ) (view : View MemSt
   pub fed : IsFed (generated count) view.session.link
   pub rule : Rule view.session.link
   pub accounted : Accounted link_state new_mem_state.state view.session view.done view.last
-  pub agrees : Agrees (plain EchoGives) None new_mem_state.state view.session.link.state (entries view)
+  pub agrees : Agrees (plain EchoGives) gen_terms new_mem_state.state view.session.link.state (entries view)
   pub served : AllByRecursion (BeganInCall first last new_mem_state.state view.session.link.state)
       (entries view)
   pub answers : AnswersFor link_state MOST_POLLS new_mem_state.state new_mem_state.state view answer
@@ -176,6 +177,7 @@ over count first last view answer c =
         reads = λ rose. omega (arith, rose, never.reads);
         writes = λ rose. omega (arith, rose, never.writes);
       };
+      history = Forgotten;
       agrees = c.agrees;
       kept = all_kept first last view.session.link.state (entries view) never.read_faults never.reads c.served;
       behind = read_map view.done new_mem_state.state.given view.session.link.state.given
@@ -275,14 +277,14 @@ pub record IsCall (count first last : ℕ) (from to : EchoedView MemState)
   pub few : count ≤ MOST_GENERATED
   pub ready : IsReady count from
   pub rule : Rule to.session.link
-  pub limit : to.limit ≡ from.limit
+  pub terms : to.terms ≡ from.terms
   pub plan : SamePlan from.session.link to.session.link
   pub shut : ShutBy from.session.link.state.shut to.session.link.state.shut to.end
   pub accounted : (before : LinkState)
       → Accounted link_state before from.session from.done from.last
       → Accounted link_state before to.session to.done to.last
   pub agrees : (before : LinkState) → Accounted link_state before from.session from.done from.last
-      → Agrees (plain EchoGives) to.limit before to.session.link.state (entries to)
+      → Agrees (plain EchoGives) to.terms before to.session.link.state (entries to)
   pub served : AllByRecursion (BeganInCall first last from.session.link.state to.session.link.state)
       (entries to)
   pub answers : (before : LinkState) → Accounted link_state before from.session from.done from.last
@@ -297,7 +299,7 @@ called count first last from to answer c = record {
   rule = c.rule;
   accounted = c.accounted new_mem_state.state c.ready.accounted;
   agrees = subst (λ l. Agrees (plain EchoGives) l new_mem_state.state to.session.link.state (entries to))
-      (c.limit ∙ c.ready.limit) (c.agrees new_mem_state.state c.ready.accounted);
+      (c.terms ∙ c.ready.terms) (c.agrees new_mem_state.state c.ready.accounted);
   served = subst
       (λ s. AllByRecursion (BeganInCall first last s to.session.link.state) (entries to))
       c.ready.state c.served;
@@ -321,7 +323,7 @@ if_err (Err e) P Q goes h = goes e h
 -- before the first poll
 pub ready_of : (count : ℕ) (server : Served EchoApp NoModules) (options : Option HttpServerOptions)
     (link : MemState) (made : EchoedView MemState)
-    → options ≡ None
+    → terms_of options ≡ gen_terms
     → link ≡ record new_mem_state {
       put = generated count;
       end_at = Some (length (generated count));
@@ -335,7 +337,7 @@ ready_of count server options link made plain is new accounted =
     } = new.link ∙ is in
     record {
       unpolled = record { done = new.done; last = new.last; work = new.work; end = new.end };
-      limit = new.limit ∙ ap limit_of plain;
+      terms = new.terms ∙ plain;
       fed = rw linked
           (record {
             put = refl;

@@ -8,7 +8,7 @@ use Rattle.h1_error.specs.declared.progress.Progress.TheVariants as progress
 use Rattle.h1_link.specs.Counts.{Rose, RoseBy}
 use Rattle.h1_link.specs.Later.{Later}
 use Rattle.h1_link.specs.LinkState.{LinkState}
-use Rattle.h1_transcript.specs.declared.transcript.Entry.{Entry}
+use Rattle.h1_transcript.specs.Entry.{Entry}
 use Rattle.h1_transcript.specs.Ends.{EndCause, LacksSo, OfLast}
 use Rattle.h1_transcript.specs.Entries.{replies}
 use Rattle.h1_transcript.specs.Growth.{RefusedIn}
@@ -33,11 +33,11 @@ pub record IsUnpolled {L C A J : Type 0} (view : View L C A J) : Type 0 where
   pub work : work_of view ≡ reads_head None
   pub end : view.end ≡ None
 
--- what is served, its limit and the link's plan stay, and the clock doesn't go back
+-- what is served, what it was made with and the link's plan stay, and the clock doesn't go back
 pub record KeptInCall {L C A J : Type 0} (same_plan : L → L → Type 0) (first last : ℕ)
     (from to : View L C A J) : Type 0 where
   pub served : to.served ≡ from.served
-  pub limit : to.limit ≡ from.limit
+  pub terms : to.terms ≡ from.terms
   pub plan : same_plan from.session.link to.session.link
   pub clock : first ≤ last
 

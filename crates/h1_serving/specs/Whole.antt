@@ -9,6 +9,8 @@ use Rattle.h1_link.specs.declared.memory.gate.Gate.TheVariants.{Open}
 use Rattle.h1_link.specs.MemState.{MemState, new_mem_state}
 use Rattle.h1_transcript.specs.Rules.{plain}
 use Rattle.h1_transcript.specs.Agrees.{Agrees}
+use Rattle.h1_transcript.specs.Begun.{Terms}
+use Rattle.h1_transcript.specs.declared.history.History.TheVariants.{Forgotten}
 use Rattle.h1_transcript.specs.Complete.{AreServed}
 use Rattle.h1_transcript.specs.Ends.{AreAllDone}
 use Rattle.h1_echo.specs.Echo.{EchoGives}
@@ -36,10 +38,14 @@ pub record IsFed (bytes : List ℕ) (link : MemState) : Type 0 where
   pub read_faults : faults_due link.read_fault link.state.read_faults ≡ 0
   pub write_faults : faults_due link.write_fault link.state.write_faults ≡ 0
 
+-- as many requests as come, and no exchange is kept
+abbrev pub gen_terms : Terms
+gen_terms = record { limit = None; history = Forgotten }
+
 -- a connection before its first poll, over a link that these requests are ahead on
 pub record IsReady {C A J : Type 0} (count : ℕ) (made : View MemState C A J) : Type 0 where
   pub unpolled : IsUnpolled made
-  pub limit : made.limit ≡ None
+  pub terms : made.terms ≡ gen_terms
   pub fed : IsFed (generated count) made.session.link
   pub state : made.session.link.state ≡ new_mem_state.state
   pub accounted : Accounted
@@ -56,4 +62,5 @@ pub record IsServedWhole {C A J : Type 0} (count : ℕ) (served : View MemState 
   pub many : length (entries served) ≡ count
   pub served_all : AreServed served.done (messages count)
   pub complete : AreAllDone new_mem_state.state served.session.link.state served.done served.last
-  pub agrees : Agrees (plain EchoGives) None new_mem_state.state served.session.link.state (entries served)
+  pub agrees : Agrees (plain EchoGives) gen_terms new_mem_state.state served.session.link.state
+      (entries served)

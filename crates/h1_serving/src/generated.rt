@@ -4,7 +4,7 @@ ghost use Rattle.h1_error.specs.declared.error.ErrorType.TheVariants.{NoMemory};
 ghost use Rattle.h1_serving.specs.Whole.{failure_of, IsReady, IsServedWhole};
 
 use crate::serving::{Echoed, serve_link};
-use h1_app::{Connection, EchoApp, HttpServer};
+use h1_app::{Connection, EchoApp, History, HttpServer, HttpServerOptions};
 use h1_error::{End, Error, Progress};
 use h1_generator::generate;
 use h1_link::{MemLink, SetClock};
@@ -21,8 +21,7 @@ pub fn serve_gen(alloc: Global, count: u32) -> Result<Echoed<MemLink>, Error>
 {
     let mut connection = connect(alloc, count)?;
     let mut clock = SetClock::new(0);
-    // The caller is handed the connection to read what it served.
-    let answer = serve_link(&mut connection, &mut clock, false);
+    let answer = serve_link(&mut connection, &mut clock);
     connection.link().rule();
     handed_back(connection, answer)
 }
@@ -37,7 +36,13 @@ fn connect(alloc: Global, count: u32) -> Result<Echoed<MemLink>, Error>
     let mut link = MemLink::new(alloc);
     link.give(bytes.as_slice())?;
     link.end();
-    let server = Arc::new(alloc, HttpServer::new_app(alloc, EchoApp))?;
+    let mut server = HttpServer::new_app(alloc, EchoApp);
+    server.server_options = Some(HttpServerOptions {
+        keepalive_request_limit: None,
+        allow_connect_method_proxying: false,
+        history: History::Forgotten,
+    });
+    let server = Arc::new(alloc, server)?;
     Connection::new(alloc, server, link)
 }
 

@@ -1,5 +1,4 @@
 //! A connection that is served by one call.
-ghost use Rattle.std.specs.Prelude.{◌≡◌};
 ghost use Rattle.std.specs.List.{AllByRecursion};
 ghost use Rattle.h1_link.specs.LinkState.{LinkState};
 ghost use Rattle.h1_transcript.specs.Agrees.{Agrees};
@@ -20,13 +19,8 @@ pub const MOST_POLLS: u32 = 1_000_000;
 pub type Echoed<L> = Connection<L, EchoApp, NoModules, ()>;
 
 /// Polls a connection at the clock's moments until it ends, at most [`MOST_POLLS`] times, and
-/// answers what the last poll answered. With `forgets` the memory of the exchanges that ended is
-/// given back behind each poll that waits.
-pub fn serve_link<L: Link + Drop, T: Clock>(
-    connection: &mut Echoed<L>,
-    clock: &mut T,
-    forgets: bool,
-) -> Progress
+/// answers what the last poll answered.
+pub fn serve_link<L: Link + Drop, T: Clock>(connection: &mut Echoed<L>, clock: &mut T) -> Progress
     requires { IsUnpolled connection.old }
     ensures kept { KeptInCall L.same_plan (T.moment clock.old) (T.moment clock.new) connection.old
         connection.new }
@@ -38,7 +32,7 @@ pub fn serve_link<L: Link + Drop, T: Clock>(
         connection.new.last }
     ensures agrees { (before : LinkState)
         → Accounted L.state before connection.old.session connection.old.done connection.old.last
-        → Agrees (plain EchoGives) connection.new.limit before (L.state connection.new.session.link)
+        → Agrees (plain EchoGives) connection.new.terms before (L.state connection.new.session.link)
         (entries connection.new) }
     ensures served { AllByRecursion (BeganInCall (T.moment clock.old) (T.moment clock.new)
         (L.state connection.old.session.link) (L.state connection.new.session.link))
@@ -58,17 +52,7 @@ pub fn serve_link<L: Link + Drop, T: Clock>(
         if let Progress::Ready(_) = answer {
             return answer;
         }
-        settle(connection, forgets);
     }
     let now = clock.now();
     connection.poll(now, false)
-}
-
-/// Gives back the memory of the exchanges that ended, where `forgets` asks for it.
-fn settle<L: Link + Drop>(connection: &mut Echoed<L>, forgets: bool)
-    ensures { connection.new ≡ connection.old }
-{
-    if forgets {
-        connection.forget_ended();
-    }
 }

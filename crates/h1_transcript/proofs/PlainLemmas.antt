@@ -8,6 +8,7 @@ use Rattle.h1_transcript.specs.Lawful.{IsLawful}
 use Rattle.h1_transcript.specs.Rules.{ArePlain, Rules, plain}
 use Rattle.h1_transcript.specs.Refusals.{IsRefusedBy, IsReplyRefusedBy, RefusesLast, EndsBy}
 use Rattle.h1_transcript.specs.Ends.{EndCause}
+use Rattle.h1_transcript.specs.Begun.{Terms}
 use Rattle.h1_transcript.specs.Agrees.{Agrees}
 use Rattle.h1_transcript.specs.Exchange.{IsAllowed, IsDated, given_to}
 
@@ -134,10 +135,10 @@ module _ (rules : Rules) (none : ArePlain rules.filters) where
   all_allowed [] h = tt
   all_allowed (e ∷ more) h = (allowed_plain e h.0, all_allowed more h.1)
 
-  pub plain_agrees : (limit : Option ℕ) (before now : LinkState) (transcript : List Entry)
-      → Agrees rules limit before now transcript
-      → Agrees (plain rules.gives) limit before now transcript
-  plain_agrees limit before now transcript a = record {
+  pub plain_agrees : (terms : Terms) (before now : LinkState) (transcript : List Entry)
+      → Agrees rules terms before now transcript
+      → Agrees (plain rules.gives) terms before now transcript
+  plain_agrees terms before now transcript a = record {
     read = a.read;
     allowed = all_allowed transcript a.allowed;
     begun = a.begun;

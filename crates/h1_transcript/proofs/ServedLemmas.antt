@@ -10,7 +10,7 @@ use Rattle.h1_transcript.proofs.Words.{AreOf, AfterRead, LastStands, AreServed, 
 use Rattle.h1_transcript.specs.Agrees.{Agrees}
 use Rattle.h1_transcript.specs.Rules.{Rules}
 use Rattle.h1_transcript.specs.Lawful.{IsLawful}
-use Rattle.h1_transcript.specs.Begun.{AreBegun, reuses_at}
+use Rattle.h1_transcript.specs.Begun.{AreBegun, Terms, reuses_at}
 use Rattle.h1_transcript.specs.Ends.{EndCause, FailureCause, AreAllDone, StopsLast, OfLast, LastAfter, ReadAll}
 use Rattle.h1_transcript.specs.Complete.{IsValid, GaveOf, AreWithin, NoFault, IsInTime, KeepsOn, ServesAll}
 use Rattle.h1_transcript.specs.Exchange.{IsAllowed, IsDated, may_keep}
@@ -23,15 +23,15 @@ all_last P [] e h = h.0
 all_last P (d ∷ later) e h = all_last P later e h.1
 
 -- so many requests are left after the last exchange
-pub begun_last : (limit : Option ℕ) (i : ℕ) (pipelining : Bool) (done : List Entry) (e : Entry)
-    → AreBegun limit i pipelining (done ++ e ∷ [])
-    → e.began.reuses ≡ reuses_at limit (i + length done)
-begun_last limit i pipelining [] e h =
+pub begun_last : (terms : Terms) (i : ℕ) (pipelining : Bool) (done : List Entry) (e : Entry)
+    → AreBegun terms i pipelining (done ++ e ∷ [])
+    → e.began.reuses ≡ reuses_at terms.limit (i + length done)
+begun_last terms i pipelining [] e h =
     let same : i ≡ i + 0 = omega arith in
-    h.0.set.reuses ∙ ap (reuses_at limit) same
-begun_last limit i pipelining (d ∷ later) e h =
+    h.0.set.reuses ∙ ap (reuses_at terms.limit) same
+begun_last terms i pipelining (d ∷ later) e h =
     let same : i + 1 + length later ≡ i + length (d ∷ later) = omega arith in
-    begun_last limit (i + 1) d.left.pipelining later e h.1 ∙ ap (reuses_at limit) same
+    begun_last terms (i + 1) d.left.pipelining later e h.1 ∙ ap (reuses_at terms.limit) same
 
 some_left : (limit : Option ℕ) (i count : ℕ) → AreWithin limit count → i < count
     → has_reuses (reuses_at limit i) ≡ true
@@ -59,15 +59,15 @@ flag_true : (e : Entry) → wish e.head e.both ≡ true → e.left.keep_off ≡ 
 flag_true e wished off left whole =
     rw whole (all_true (wish e.head e.both) e.left.keep_off (has_reuses e.left.reuses) true wished off left refl)
 
-module _ (rules : Rules) (limit : Option ℕ) (before old now : LinkState)
+module _ (rules : Rules) (terms : Terms) (before old now : LinkState)
     (input : List ℕ) (requests : List Message) (done : List Entry) where
   -- the premises: valid input, of which the link gave a front, and exchanges that keep the connection
   record Serving (last : Option Entry) : Type 0 where
     valid : IsValid input requests
     gave : GaveOf input before now
-    within : AreWithin limit (length requests)
+    within : AreWithin terms.limit (length requests)
     faultless : NoFault old now
-    agrees : Agrees rules limit before now (done ++ option_to_list last)
+    agrees : Agrees rules terms before now (done ++ option_to_list last)
     keeps : AllByRecursion KeepsOn (done ++ option_to_list last)
 
   parses_since : (last : Option Entry) (s : Serving last)
@@ -93,8 +93,8 @@ module _ (rules : Rules) (limit : Option ℕ) (before old now : LinkState)
       (parses_since (Some e) s) s.valid.wished in
       let allowed = all_last (IsAllowed rules) done e s.agrees.allowed in
       let left : has_reuses e.left.reuses ≡ true =
-      ap has_reuses (allowed.reuses ∙ begun_last limit 0 false done e s.agrees.begun)
-      ∙ some_left limit (0 + length done) (length requests) s.within (omega (arith, wished.1)) in
+      ap has_reuses (allowed.reuses ∙ begun_last terms 0 false done e s.agrees.begun)
+      ∙ some_left terms.limit (0 + length done) (length requests) s.within (omega (arith, wished.1)) in
       let on = replied e s sent in
       on.0.keep ∙ flag_true e wished.0 on.1.1 left on.1.0
 
@@ -205,8 +205,8 @@ module _ (rules : Rules) (limit : Option ℕ) (before old now : LinkState)
   served_so last (end.Failed error) s in_time cause = failed last error error.kind s in_time refl cause.1
 
   pub served : (last : Option Entry) (reason : End)
-      → IsValid input requests → GaveOf input before now → AreWithin limit (length requests)
-      → NoFault old now → IsInTime now reason → Agrees rules limit before now (done ++ option_to_list last)
+      → IsValid input requests → GaveOf input before now → AreWithin terms.limit (length requests)
+      → NoFault old now → IsInTime now reason → Agrees rules terms before now (done ++ option_to_list last)
       → AllByRecursion KeepsOn (done ++ option_to_list last)
       → EndCause before old now done last reason → ServesAll before now requests done last reason
   served last reason valid gave within faultless in_time agrees keeps cause =

@@ -1,8 +1,8 @@
 -- The transcript, the bytes given and the bytes written agree.
-use Rattle.std.specs.Prelude.{◌≡◌, ℕ, ◌+◌, ◌-◌, ◌^◌, List, [], ◌∷◌, ◌++◌, length, min, true, false, Option, IfSome}
+use Rattle.std.specs.Prelude.{◌≡◌, ℕ, ◌+◌, ◌-◌, ◌^◌, List, [], ◌∷◌, ◌++◌, length, min, true, false, IfSome}
 use Rattle.h1_transcript.specs.Words.{AllByRecursion, LinkState, ErrorType, Body, whole, unfinished, broken, payload_of, Entry, SaysOfBody}
 use Rattle.h1_transcript.specs.Rules.{Rules}
-use Rattle.h1_transcript.specs.Begun.{AreBegun}
+use Rattle.h1_transcript.specs.Begun.{AreBegun, Terms}
 use Rattle.h1_transcript.specs.Behind.{StoodAs, IsDoneAt, FlushedBy}
 use Rattle.h1_transcript.specs.Exchange.{render, IsAllowed}
 use Rattle.h1_transcript.specs.Told.{IfTold}
@@ -53,11 +53,11 @@ AreDone flushed total (e ∷ f ∷ more) =
 
 -- The transcript of a connection whose link had the state `before` when it was made agrees with
 -- what the link gave and took since. A link that doesn't tell its bytes is told nothing of.
-pub record Agrees (rules : Rules) (limit : Option ℕ) (before now : LinkState)
+pub record Agrees (rules : Rules) (terms : Terms) (before now : LinkState)
     (transcript : List Entry) : Type 0 where
   pub read : IfTold before.given now.given (λ since. (requests : List Message)
       × Begins since requests × AreOf now transcript requests)
   pub allowed : AllByRecursion (IsAllowed rules) transcript
-  pub begun : AreBegun limit 0 false transcript
+  pub begun : AreBegun terms 0 false transcript
   pub written : IfTold before.written now.written (λ since. AreReplies since transcript)
   pub done : AreDone (FlushedBy before now) 0 transcript

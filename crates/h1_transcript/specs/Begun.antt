@@ -2,7 +2,7 @@
 use Rattle.std.specs.Prelude.{◌≡◌, ℕ, ◌+◌, ◌-◌, List, [], ◌∷◌, length, Bool, true, false, Option, Some, None}
 use Rattle.h1_server.specs.Keepalive.{keepalive_timeout}
 use Rattle.h1_server.specs.Times.{new_times}
-use Rattle.h1_transcript.specs.Words.{KEEPALIVE_SECONDS, Settings, Entry}
+use Rattle.h1_transcript.specs.Words.{KEEPALIVE_SECONDS, History, Settings, Entry}
 
 -- the time for a head in seconds, or none where the connection shuts down
 abbrev pub head_time : Bool → Option ℕ
@@ -19,6 +19,12 @@ abbrev pub pipelining_behind : Bool → List Entry → Bool
 pipelining_behind first [] = first
 pipelining_behind first (e ∷ more) = pipelining_behind e.left.pipelining more
 
+-- what a connection is made with: how many requests more than the first it may serve, where none is
+-- no limit, and whether it keeps its exchanges
+pub record Terms : Type 0 where
+  pub limit : Option ℕ
+  pub history : History
+
 -- what is set where the exchange with this index is next, but for keep-alive
 pub record IsSetFor (limit : Option ℕ) (i : ℕ) (pipelining : Bool)
     (settings : Settings) : Type 0 where
@@ -31,21 +37,27 @@ pub record IsSetFor (limit : Option ℕ) (i : ℕ) (pipelining : Bool)
 abbrev pub HasHeadTime : Settings → Type 0
 HasHeadTime settings = keepalive_timeout settings ≡ head_time settings.keep_off
 
--- the settings that the exchange with this index begins with
-pub record IsBegunFor (limit : Option ℕ) (i : ℕ) (pipelining : Bool)
-    (settings : Settings) : Type 0 where
-  pub set : IsSetFor limit i pipelining settings
-  pub keepalive : HasHeadTime settings
+-- what the exchange with this index begins with, and whether it is kept
+pub record IsBegunFor (terms : Terms) (i : ℕ) (pipelining : Bool) (e : Entry) : Type 0 where
+  pub set : IsSetFor terms.limit i pipelining e.began
+  pub keepalive : HasHeadTime e.began
+  pub history : e.history ≡ terms.history
 
 -- each exchange, counted from this index, began so; pipelining is what the one before left
-abbrev pub AreBegun : Option ℕ → ℕ → Bool → List Entry → Type 0
-AreBegun limit i pipelining [] = Unit {0}
-AreBegun limit i pipelining (e ∷ more) =
-    IsBegunFor limit i pipelining e.began × AreBegun limit (i + 1) e.left.pipelining more
+abbrev pub AreBegun : Terms → ℕ → Bool → List Entry → Type 0
+AreBegun terms i pipelining [] = Unit {0}
+AreBegun terms i pipelining (e ∷ more) =
+    IsBegunFor terms i pipelining e × AreBegun terms (i + 1) e.left.pipelining more
 
 -- after these exchanges it is set so for the next one
-abbrev pub IsNextSet : Option ℕ → List Entry → Settings → Type 0
-IsNextSet limit done settings = IsSetFor limit (length done) (pipelining_behind false done) settings
+abbrev pub IsNextSet : Terms → List Entry → Settings → Type 0
+IsNextSet terms done settings =
+    IsSetFor terms.limit (length done) (pipelining_behind false done) settings
+
+-- an exchange that begins is kept as the connection keeps its exchanges
+abbrev pub BeginsIn : History → Option Entry → Option Entry → Type 0
+BeginsIn history None (Some e) = e.history ≡ history
+BeginsIn history _ _ = Unit {0}
 
 -- what an exchange takes from what was set before it
 pub record IsSetAlike (old new : Settings) : Type 0 where

@@ -1,10 +1,12 @@
 -- The exchanges of a transcript, and how many of them have a reply.
-use Rattle.std.specs.Prelude.{ℕ, List, [], ◌++◌, option_to_list, Option, Some, None, ◌+◌, ◌∷◌, Bool, false, codes, replicate, map}
-use Rattle.h1_head.specs.Request.{new_request}
-use Rattle.h1_transcript.specs.Words.{Entry, Open, Reply, Settings}
+use Rattle.std.specs.Prelude.{◌≡◌, ◌≤◌, ℕ, List, [], ◌++◌, option_to_list, Option, Some, None, ◌+◌, ◌∷◌, Bool, false, replicate, map, take, length, IsSome}
+use Rattle.std.specs.List.{flat_map}
+use Rattle.h1_transcript.specs.Words.{Entry, History, Open, Reply, RequestView, Settings}
+use Rattle.h1_transcript.specs.declared.history.History.TheVariants as history
 
--- the exchanges that ended, and the one that goes on
+-- whether exchanges are kept, those that ended, and the one that goes on
 pub record TranscriptView : Type 0 where
+  pub history : History
   pub done : List Entry
   pub last : Option Entry
 
@@ -12,20 +14,35 @@ pub record TranscriptView : Type 0 where
 abbrev pub exchanges_of : List (Entry × Unit {0}) → List Entry
 exchanges_of past = map (λ p. p.0) past
 
+-- where exchanges are kept, none was forgotten; else one is in memory at most
+abbrev pub KeepsBy : History → List Entry → List Entry → Type 0
+KeepsBy history.Kept past entries = past ≡ []
+KeepsBy history.Forgotten past entries = length entries ≤ 1
+
+-- those that ended: those that were forgotten, or so many of those in memory
+abbrev pub ended_entries : History → List Entry → ℕ → List Entry → List Entry
+ended_entries history.Kept past ended entries = take ended entries
+ended_entries history.Forgotten past ended entries = past
+
 -- the transcript as it is kept
 abbrev pub transcript_entries : TranscriptView → List Entry
 transcript_entries transcript = transcript.done ++ option_to_list transcript.last
+
+-- the bodies of these exchanges, as they were read
+abbrev pub bodies : List Entry → List ℕ
+bodies exchanges = flat_map (λ e. e.body) exchanges
 
 -- the transcript with this exchange as the one that goes on
 abbrev pub with_last : TranscriptView → Entry → TranscriptView
 with_last transcript e = record transcript { last = Some e }
 
--- an exchange of which nothing was read yet
-abbrev pub new_entry : Settings → Bool → Entry
-new_entry settings both =
+-- an exchange of which nothing was read after its head
+abbrev pub new_entry : History → Settings → Bool → RequestView → Entry
+new_entry history settings both head =
     record {
-      head = new_request (codes "GET") [];
-      filtered = Some (new_request (codes "GET") []);
+      history = history;
+      head = head;
+      filtered = Some head;
       body = [];
       handed = 0;
       body_error = None;
@@ -43,6 +60,11 @@ new_entry settings both =
       keep = false;
       owed = false;
     }
+
+-- one whose head is still to be put in its places
+pub record BeginsAs (history : History) (settings : Settings) (both : Bool) (e : Entry) : Type 0 where
+  pub entry : e ≡ record (new_entry history settings both e.head) { filtered = e.filtered }
+  pub filtered : IsSome e.filtered
 
 -- how many of these exchanges have a reply
 abbrev pub replies : List Entry → ℕ

@@ -5,7 +5,9 @@ pub mod Rules
 pub mod Refusals
 pub mod Told
 pub mod Ends
+pub mod Entry
 pub mod Entries
+pub mod Held
 pub mod Lending
 pub mod Stream
 pub mod Exchange

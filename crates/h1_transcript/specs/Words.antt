@@ -18,9 +18,10 @@ pub use Rattle.h1_link.specs.LinkState.{LinkState}
 pub use Rattle.h1_server.specs.Persistence.{has_reuses}
 pub use Rattle.h1_server.specs.declared.settings.Settings.{Settings}
 pub use Rattle.h1_transcript.specs.declared.reply.Reply.{Reply}
-pub use Rattle.h1_transcript.specs.declared.transcript.Entry.{Entry}
-pub use Rattle.h1_transcript.specs.declared.transcript.How.{How}
-pub use Rattle.h1_transcript.specs.declared.transcript.How.TheVariants.{Failed, Open, Whole}
+pub use Rattle.h1_transcript.specs.Entry.{Entry}
+pub use Rattle.h1_transcript.specs.declared.entry.How.{How}
+pub use Rattle.h1_transcript.specs.declared.entry.How.TheVariants.{Failed, Open, Whole}
+pub use Rattle.h1_transcript.specs.declared.history.History.{History}
 pub use Rattle.h1_transcript.specs.declared.transcript.TheConstants.{KEEPALIVE_SECONDS}
 pub use Rattle.h1_transfer.specs.BodyErrors.{SaysOfBody}
 pub use Rattle.std.specs.List.{AllByRecursion}

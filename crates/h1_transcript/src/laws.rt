@@ -2,7 +2,7 @@
 ghost use Rattle.std.specs.Prelude.{◌≡◌, ◌⊎◌, List, Some, false};
 ghost use Rattle.h1_error.specs.declared.progress.End.{End};
 ghost use Rattle.h1_link.specs.LinkState.{LinkState};
-ghost use Rattle.h1_transcript.specs.declared.transcript.Entry.{Entry};
+ghost use Rattle.h1_transcript.specs.Entry.{Entry};
 ghost use Rattle.h1_transcript.specs.Complete.{NoFault, IsInTime, IsOutOfMemory};
 ghost use Rattle.h1_transcript.specs.Ends.{EndCause, IsComplete};
 ghost use Rattle.h1_transcript.specs.Exchange.{is_short};

@@ -5,10 +5,15 @@
 //! ends.
 #![tactic(auto)]
 
+mod entry;
+mod held;
+mod history;
 mod laws;
 mod reply;
 mod transcript;
 
+pub use entry::{Entry, How};
+pub use history::History;
 pub use laws::the_last_exchange_is_replied_to;
 pub use reply::Reply;
-pub use transcript::{Entry, How, KEEPALIVE_SECONDS, Transcript};
+pub use transcript::{KEEPALIVE_SECONDS, Transcript};

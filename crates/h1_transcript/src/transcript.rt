@@ -1,13 +1,13 @@
 //! What a connection read and wrote, exchange by exchange.
-ghost use Rattle.std.specs.Prelude.{◌≡◌, ◌≤◌, ◌<◌, ◌+◌, ◌++◌, [], None, Some, IsSome, IfSome, OnOk, OnErr, IfErr, is_some, length, slice_get, option_to_list};
+ghost use Rattle.std.specs.Prelude.{◌≡◌, ◌++◌, [], None, Some, IsSome, OnOk, OnErr, IfErr, is_some, length, min, slice_get, option_to_list};
 ghost use Rattle.h1_error.specs.Memory.{no_memory};
 ghost use Rattle.std.specs.Borrow.{sem};
-ghost use Rattle.h1_transcript.specs.Entries.{exchanges_of};
+ghost use Rattle.std.specs.Option.{option_copied};
+ghost use Rattle.h1_transcript.specs.declared.history.History.TheVariants.{Forgotten, Kept};
 
-use crate::Reply;
-use h1_body::BodyBytes;
+use crate::{Entry, History};
 use h1_error::Error;
-use h1_head::{RequestHeader, ResponseHeader};
+use h1_head::RequestHeader;
 use h1_server::Settings;
 use http_server::Log;
 use std::alloc::Global;
@@ -16,149 +16,146 @@ use std::marker::Model;
 /// How long a connection waits for a head, in seconds.
 pub const KEEPALIVE_SECONDS: u64 = 60;
 
-/// How a request's body stood when its reply was made.
-#[derive(Clone, Copy, Debug, PartialEq, Eq)]
-pub enum How {
-    /// It was not read to its end.
-    Open,
-    Whole,
-    Failed,
-}
-
-/// One exchange.
-#[derive(Drop)]
-pub struct Entry {
-    /// The head as it was read.
-    pub head: RequestHeader,
-    /// The head after the request filters.
-    pub filtered: Option<RequestHeader>,
-    /// All payload that was read.
-    pub body: BodyBytes,
-    /// How many bytes of the payload the application was handed.
-    pub handed: u64,
-    /// Why the body couldn't be read on.
-    pub body_error: Option<Error>,
-    /// The read timeout in milliseconds that was in force at the read that timed out.
-    pub read_limit: Option<u64>,
-    /// How the request's body stood when the reply was made.
-    pub how: How,
-    /// What was set as the exchange began.
-    pub began: Settings,
-    /// What the application left set.
-    pub left: Settings,
-    /// What the application replied.
-    pub reply: Option<Reply>,
-    /// The reply's header after the response filters.
-    pub sent_head: Option<ResponseHeader>,
-    /// The reply's body after the response filters.
-    pub sent_body: Option<BodyBytes>,
-    /// How many bytes of the reply were written.
-    pub written: u64,
-    /// The second of the reply's Date since the epoch.
-    pub date: u64,
-    /// The reply's Date, as it is written.
-    pub date_text: [u8; 29],
-    /// Content-Length stood beside Transfer-Encoding and was dropped (RFC 9112, section 6.1).
-    pub both: bool,
-    /// Whether the reply said that the connection is kept.
-    pub keep: bool,
-    /// The reply was taken up and is not flushed yet.
-    pub owed: bool,
-}
-
-/// So many exchanges are forgotten at most. No connection lives to see more.
-const MOST_FORGOTTEN: usize = 1 << 62;
-
 /// The exchanges of a connection, in order. Contracts see those that ended as `done`, and the one
-/// that goes on as `last`. Of those that ended, the first may be forgotten: contracts alone have
-/// them then.
+/// that goes on as `last`; where they are forgotten, memory has the last alone.
 #[derive(Drop)]
 pub struct Transcript {
+    history: History,
     /// Those that were forgotten. It takes no memory.
     past: Log<Entry, ()>,
-    /// How many those are.
+    /// How many those are, up to the last number of 64 bits.
     forgotten: usize,
-    /// The others.
+    /// The others. Where exchanges are forgotten, one at most, in whose place the next one begins.
     entries: Vec<Entry>,
     /// How many of the others ended: all, or all but the last.
     ended: usize,
+    /// How many bytes of payload those that ended have, up to the last number of 64 bits.
+    payload: u64,
 }
 
 impl Model for Transcript {
-    ghost use Rattle.std.specs.Prelude.{◌≤◌, ◌+◌, ◌^◌, ◌≡◌, ◌++◌, take, length, slice_get};
-    ghost use Rattle.h1_transcript.specs.Entries.{TranscriptView, exchanges_of};
+    ghost use Rattle.std.specs.Prelude.{◌≤◌, ◌+◌, ◌^◌, ◌-◌, ◌≡◌, ◌++◌, take, length, min, slice_get};
+    ghost use Rattle.h1_transcript.specs.Entries.{TranscriptView, exchanges_of, bodies, ended_entries, KeepsBy};
 
     ghost Value = { TranscriptView };
 
     ghost view = { λ t. record {
-      done = exchanges_of t.past.items ++ take t.ended t.entries.items;
+      history = t.history;
+      done = ended_entries t.history (exchanges_of t.past.items) t.ended t.entries.items;
       last = slice_get t.entries.items t.ended;
     } };
 
     // The exchange that goes on is the last.
     ghost invariant = { λ t. (t.ended ≤ length t.entries.items)
         × (length t.entries.items ≤ t.ended + 1)
-        × (t.forgotten ≡ length (exchanges_of t.past.items)) × (t.forgotten ≤ 2 ^ 62) };
+        × (t.forgotten ≡ min (length (exchanges_of t.past.items)) (2 ^ 64 - 1))
+        × KeepsBy t.history (exchanges_of t.past.items) t.entries.items
+        × (t.payload ≡ min (length (bodies
+        (ended_entries t.history (exchanges_of t.past.items) t.ended t.entries.items)))
+        (2 ^ 64 - 1)) };
 }
 
 impl Transcript {
-    ghost use Rattle.h1_transcript.specs.Entries.{new_entry, transcript_entries, with_last};
+    ghost use Rattle.h1_transcript.specs.Entry.{kept_in};
+    ghost use Rattle.h1_transcript.specs.Entry.{Entry};
+    ghost use Rattle.h1_transcript.specs.Entries.{BeginsAs, new_entry, bodies, transcript_entries, with_last};
     ghost use Rattle.h1_transcript.specs.Lending.{LendsLast};
+    ghost use Rattle.std.specs.Prelude.{◌^◌, ◌-◌};
 
     /// No exchange yet.
-    pub fn new(alloc: Global) -> Self
+    pub fn new(alloc: Global, history: History) -> Self
+        ensures history { result.history ≡ history }
         ensures done { result.done ≡ [] }
         ensures last { result.last ≡ None }
     {
         Transcript {
+            history,
             past: Log::new(),
             forgotten: 0,
             entries: Vec::new(alloc),
             ended: 0,
+            payload: 0,
         }
     }
 
-    /// An exchange begins, where none goes on, with what is set. Its heads are still to be put in
-    /// their places. `both` says whether Content-Length was dropped from the first of them.
+    /// An exchange begins with this head, where none goes on, with what is set. `both` says whether
+    /// Content-Length was dropped from it.
     #[inline(always)]
-    pub fn begin(&mut self, alloc: Global, settings: Settings, both: bool) -> Result<(), Error>
+    pub fn begin(
+        &mut self,
+        alloc: Global,
+        settings: Settings,
+        both: bool,
+        head: &RequestHeader,
+    ) -> Result<(), Error>
         requires { self.old.last ≡ None }
-        ensures ok { OnOk result (self.new ≡ with_last self.old (new_entry settings both)) }
+        ensures ok { OnOk result
+            (self.new ≡ with_last self.old (new_entry self.old.history settings both head.now)) }
         ensures err { OnErr result (self.new ≡ self.old) }
         ensures memory { IfErr result (λ error. error ≡ no_memory) }
     {
-        // Room is made first, so that no entry has to be taken back.
+        match self.history {
+            History::Kept => self.begin_kept(alloc, settings, both, head),
+            History::Forgotten => {
+                if self.entries.is_empty() {
+                    self.entries.reserve(1)?;
+                    self.entries
+                        .push_reserved(Entry::new(alloc, settings, both, head));
+                } else {
+                    self.entries[0].start_over(settings, both, head);
+                    self.ended = 0;
+                }
+                Ok(())
+            }
+        }
+    }
+
+    fn begin_kept(
+        &mut self,
+        alloc: Global,
+        settings: Settings,
+        both: bool,
+        head: &RequestHeader,
+    ) -> Result<(), Error>
+        requires kept { self.old.history ≡ Kept }
+        requires none { self.old.last ≡ None }
+        ensures ok { OnOk result
+            (self.new ≡ with_last self.old (new_entry self.old.history settings both head.now)) }
+        ensures err { OnErr result (self.new ≡ self.old) }
+        ensures memory { IfErr result (λ error. error ≡ no_memory) }
+    {
+        // The head is copied to its places in the list, so that no exchange is moved.
+        self.push_kept(alloc, settings, both)?;
+        let put = self.last_entry().put_head(head);
+        if put.is_err() {
+            self.drop_last();
+        }
+        put
+    }
+
+    /// An exchange begins that is kept, whose head is still to be put in its places.
+    #[inline(always)]
+    fn push_kept(&mut self, alloc: Global, settings: Settings, both: bool) -> Result<(), Error>
+        requires kept { self.old.history ≡ Kept }
+        requires none { self.old.last ≡ None }
+        ensures ok { OnOk result
+            ((e : Entry) × BeginsAs Kept settings both e × (self.new ≡ with_last self.old e)) }
+        ensures err { OnErr result (self.new ≡ self.old) }
+        ensures memory { IfErr result (λ error. error ≡ no_memory) }
+    {
         self.entries.reserve(1)?;
-        self.entries.push_reserved(Entry {
-            head: RequestHeader::new(alloc),
-            filtered: Some(RequestHeader::new(alloc)),
-            body: BodyBytes::new(alloc),
-            handed: 0,
-            body_error: None,
-            read_limit: None,
-            how: How::Open,
-            began: settings,
-            left: settings,
-            reply: None,
-            sent_head: None,
-            sent_body: None,
-            written: 0,
-            date: 0,
-            date_text: [0; 29],
-            both,
-            keep: false,
-            owed: false,
-        });
+        self.entries
+            .push_reserved(Entry::new_kept(alloc, settings, both));
         Ok(())
     }
 
     /// The exchange that goes on is dropped, as if it had not begun.
     #[cold]
     #[inline(never)]
-    pub fn drop_last(&mut self)
-        requires { IsSome self.old.last }
-        ensures done { self.new.done ≡ self.old.done }
-        ensures last { self.new.last ≡ None }
+    fn drop_last(&mut self)
+        requires kept { self.old.history ≡ Kept }
+        requires last { IsSome self.old.last }
+        ensures { self.new ≡ record self.old { last = None } }
     {
         self.entries.truncate(self.ended);
     }
@@ -181,76 +178,104 @@ impl Transcript {
     }
 
     /// The exchange that goes on joins those that ended.
+    #[inline(always)]
     pub fn end_last(&mut self)
         requires { IsSome self.old.last }
+        ensures history { self.new.history ≡ self.old.history }
         ensures done { self.new.done ≡ self.old.done ++ option_to_list self.old.last }
         ensures last { self.new.last ≡ None }
     {
+        match self.history {
+            History::Kept => self.end_kept(),
+            History::Forgotten => self.end_forgotten(),
+        }
+    }
+
+    #[inline(always)]
+    fn end_kept(&mut self)
+        requires kept { self.old.history ≡ Kept }
+        requires last { IsSome self.old.last }
+        ensures history { self.new.history ≡ self.old.history }
+        ensures done { self.new.done ≡ self.old.done ++ option_to_list self.old.last }
+        ensures last { self.new.last ≡ None }
+    {
+        let read = self.entries[self.ended].body().len() as u64;
+        self.payload = self.payload.saturating_add(read);
         self.ended += 1;
     }
 
-    /// The memory of the exchanges that ended is given back. Contracts go on to see them.
-    pub fn forget_ended(&mut self)
-        ensures { self.new ≡ self.old }
+    /// It is noted in contracts alone, and its memory is given back.
+    #[inline(always)]
+    fn end_forgotten(&mut self)
+        requires forgotten { self.old.history ≡ Forgotten }
+        requires last { IsSome self.old.last }
+        ensures history { self.new.history ≡ self.old.history }
+        ensures done { self.new.done ≡ self.old.done ++ option_to_list self.old.last }
+        ensures last { self.new.last ≡ None }
     {
-        if self.ended == 0 || self.forgotten > MOST_FORGOTTEN - self.ended {
-            return;
-        }
-        note(&mut self.past, &self.entries[..self.ended]);
-        drop_first(&mut self.entries, self.ended);
-        self.forgotten += self.ended;
-        self.ended = 0;
+        let read = self.entries[self.ended].body().len() as u64;
+        self.payload = self.payload.saturating_add(read);
+        self.past = self.past.and(&self.entries[self.ended], &());
+        self.forgotten = self.forgotten.saturating_add(1);
+        self.entries[self.ended].release();
+        self.ended = 1;
     }
 
-    /// How many exchanges there are, those that were forgotten among them.
+    /// Whether exchanges are kept.
+    pub fn history(&self) -> History
+        ensures { result ≡ self.now.history }
+    {
+        self.history
+    }
+
+    /// How many exchanges there are, those that were forgotten among them, up to the last number of
+    /// 64 bits.
     pub fn len(&self) -> usize
-        ensures { result ≡ length (transcript_entries self.now) }
+        ensures { result ≡ min (length (transcript_entries self.now)) (2 ^ 64 - 1) }
     {
-        self.forgotten + self.entries.len()
+        let kept = match self.history {
+            History::Kept => self.entries.len(),
+            History::Forgotten => self.entries.len() - self.ended,
+        };
+        self.forgotten.saturating_add(kept)
     }
 
-    /// The exchange with this index, counted from 0, but for one that was forgotten.
-    pub fn get(&self, i: usize) -> Option<&Entry>
-        ensures { IfSome result
-            (λ entry. slice_get (transcript_entries self.now) i ≡ Some entry.now) }
+    /// How many bytes of payload were read, up to the last number of 64 bits.
+    pub fn payload_len(&self) -> u64
+        ensures { result ≡ min (length (bodies (transcript_entries self.now))) (2 ^ 64 - 1) }
     {
-        let at = i.checked_sub(self.forgotten)?;
-        self.entries.get(at)
-    }
-
-    /// All exchanges, where none was forgotten.
-    pub fn all(&self) -> Option<&[Entry]>
-        ensures { IfSome result (λ entries. entries.now ≡ transcript_entries self.now) }
-    {
-        if self.forgotten == 0 {
-            Some(self.entries.as_slice())
-        } else {
-            None
+        match self.last() {
+            Some(entry) => self.payload.saturating_add(entry.body().len() as u64),
+            None => self.payload,
         }
     }
-}
 
-/// Notes these exchanges, in contracts alone.
-#[tactic(auto, using(crate::proofs::EntryLemmas::noted_behind))]
-fn note(past: &mut Log<Entry, ()>, entries: &[Entry])
-    ensures { exchanges_of past.new.items ≡ exchanges_of past.old.items ++ entries.now }
-{
-    for entry in entries {
-        *past = past.and(entry, &());
+    /// The exchange with this index, counted from 0, where exchanges are kept.
+    pub fn get(&self, i: usize) -> Option<&Entry>
+        ensures { option_copied result
+            ≡ kept_in self.now.history (slice_get (transcript_entries self.now) i) }
+    {
+        match self.history {
+            History::Kept => self.entries.get(i),
+            History::Forgotten => None,
+        }
     }
-}
 
-/// Drops so many exchanges, the first. One more is there at most.
-fn drop_first(entries: &mut Vec<Entry>, count: usize)
-    requires some { 0 < count }
-    requires there { count ≤ length entries.old.items }
-    requires one { length entries.old.items ≤ count + 1 }
-    ensures { entries.new.items ≡ option_to_list (slice_get entries.old.items count) }
-{
-    if count < entries.len() {
-        entries.swap(0, count);
-        entries.truncate(1);
-    } else {
-        entries.clear();
+    /// All exchanges, where they are kept.
+    pub fn all(&self) -> Option<&[Entry]>
+        ensures { option_copied result
+            ≡ kept_in self.now.history (Some (transcript_entries self.now)) }
+    {
+        match self.history {
+            History::Kept => Some(self.entries.as_slice()),
+            History::Forgotten => None,
+        }
+    }
+
+    /// The exchange that goes on, where one does.
+    pub fn last(&self) -> Option<&Entry>
+        ensures { option_copied result ≡ self.now.last }
+    {
+        self.entries.get(self.ended)
     }
 }

@@ -1,7 +1,7 @@
 //! The application runs, until it has replied.
 ghost use Rattle.std.specs.Prelude.{◌≡◌, ◌+◌, ◌<◌, ◌≤◌, IsSome, None, Some, false};
 ghost use Rattle.h1_error.specs.declared.moment.TheConstants.{YEAR_10000};
-ghost use Rattle.h1_transcript.specs.declared.transcript.Entry.{Entry};
+ghost use Rattle.h1_transcript.specs.Entry.{Entry};
 ghost use Rattle.h1_head.specs.Views.{RequestView};
 ghost use Rattle.h1_server.specs.declared.settings.Settings.{Settings};
 ghost use Rattle.h1_application.specs.Application.{how_of, IsAskedFor, ReadsInTime};
@@ -15,12 +15,10 @@ ghost use Rattle.h1_app.specs.Step.{StepReady, SteppedBy, Continues};
 use crate::exchange::{Exchange, Outcome, Stage};
 use crate::{Entry, How, Reply, ServeHttp};
 use futures::task::Poll;
-use h1_body::BodyBytes;
 use h1_error::{End, Error, Waiting};
 use h1_link::Link;
 use h1_server::{HttpSession, Settings};
 use std::alloc::Global;
-use std::mem;
 
 /// Lets the application go on. What it reads of the body joins the exchange.
 pub(super) fn answer<L: Link + Drop, SV: ServeHttp<L, C> + Drop, C: Drop>(
@@ -47,7 +45,7 @@ pub(super) fn answer<L: Link + Drop, SV: ServeHttp<L, C> + Drop, C: Drop>(
         Asked::Pends => Outcome::Waits(Waiting::App),
         Asked::Failed(error) => Outcome::Ends(End::Failed(error)),
         Asked::Replied(reply) => {
-            entry.reply = Some(reply);
+            entry.note_reply(reply);
             exchange.stage = Stage::TakeHeader;
             Outcome::Done
         }
@@ -98,7 +96,7 @@ where
     ensures never_falls { SV.pends job.old ≤ SV.pends job.new }
     ensures pends { PendsAsked (SV.pends job.old) (SV.pends job.new) result }
 {
-    session.keep_payload(mem::replace(&mut entry.body, BodyBytes::new(alloc)));
+    session.keep_payload(entry.take_body(alloc));
     let answer = app.poll_response(job, session, now);
     let waits = session.take_waits();
     take_back(session, entry);
@@ -122,14 +120,18 @@ fn take_back<L: Link + Drop, C: Drop>(session: &mut HttpSession<L, C>, entry: &m
         ≡ record session.old { body = record session.old.body { kept = None } } }
     ensures entry { entry.new ≡ noted entry.old session.old }
 {
-    if let Some(body) = session.take_payload() {
-        entry.handed = body.len() as u64;
-        entry.body = body;
-    }
-    entry.body_error = session.body_error();
-    entry.read_limit = session.read_limit();
-    entry.how = how_it_stands(session);
-    entry.left = session.settings();
+    let Some(body) = session.take_payload() else {
+        unreachable!()
+    };
+    let handed = body.len() as u64;
+    entry.put_body(body);
+    entry.note_reading(
+        handed,
+        session.body_error(),
+        session.read_limit(),
+        how_it_stands(session),
+        session.settings(),
+    );
 }
 
 fn how_it_stands<L: Link + Drop, C: Drop>(session: &HttpSession<L, C>) -> How

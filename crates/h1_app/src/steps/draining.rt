@@ -1,7 +1,7 @@
 //! The reply is written: what is left of the request's body is read, where the connection is kept.
 ghost use Rattle.std.specs.Prelude.{◌≡◌, ◌<◌, IsSome, None, true};
 ghost use Rattle.h1_app.specs.declared.exchange.Stage.TheVariants as at;
-ghost use Rattle.h1_transcript.specs.declared.transcript.Entry.{Entry};
+ghost use Rattle.h1_transcript.specs.Entry.{Entry};
 ghost use Rattle.h1_app.specs.Draining.{ReusesAs, CalledForReuse, StandsDrained};
 ghost use Rattle.h1_server.specs.Calls.{is_reused};
 ghost use Rattle.h1_transfer.specs.Calls.{read_fault_of};
@@ -14,12 +14,10 @@ ghost use Rattle.h1_app.specs.Step.{StepReady, SteppedBy, Continues};
 use crate::exchange::{Exchange, Outcome, Stage};
 use crate::{Entry, ServeHttp};
 use futures::task::Poll;
-use h1_body::BodyBytes;
 use h1_error::{End, Error, Waiting};
 use h1_link::Link;
 use h1_server::HttpSession;
 use std::alloc::Global;
-use std::mem;
 
 /// Reads what the application left unread of the request's body. A connection that isn't kept ends,
 /// and so does one after whose request bytes came where none may.
@@ -89,10 +87,10 @@ fn reuse<L: Link + Drop, C: Drop>(
     if session.is_body_read() {
         return session.poll_reuse(now);
     }
-    session.keep_payload(mem::replace(&mut entry.body, BodyBytes::new(alloc)));
+    session.keep_payload(entry.take_body(alloc));
     let answer = session.poll_reuse(now);
     if let Some(body) = session.take_payload() {
-        entry.body = body;
+        entry.put_body(body);
     }
     answer
 }

@@ -41,7 +41,7 @@ pub(super) fn sent_header<M: HttpModule + Drop>(
     ensures err { IfErr result (λ error. IfSome entry.now.reply (λ reply. ErrsBy refused_by
         (run (M.response_header (is_empty reply.body)) modules.old.modules reply.header) error)) }
 {
-    let Some(reply) = &entry.reply else {
+    let Some(reply) = entry.reply() else {
         unreachable!()
     };
     let mut header = reply.header.copy()?;

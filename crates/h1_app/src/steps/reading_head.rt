@@ -1,9 +1,12 @@
 //! A head is awaited; with it the exchange begins.
-ghost use Rattle.std.specs.Prelude.{◌≡◌, [], IsSome, IfOk, IfErr, IfSome, None, Ok, OnOk, Some, map};
+ghost use Rattle.std.specs.Prelude.{◌≡◌, [], IsSome, Option, IfOk, IfErr, IfSome, None, Ok, OnOk, Some, map};
 ghost use Rattle.h1_error.specs.Memory.{no_memory};
 ghost use Rattle.h1_head.specs.Views.{RequestView};
 ghost use Rattle.h1_server.specs.declared.settings.Settings.{Settings};
+ghost use Rattle.h1_transcript.specs.Begun.{BeginsIn};
 ghost use Rattle.h1_transcript.specs.Entries.{with_last};
+ghost use Rattle.h1_transcript.specs.Entry.{Entry};
+ghost use Rattle.h1_transcript.specs.declared.history.History.{History};
 ghost use Rattle.h1_modules.specs.Filters.{run};
 ghost use Rattle.h1_modules.specs.Outcome.{ErrsBy, refused_by};
 ghost use Rattle.h1_transcript.specs.Begun.{head_time};
@@ -90,6 +93,8 @@ where
         (kept_again shutdown session.old) session.new modules.new.modules transcript.new.last
         stage.new result }
     ensures done { transcript.new.done ≡ transcript.old.done }
+    ensures history { transcript.new.history ≡ transcript.old.history }
+    ensures kept { BeginsIn transcript.old.history transcript.old.last transcript.new.last }
 {
     session.set_server_keepalive(keepalive(shutdown));
     match start(alloc, server, modules, session, transcript) {
@@ -123,6 +128,8 @@ where
         (chain_of B.HttpModuleBuilder B.Module.HttpModule server.now.modules) session.old session.new
         modules.new.modules transcript.new.last result }
     ensures done { transcript.new.done ≡ transcript.old.done }
+    ensures history { transcript.new.history ≡ transcript.old.history }
+    ensures kept { BeginsIn transcript.old.history transcript.old.last transcript.new.last }
 {
     let settings = session.settings();
     let Some(request) = session.request() else {
@@ -147,30 +154,10 @@ fn begin_entry(
         IsNewEntry request.now settings e × (e.filtered ≡ Some request.now.header))) }
     ensures err { IfErr result (λ error. (error ≡ no_memory) × (transcript.new.last ≡ None)) }
     ensures done { transcript.new.done ≡ transcript.old.done }
+    ensures history { transcript.new.history ≡ transcript.old.history }
+    ensures kept { BeginsIn transcript.old.history transcript.old.last transcript.new.last }
 {
-    transcript.begin(alloc, settings, request.both)?;
-    // The heads are copied to their places in the list, so that neither is moved.
-    if let Err(error) = note_heads(transcript.last_entry(), &request.header) {
-        transcript.drop_last();
-        return Err(error);
-    }
-    Ok(())
-}
-
-/// Puts the head of the request in the places for it. With an error what stands there has no
-/// meaning.
-#[inline(always)]
-fn note_heads(entry: &mut Entry, header: &RequestHeader) -> Result<(), Error>
-    requires { IsSome entry.old.filtered }
-    ensures ok { OnOk result (entry.new
-        ≡ record entry.old { head = header.now; filtered = Some header.now }) }
-    ensures err { IfErr result (λ error. error ≡ no_memory) }
-{
-    header.copy_to(&mut entry.head)?;
-    let Some(filtered) = &mut entry.filtered else {
-        unreachable!()
-    };
-    header.copy_to(filtered)
+    transcript.begin(alloc, settings, request.both, &request.header)
 }
 
 /// Filters the head of the exchange that began, where there are modules, or were. Where one refuses,
@@ -192,13 +179,16 @@ where
         modules.new.modules transcript.old transcript.new) }
     ensures err { IfErr result (HeadRefused (chain_of B.HttpModuleBuilder B.Module.HttpModule builders.now) session.old session.new
         transcript.old transcript.new) }
+    ensures history { transcript.new.history ≡ transcript.old.history }
+    ensures kept { (history : History) (old : Option Entry)
+        → BeginsIn history old transcript.old.last → BeginsIn history old transcript.new.last }
 {
     if builders.is_empty() && modules.is_empty() {
         return Ok(());
     }
     let entry = transcript.last_entry();
     let head = session.req_header_mut();
-    filter_noted(alloc, builders, modules, head, &mut entry.filtered)
+    filter_noted(alloc, builders, modules, head, entry)
 }
 
 /// The filters are given the head, and what they make of it is noted. With an error there is no head
@@ -210,26 +200,20 @@ fn filter_noted<B: HttpModuleBuilder + Drop>(
     builders: &HttpModules<B>,
     modules: &mut HttpModuleCtx<B::Module>,
     head: &mut RequestHeader,
-    filtered: &mut Option<RequestHeader>,
+    entry: &mut Entry,
 ) -> Result<(), Error>
-    requires { IsSome filtered.old }
-    ensures ok { OnOk result ((filtered.new ≡ Some head.new)
+    requires { IsSome entry.old.filtered }
+    ensures ok { OnOk result ((entry.new ≡ record entry.old { filtered = Some head.new })
         × (run B.Module.request_header (map B.begins builders.now) head.old
         ≡ Ok (modules.new.modules, head.new))) }
-    ensures err { IfErr result (λ error. (filtered.new ≡ None) × ErrsBy refused_by
+    ensures err { IfErr result (λ error. (entry.new ≡ record entry.old { filtered = None }) × ErrsBy refused_by
         (run B.Module.request_header (map B.begins builders.now) head.old) error) }
 {
-    let mut noted = filter_request(alloc, builders, modules, head);
-    if noted.is_ok() {
-        let Some(place) = filtered else {
-            unreachable!()
-        };
-        noted = head.copy_to(place);
+    if let Err(error) = filter_request(alloc, builders, modules, head) {
+        entry.drop_filtered();
+        return Err(error);
     }
-    if noted.is_err() {
-        *filtered = None;
-    }
-    noted
+    entry.note_filtered(head)
 }
 
 /// The application is started for the head that was noted. Where there is no memory for that, the
@@ -250,22 +234,15 @@ where
     ensures err { IfErr result (λ error. (error ≡ no_memory)
         × IfSome transcript.old.last (λ e.
         transcript.new ≡ with_last transcript.old (record e { filtered = None }))) }
+    ensures history { transcript.new.history ≡ transcript.old.history }
+    ensures kept { (history : History) (old : Option Entry)
+        → BeginsIn history old transcript.old.last → BeginsIn history old transcript.new.last }
 {
     let job = app.start(alloc);
     if job.is_err() {
-        forget(transcript.last_entry());
+        transcript.last_entry().drop_filtered();
     }
     job
-}
-
-/// The exchange stays without a head for the application. It stands apart from what runs for each
-/// request.
-#[cold]
-#[inline(never)]
-fn forget(entry: &mut Entry)
-    ensures { entry.new ≡ record entry.old { filtered = None } }
-{
-    entry.filtered = None;
 }
 
 /// Keep-alive with the time for the next head, or off.

@@ -3,7 +3,7 @@ ghost use Rattle.std.specs.Prelude.{◌≡◌, Bool, Ok, ◌/◌, IsSome, IfSome
 ghost use Rattle.h1_head.specs.Date.{IsDateAt};
 ghost use Rattle.h1_error.specs.Memory.{no_memory};
 ghost use Rattle.h1_app.specs.declared.exchange.Stage.TheVariants as at;
-ghost use Rattle.h1_transcript.specs.declared.transcript.Entry.{Entry};
+ghost use Rattle.h1_transcript.specs.Entry.{Entry};
 ghost use Rattle.h1_app.specs.Beginning.{IsPieceOf, failure_of};
 ghost use Rattle.h1_app.specs.Turn.{LeavesBy};
 ghost use Rattle.h1_app.specs.Filtering.{FiltersStay, chain_of};
@@ -13,10 +13,11 @@ ghost use Rattle.h1_app.specs.Replying.{NotesBody, NotesHeader, StandsAfter, goi
 ghost use Rattle.h1_modules.specs.Filters.{run};
 ghost use Rattle.h1_modules.specs.Outcome.{ErrsBy, Piece, refused_by};
 ghost use Rattle.h1_server.specs.Replies.{kept_by};
+ghost use Rattle.h1_transcript.specs.declared.history.History.TheVariants.{Forgotten};
 
 use super::filtering::{filter_body, sent_header};
 use crate::exchange::{Exchange, Outcome, Stage};
-use crate::{Entry, HttpServer, LawfulFor, Reply, ServeHttp};
+use crate::{Entry, History, HttpServer, LawfulFor, Reply, ServeHttp};
 use bytes::Bytes;
 use futures::task::Poll;
 use h1_body::BodyBytes;
@@ -51,6 +52,16 @@ where
     ensures leaves { LeavesBy L.state exchange.old exchange.new result }
 {
     let entry = exchange.transcript.last_entry();
+    if modules.is_empty() && entry.history() == History::Forgotten {
+        let session = &mut exchange.session;
+        let answer = session.poll_write_response_header_ref(Some(own_header(entry)), now);
+        let headed = session.is_headed();
+        let date = session.date(now);
+        let keep = session.reply_keeps();
+        let written = session.written_bytes();
+        note_own_header(entry, headed, now, date, keep, written);
+        return stand(&mut exchange.stage, &answer, Stage::Header, Stage::TakeBody);
+    }
     let sent = match sent_header(alloc, entry, modules) {
         Ok(header) => header,
         Err(error) => return Outcome::Ends(End::Failed(error)),
@@ -84,7 +95,7 @@ pub(super) fn write_header<L: Link + Drop, SV: ServeHttp<L, C> + Drop, C: Drop>(
     let entry = exchange.transcript.last_entry();
     let mut taken = None;
     let answer = exchange.session.poll_write_response_header(&mut taken, now);
-    entry.written = exchange.session.written_bytes();
+    entry.note_written(exchange.session.written_bytes());
     stand(&mut exchange.stage, &answer, Stage::Header, Stage::TakeBody)
 }
 
@@ -122,7 +133,7 @@ where
         return Outcome::Done;
     }
     let answer = exchange.session.poll_write_body(&mut piece, now);
-    entry.written = exchange.session.written_bytes();
+    entry.note_written(exchange.session.written_bytes());
     stand(&mut exchange.stage, &answer, Stage::Body, Stage::Finish)
 }
 
@@ -144,7 +155,7 @@ pub(super) fn write_body<L: Link + Drop, SV: ServeHttp<L, C> + Drop, C: Drop>(
     let entry = exchange.transcript.last_entry();
     let mut taken = None;
     let answer = exchange.session.poll_write_body(&mut taken, now);
-    entry.written = exchange.session.written_bytes();
+    entry.note_written(exchange.session.written_bytes());
     stand(&mut exchange.stage, &answer, Stage::Body, Stage::Finish)
 }
 
@@ -165,12 +176,12 @@ pub(super) fn finish<L: Link + Drop, SV: ServeHttp<L, C> + Drop, C: Drop>(
 {
     let entry = exchange.transcript.last_entry();
     let answer = exchange.session.poll_finish_body(now);
-    entry.written = exchange.session.written_bytes();
+    entry.note_written(exchange.session.written_bytes());
     match answer {
         Poll::Pending => Outcome::Waits(Waiting::Write),
         Poll::Ready(Ok(_)) => {
-            entry.owed = false;
-            match entry.body_error {
+            entry.note_flushed();
+            match entry.body_error() {
                 Some(error) => Outcome::Ends(End::Failed(error)),
                 None => {
                     exchange.stage = Stage::Drain;
@@ -178,7 +189,7 @@ pub(super) fn finish<L: Link + Drop, SV: ServeHttp<L, C> + Drop, C: Drop>(
                 }
             }
         }
-        Poll::Ready(Err(error)) => Outcome::Ends(End::Failed(failure(entry.body_error, error))),
+        Poll::Ready(Err(error)) => Outcome::Ends(End::Failed(failure(entry.body_error(), error))),
     }
 }
 
@@ -208,12 +219,29 @@ fn note_header(
     ensures { NotesHeader (kept_by (Some sent) headed) sent now keep written entry.old entry.new }
 {
     if headed {
-        entry.sent_head = Some(sent);
-        entry.date = now / 1000;
-        entry.date_text = date;
-        entry.keep = keep;
-        entry.owed = true;
-        entry.written = written;
+        entry.note_header(sent, now / 1000, date, keep, written);
+    }
+}
+
+/// The same of the reply's own header, where exchanges are forgotten.
+#[inline(always)]
+fn note_own_header(
+    entry: &mut Entry,
+    headed: bool,
+    now: u64,
+    date: [u8; 29],
+    keep: bool,
+    written: u64,
+)
+    requires date { IsDateAt (now / 1000) date }
+    requires reply { IsSome entry.old.reply }
+    requires forgotten { entry.old.history ≡ Forgotten }
+    ensures { IfSome entry.old.reply (λ reply.
+        NotesHeader (kept_by (Some reply.header) headed) reply.header now keep written entry.old
+        entry.new) }
+{
+    if headed {
+        entry.note_own_header(now / 1000, date, keep, written);
     }
 }
 
@@ -234,17 +262,12 @@ fn note_body<M: HttpModule + Drop>(
         (λ reply. ErrsBy refused_by
         (run (M.response_body true) modules.old.modules (Some reply.body)) error)) }
 {
-    let body = shared_body(&mut entry.reply)?;
+    let body = entry.share_body()?;
     if !modules.is_empty() {
         return note_filtered(alloc, entry, modules, body);
     }
-    let piece = if body.is_empty() {
-        None
-    } else {
-        Some(body.clone()?)
-    };
-    entry.sent_body = Some(BodyBytes::from_shared(alloc, body));
-    Ok(piece)
+    let sent = entry.note_body(body)?;
+    Ok(piece_of(sent))
 }
 
 /// The same where there are modules.
@@ -266,36 +289,42 @@ fn note_filtered<M: HttpModule + Drop>(
         (λ reply. ErrsBy refused_by
         (run (M.response_body true) modules.old.modules (Some reply.body)) error)) }
 {
-    let sent = filter_body(alloc, body, modules)?;
-    let piece = going_piece(&entry.reply, &sent)?;
-    entry.sent_body = Some(BodyBytes::from_shared(alloc, sent));
-    Ok(piece)
+    let made = filter_body(alloc, body, modules)?;
+    let sent = entry.note_body(made)?;
+    Ok(going_piece(entry, sent))
 }
 
 /// What goes of a reply's body, of which the modules made these bytes, where that has any.
-fn going_piece(reply: &Option<Reply>, sent: &Bytes) -> Result<Option<Bytes>, Error>
-    requires { IsSome reply.now }
-    ensures ok { IfOk result (λ piece. IfSome reply.now (λ reply.
-        IsPieceOf (going reply sent.now) piece)) }
-    ensures err { IfErr result (λ error. error ≡ no_memory) }
+fn going_piece(entry: &Entry, sent: Bytes) -> Option<Bytes>
+    requires { IsSome entry.now.reply }
+    ensures { IfSome entry.now.reply (λ reply. IsPieceOf (going reply sent) result) }
 {
-    let Some(made) = reply else { unreachable!() };
-    if made.body.is_empty() || sent.is_empty() {
-        return Ok(None);
+    let Some(reply) = entry.reply() else {
+        unreachable!()
+    };
+    if reply.body.is_empty() {
+        None
+    } else {
+        piece_of(sent)
     }
-    Ok(Some(sent.clone()?))
 }
 
-/// The reply's body, to be held by others too.
+/// These bytes as a piece to write, where there are any.
 #[inline(always)]
-fn shared_body(reply: &mut Option<Reply>) -> Result<Bytes, Error>
-    requires { IsSome reply.old }
-    ensures ok { IfOk result (λ sent. IfSome reply.old (λ made. sent ≡ made.body)) }
-    ensures err { IfErr result (λ error. error ≡ no_memory) }
-    ensures kept { reply.new ≡ reply.old }
+fn piece_of(sent: Bytes) -> Option<Bytes>
+    ensures { IsPieceOf sent result }
 {
-    match reply {
-        Some(made) => made.body.share(),
+    if sent.is_empty() { None } else { Some(sent) }
+}
+
+/// The reply's own header.
+#[inline(always)]
+fn own_header(entry: &Entry) -> &ResponseHeader
+    requires { IsSome entry.now.reply }
+    ensures { IfSome entry.now.reply (λ reply. result.now ≡ reply.header) }
+{
+    match entry.reply() {
+        Some(reply) => &reply.header,
         None => unreachable!(),
     }
 }

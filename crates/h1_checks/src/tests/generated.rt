@@ -27,22 +27,12 @@ fn a_chunk_of_no_bytes_is_left_out(rt: HostRuntime) -> Result<(), Fail> {
     Ok(())
 }
 
-fn body_bytes(connection: &Echoed<MemLink>) -> usize {
-    let mut count = 0usize;
-    for i in 0..connection.transcript().len() {
-        if let Some(entry) = connection.transcript().get(i) {
-            count = count.saturating_add(entry.body.as_slice().len());
-        }
-    }
-    count
-}
-
 #[test]
 fn three_requests_are_served(rt: HostRuntime) -> Result<(), Fail> {
     let connection = serve_gen(rt.alloc(), 3)?;
     assert_eq!(rt; connection.end(), Some(End::Finished));
     assert_eq!(rt; connection.transcript().len(), 3);
-    assert_eq!(rt; body_bytes(&connection), 5);
+    assert_eq!(rt; connection.transcript().payload_len(), 5);
     assert_eq!(rt; connection.link().written().len(), 327);
     Ok(())
 }
@@ -61,6 +51,6 @@ fn a_thousand_requests_are_served(rt: HostRuntime) -> Result<(), Fail> {
     let connection = serve_gen(rt.alloc(), 1_000)?;
     assert_eq!(rt; connection.end(), Some(End::Finished));
     assert_eq!(rt; connection.transcript().len(), 1_000);
-    assert_eq!(rt; body_bytes(&connection), 2_002);
+    assert_eq!(rt; connection.transcript().payload_len(), 2_002);
     Ok(())
 }

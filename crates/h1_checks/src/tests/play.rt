@@ -1,10 +1,10 @@
 //! Connections that are played: a test is a list of steps.
 use crate::tests::applications::Refuses;
 use crate::tests::{
-    Served, body_error, connect, counts, end, exchanges, fail_next_read, fail_next_write,
-    forget_ended, give, into_link, is_shut, make_room, polled, polled_at, written,
+    Served, body_error, connect, connect_with, counts, end, exchanges, fail_next_read,
+    fail_next_write, give, into_link, is_shut, make_room, polled, polled_at, written,
 };
-use h1_app::{End, Error, ErrorType, Progress, ServeHttp, Waiting};
+use h1_app::{End, Error, ErrorType, History, Progress, ServeHttp, Waiting};
 use h1_echo::EchoApp;
 use h1_error::YEAR_10000;
 use h1_link::MemLink;
@@ -27,8 +27,6 @@ pub enum Step<'a> {
     ReadFails,
     /// The next write of the link is to fail.
     WriteFails,
-    /// The memory of the exchanges that ended is given back.
-    Forget,
     /// A poll at moment 0 has to wait.
     Waits(Waiting),
     /// A poll at moment 0 answers that the connection has ended.
@@ -62,6 +60,17 @@ pub(crate) fn play_echo(
     steps: &[Step],
 ) -> Result<MemLink, Error> {
     let served = connect(rt.alloc(), EchoApp, limit, link)?;
+    play(rt, served, steps)
+}
+
+/// Plays the steps with `EchoApp` over this link, on a connection that forgets its exchanges, and
+/// gives the link back. It promises nothing: an expectation that isn't met ends the test.
+pub(crate) fn play_forgetting(
+    rt: &(impl Abort + AllocGlobal),
+    link: MemLink,
+    steps: &[Step],
+) -> Result<MemLink, Error> {
+    let served = connect_with(rt.alloc(), EchoApp, None, History::Forgotten, link)?;
     play(rt, served, steps)
 }
 
@@ -108,7 +117,6 @@ fn act<SV: ServeHttp<MemLink, ()> + Drop>(
         Step::Room(count) => make_room(served, count),
         Step::ReadFails => fail_next_read(served),
         Step::WriteFails => fail_next_write(served),
-        Step::Forget => forget_ended(served),
         _ => {}
     }
     Ok(())

@@ -34,7 +34,7 @@ fn a_plain_server_has_nothing_set(rt: HostRuntime) -> Result<(), Fail> {
     let mut server = plain.into_server();
     server.server_options = Some(HttpServerOptions {
         keepalive_request_limit: Some(2),
-        allow_connect_method_proxying: false,
+        ..HttpServerOptions::default()
     });
     let options = HttpServerApp::<MemLink, ()>::server_options(&server);
     assert_eq!(rt;

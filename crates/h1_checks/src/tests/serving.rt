@@ -1,6 +1,6 @@
 //! Requests, their replies and the end, over a link that is ready and doesn't fail.
 use crate::tests::play::Step::*;
-use crate::tests::play::{play_echo, play_refusing};
+use crate::tests::play::{play_echo, play_forgetting, play_refusing};
 use crate::tests::{ended_link_of, link_of};
 use h1_app::{End, ErrorType, Waiting};
 use h1_link::MemLink;
@@ -50,29 +50,36 @@ fn requests_in_one_piece_are_replied_to_in_order(rt: HostRuntime) -> Result<(), 
 }
 
 #[test]
-fn the_exchange_that_goes_on_is_not_forgotten(rt: HostRuntime) -> Result<(), Fail> {
-    let link = link_of(rt.alloc(), b"GET /a HTTP/1.1\r\n\r\n")?;
-    let steps = [
+fn exchanges_that_are_forgotten_are_counted_and_replied_to_alike(
+    rt: HostRuntime,
+) -> Result<(), Fail> {
+    let requests = b"GET /a HTTP/1.1\r\n\r\nPOST /b HTTP/1.1\r\nContent-Length: 2\r\n\r\nx";
+    let kept = [
         Waits(Waiting::Read),
-        Give(b"POST /b HTTP/1.1\r\nContent-Length: 2\r\n\r\nx"),
-        Waits(Waiting::Read),
+        Exchanges(2),
         Counts(0, 106, 0),
         Counts(1, 0, 1),
-        Forget,
-        Exchanges(2),
-        Counts(0, 0, 0),
-        Counts(1, 0, 1),
         Give(b"y"),
-        Waits(Waiting::Read),
-        Counts(1, 110, 2),
-        Forget,
-        Counts(1, 0, 0),
         NoMore,
         Ends(End::Finished),
         Exchanges(2),
-        WroteLen(216),
+        Counts(1, 110, 2),
     ];
-    play_echo(&rt, None, link, &steps)?;
+    let forgotten = [
+        Waits(Waiting::Read),
+        Exchanges(2),
+        Counts(0, 0, 0),
+        Counts(1, 0, 0),
+        Give(b"y"),
+        NoMore,
+        Ends(End::Finished),
+        Exchanges(2),
+        Counts(1, 0, 0),
+    ];
+    let one = play_echo(&rt, None, link_of(rt.alloc(), requests)?, &kept)?;
+    let other = play_forgetting(&rt, link_of(rt.alloc(), requests)?, &forgotten)?;
+    assert_eq!(rt; one.written(), other.written());
+    assert_eq!(rt; one.written().len(), 216);
     Ok(())
 }
 

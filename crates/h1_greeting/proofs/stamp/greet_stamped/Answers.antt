@@ -5,7 +5,7 @@ use Rattle.h1_link.specs.MemState.{new_mem_state}
 use Rattle.h1_modules.specs.Builders.{placed}
 use Rattle.h1_transcript.specs.Agrees.{Agrees}
 use Rattle.h1_app.specs.Filtering.{rules_with}
-use Rattle.h1_app.specs.View.{entries}
+use Rattle.h1_app.specs.View.{entries, terms_of}
 use Rattle.h1_greeting.specs.declared.stamp.Stamp.{Stamp}
 use Rattle.h1_greeting.specs.Greeting.{Greeting}
 use Rattle.h1_greeting.specs.StampedLaw.{stamp_chain}
@@ -15,7 +15,7 @@ use Rattle.h1_greeting.proofs.stamp.greet_stamped.Goals as goal
 pub returns-clause-agrees : goal.returns-clause-agrees
 returns-clause-agrees c =
     subst (λ (stamps : List Stamp). IfOk c.serve.result (λ served.
-    Agrees (rules_with Greeting (stamp_chain stamps)) None new_mem_state.state
+    Agrees (rules_with Greeting (stamp_chain stamps)) (terms_of None) new_mem_state.state
     served.session.link.state (entries served)))
     (ap (λ s. s.modules) c.in_ok-add_module.ensures.ok
     ∙ ap (placed (λ (stamp : Stamp). pos 0) _) c.new_app-server.ensures.modules)

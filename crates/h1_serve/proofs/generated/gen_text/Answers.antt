@@ -9,6 +9,11 @@ served_text-requires-clause-small c =
     told_of c.args.count c.in_ok-connection.connection c.in_ok-connection.ensures.ok in
     omega (arith, told.few, c.requires)
 
+pub served_text-requires-clause-few : goal.served_text-requires-clause-few
+served_text-requires-clause-few c =
+    let many = c.in_ok-connection.ensures.ok.many in
+    omega (arith, many, c.requires)
+
 pub returns : goal.returns
 returns c =
     let served = c.in_ok-connection.connection in

@@ -1,4 +1,4 @@
-use Rattle.std.proofs.Common.{ap, sym, ◌∙◌, length, refl}
+use Rattle.std.proofs.Common.{ap, sym, ◌∙◌}
 use Rattle.h1_link.specs.MemState.{MemState}
 use Rattle.h1_serve.proofs.GeneratedLemmas.{tells_of}
 use Rattle.h1_serve.proofs.generated.served_text.Goals as goal
@@ -7,10 +7,10 @@ pub returns : goal.returns
 returns c =
     let told =
     ap (λ (l : MemState). l.state.written) (sym c.link.ensures) ∙ c.written.ensures in
-    tells_of c.args.connection.now c.in_ok-exchanges.exchanges.now
-    (length c.in_ok-exchanges.exchanges.now) c.body_bytes.result c.in-Some.end c.written.result.now c.push.new.self
-    (c.in_ok-exchanges.ensures ∙ c.transcript.ensures) refl c.body_bytes.ensures c.in-Some.ensures
-    c.requires.end told (record {
+    tells_of c.args.connection.now _ c.len.result c.payload_len.result c.in-Some.end
+    c.written.result.now c.push.new.self c.transcript-transcript.ensures.entries c.len.ensures
+    c.payload_len.ensures c.requires.few c.requires.small c.in-Some.ensures c.requires.end told
+    (record {
       none = c.new-text.result;
       one = c.push_count.new.text;
       two = c.push_count-2.new.text;

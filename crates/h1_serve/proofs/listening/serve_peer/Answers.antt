@@ -1,5 +1,5 @@
 use Rattle.std.proofs.Common.{ap, ◌∙◌}
-use Rattle.h1_app.specs.View.{limit_of}
+use Rattle.h1_app.specs.View.{terms_of}
 use Rattle.h1_serve.proofs.ListenLemmas.{served_of}
 use Rattle.h1_serve.proofs.listening.serve_peer.Goals as goal
 
@@ -12,9 +12,9 @@ pub returns-clause-answer : goal.returns-clause-answer
 returns-clause-answer g c =
     let fresh = c.in_ok-connection.ensures.fresh in
     let s = c.serve_link-answer.ensures in
-    let limit =
-    fresh.limit ∙ ap (λ s. limit_of s.server_options) c.in_ok-server.ensures.ok
+    let terms =
+    fresh.terms ∙ ap (λ s. terms_of s.server_options) c.in_ok-server.ensures.ok
     ∙ c.options_of-server.ensures in
-    served_of g.L.Link.state g.L.Link.same_plan _ _ c.args.link _ _ _ fresh.link limit
+    served_of g.L.Link.state g.L.Link.same_plan _ _ c.args.link _ _ _ fresh.link terms
     (record { done = fresh.done; last = fresh.last; work = fresh.work; end = fresh.end })
     c.in_ok-connection.ensures.accounted s.kept s.agrees s.answer

@@ -1,6 +1,7 @@
 use Rattle.std.proofs.Common.{◌≡◌, ◌∙◌, Some, subst}
 use Rattle.h1_link.specs.MemState.{MemState}
 use Rattle.h1_serve.proofs.LineLemmas.{goes_first, goes_next, goes_last, whole_text, next_in_time}
+use Rattle.h1_serve.proofs.KeptLemmas.{history_last, kept_last}
 use Rattle.h1_serve.proofs.scripted.play.Goals as goal
 
 pub obey-requires : goal.obey-requires
@@ -20,6 +21,18 @@ loop-command-init c =
     goes_first c.args.commands.now c.args.scripted.now c.new-text.result
     c.requires.order c.requires.running c.requires.state c.new-text.ensures
 
+pub all_exchanges-exchanges-requires : goal.all_exchanges-exchanges-requires
+all_exchanges-exchanges-requires c =
+    c.transcript.ensures.history
+    ∙ history_last c.args.commands.now c.loop-command.scripted c.loop-command.command-index
+    c.loop-command.text c.loop-command.invariant c.loop-command-test.false
+
+pub push_exchanges-requires : goal.push_exchanges-requires
+push_exchanges-requires c =
+    kept_last c.args.commands.now c.loop-command.scripted c.loop-command.command-index
+    c.loop-command.text _ c.loop-command.invariant c.loop-command-test.false
+    (c.all_exchanges-exchanges.ensures ∙ c.transcript.ensures.entries)
+
 pub returns : goal.returns
 returns c =
     let Written : MemState → Type 0 = λ link. link.state.written ≡ Some c.written.result.now in
@@ -27,5 +40,5 @@ returns c =
     c.loop-command.text c.written.result.now c.push_written.new.text
     c.loop-command.invariant c.loop-command-test.false (subst Written c.link.ensures c.written.ensures)
     (whole_text c.loop-command.text c.push_exchanges.new.text c.push_written.new.text _ _ c.written.result.now
-    c.in_ok-push_exchanges.ensures (c.in_ok-exchanges.ensures ∙ c.transcript.ensures)
+    c.in_ok-push_exchanges.ensures (c.all_exchanges-exchanges.ensures ∙ c.transcript.ensures.entries)
     c.in_ok-push_written.ensures)

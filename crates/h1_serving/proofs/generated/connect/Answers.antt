@@ -1,15 +1,15 @@
-use Rattle.std.proofs.Common.{ap, ◌∙◌}
+use Rattle.std.proofs.Common.{ap}
+use Rattle.h1_app.specs.View.{terms_of}
 use Rattle.h1_serving.proofs.WholeLemmas.{ready_of, fed_link, ok_of}
 use Rattle.h1_serving.proofs.generated.connect.Goals as goal
 
 pub returns-clause-ok : goal.returns-clause-ok
 returns-clause-ok c =
     let made = c.new-2.ensures in
-    let options =
-    ap (λ s. s.server_options) c.in_ok-server.ensures.ok ∙ c.new_app.ensures.options in
     let link =
     fed_link c.args.count _ _ _ _ c.in_ok-bytes.bytes.items c.new-link.ensures
     c.as_slice.ensures.value c.in_ok-bytes.ensures.ok c.in_ok-give.ensures.ok c.end.ensures in
     ok_of c.new-2.result _ _ _
-    (λ view fresh accounted. ready_of c.args.count _ _ _ view options link fresh accounted)
+    (λ view fresh accounted. ready_of c.args.count _ _ _ view
+    (ap (λ s. terms_of s.server_options) c.in_ok-server.ensures.ok) link fresh accounted)
     made.fresh made.accounted

@@ -17,7 +17,7 @@ pub loop-preserved : goal.loop-preserved
 loop-preserved g c =
     let p = c.poll-answer.ensures in
     let at = c.now-now.ensures in
-    rw (c.settle.ensures) (serving_on g.L.Link.state g.L.Link.same_plan (λ (job : EchoJob). ⊤) c.loop.counter
+    serving_on g.L.Link.state g.L.Link.same_plan (λ (job : EchoJob). ⊤) c.loop.counter
     (g.T.Clock.moment c.args.clock.now)
     (g.T.Clock.moment c.loop.clock)
     (g.T.Clock.moment c.now-now.new.self) c.args.connection.now
@@ -26,7 +26,7 @@ loop-preserved g c =
     (poll_of _ (none_plain c.poll-answer.new.self.served.builders) at.moment p.served p.later
     (poll_leaves p.leaves p.ended p.moves p.reads_not_ready p.others)
     p.plan p.accounted p.agrees p.extends p.cause p.timely)
-    (waiting_of c.poll-answer.result c.in_default.not-Ready))
+    (waiting_of c.poll-answer.result c.in_default.not-Ready)
 
 pub returns-in-Ready : goal.returns-in-Ready
 returns-in-Ready g c =

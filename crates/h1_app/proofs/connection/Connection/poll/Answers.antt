@@ -1,6 +1,6 @@
 -- A poll is its steps, with the budget set before them.
 use Rattle.std.proofs.Common.{Some, refl}
-use Rattle.h1_app.proofs.Words.{view_of, limit_of, served_by}
+use Rattle.h1_app.proofs.Words.{view_of, terms_of, served_by}
 use Rattle.h1_app.specs.Words.{arc_value}
 use Rattle.h1_app.proofs.AgreesLemmas.{agrees_sound}
 use Rattle.h1_app.proofs.BodyTimeLemmas.{body_itself}
@@ -50,7 +50,7 @@ pub returns-clause-cause : goal.returns-clause-cause
 returns-clause-cause g c = rw (← c.self.view_is) (given_none c.self.inside.end _ (λ before s.
     let server = arc_value c.self.inside.server in
     cause_same _ g.L.Link.state g.SV.ServeHttp.begins g.SV.ServeHttp.pends before
-    (view_of (served_by server.app server.modules) (limit_of server.server_options) c.self.inside.exchange c.self.inside.end)
+    (view_of (served_by server.app server.modules) (terms_of server.server_options) c.self.inside.exchange c.self.inside.end)
     c.go_on.new.self (Some 64) c.go_on.result
     (rw c.set_poll_budget.ensures at c.go_on.ensures.cause before
     (accounted_budget g.L.Link.state c.self.inside.exchange.session _ _ _ before _ refl s))))
@@ -67,7 +67,7 @@ pub returns-clause-timely : goal.returns-clause-timely
 returns-clause-timely g c = rw (← c.self.view_is) (given_none c.self.inside.end _
     (let server = arc_value c.self.inside.server in
     timely_same g.L.Link.state c.args.now
-    (view_of (served_by server.app server.modules) (limit_of server.server_options) c.self.inside.exchange c.self.inside.end)
+    (view_of (served_by server.app server.modules) (terms_of server.server_options) c.self.inside.exchange c.self.inside.end)
     c.go_on.new.self (Some 64) c.go_on.result
     (rw c.set_poll_budget.ensures at c.go_on.ensures.timely)))
 

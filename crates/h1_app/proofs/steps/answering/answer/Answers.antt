@@ -27,10 +27,12 @@ returns-in-Failed-clause-stepped g c = λ filters shutdown allowed.
 
 pub returns-in-Replied-clause-stepped : goal.returns-in-Replied-clause-stepped
 returns-in-Replied-clause-stepped g c = λ filters shutdown allowed.
-    asked_stepped g.L.Link.state g.SV.ServeHttp.pends _ (g.SV.ServeHttp.runs c.args.app.now) c.args.now
-    shutdown c.args.exchange.now _ c.last_entry-entry.result.now c.ask.new.entry c.in-Answer.job c.ask.new.job
-    (asked.Replied c.in-Replied.reply) c.requires.ready allowed c.in-Answer.is c.last_entry-entry.ensures.value refl refl
-    c.in-Replied.ensures.asks c.ask.ensures.timed c.in-Replied.ensures.runs c.in-Replied.ensures.gives c.in-Replied.ensures.pends
+    rw c.note_reply.ensures (asked_stepped g.L.Link.state g.SV.ServeHttp.pends _
+    (g.SV.ServeHttp.runs c.args.app.now) c.args.now shutdown c.args.exchange.now _
+    c.last_entry-entry.result.now c.ask.new.entry c.in-Answer.job c.ask.new.job
+    (asked.Replied c.in-Replied.reply) c.requires.ready allowed c.in-Answer.is
+    c.last_entry-entry.ensures.value refl refl c.in-Replied.ensures.asks c.ask.ensures.timed
+    c.in-Replied.ensures.runs c.in-Replied.ensures.gives c.in-Replied.ensures.pends)
 
 pub returns-in-Reads-clause-filters : goal.returns-in-Reads-clause-filters
 returns-in-Reads-clause-filters g c =
@@ -52,9 +54,10 @@ returns-in-Failed-clause-filters g c =
 
 pub returns-in-Replied-clause-filters : goal.returns-in-Replied-clause-filters
 returns-in-Replied-clause-filters g c =
-    asked_filters g.L.Link.state (g.SV.ServeHttp.runs c.args.app.now) c.args.now c.args.exchange.now
-    c.ask.new.session c.last_entry-entry.result.now c.ask.new.entry c.in-Answer.job (asked.Replied c.in-Replied.reply) c.requires.ready c.in-Answer.is
-    c.last_entry-entry.ensures.value c.in-Replied.ensures.asks
+    rw c.note_reply.ensures (asked_filters g.L.Link.state (g.SV.ServeHttp.runs c.args.app.now)
+    c.args.now c.args.exchange.now c.ask.new.session c.last_entry-entry.result.now c.ask.new.entry
+    c.in-Answer.job (asked.Replied c.in-Replied.reply) c.requires.ready c.in-Answer.is
+    c.last_entry-entry.ensures.value c.in-Replied.ensures.asks)
 
 pub returns-in-Reads-clause-leaves : goal.returns-in-Reads-clause-leaves
 returns-in-Reads-clause-leaves g c =
@@ -73,5 +76,6 @@ returns-in-Failed-clause-leaves g c =
 
 pub returns-in-Replied-clause-leaves : goal.returns-in-Replied-clause-leaves
 returns-in-Replied-clause-leaves g c =
-    asked_leaves g.L.Link.state _ _ c.last_entry-entry.result.now c.ask.new.entry
-    (record c.ask.new.entry { reply = Some c.in-Replied.reply }) _ c.ask.ensures.asks refl
+    rw c.note_reply.ensures (asked_leaves g.L.Link.state _ _ c.last_entry-entry.result.now
+    c.ask.new.entry (record c.ask.new.entry { reply = Some c.in-Replied.reply }) _
+    c.ask.ensures.asks refl)

@@ -8,28 +8,28 @@ pub returns-clause-asks : goal.returns-clause-asks
 returns-clause-asks g c =
     asked_as g.L.Link.state c.args.session.now c.keep_payload.new.self
     c.poll_response-answer.new.http c.take_waits-waits.new.self c.take_back.new.session
-    c.args.entry.now (record c.args.entry.now { body = c.replace.new.dest }) c.take_back.new.entry
+    c.args.entry.now c.take_body.new.self c.take_back.new.entry
     c.poll_response-answer.result c.take_waits-waits.result c.seen_as.result
-    (c.keep_payload.ensures ∙ ap (lent c.args.session.now) c.replace.ensures.value)
+    (c.keep_payload.ensures ∙ ap (lent c.args.session.now) c.take_body.ensures.taken)
     c.poll_response-answer.ensures.reads c.take_waits-waits.ensures.asked
-    c.take_waits-waits.ensures.rest c.take_back.ensures.session c.take_back.ensures.entry refl
-    c.seen_as.ensures
+    c.take_waits-waits.ensures.rest c.take_back.ensures.session c.take_back.ensures.entry
+    (rw c.take_body.ensures.rest refl) c.seen_as.ensures
 
 pub returns-clause-timed : goal.returns-clause-timed
 returns-clause-timed g c =
     asked_timed g.L.Link.state c.args.now c.args.session.now c.keep_payload.new.self
     c.poll_response-answer.new.http c.take_waits-waits.new.self c.take_back.new.session _
-    (c.keep_payload.ensures ∙ ap (lent c.args.session.now) c.replace.ensures.value)
+    (c.keep_payload.ensures ∙ ap (lent c.args.session.now) c.take_body.ensures.taken)
     c.poll_response-answer.ensures.timed c.take_waits-waits.ensures.rest c.take_back.ensures.session
 
 pub returns-clause-gives : goal.returns-clause-gives
 returns-clause-gives g c =
     λ head began asked runs.
-    let lent_is = c.keep_payload.ensures ∙ ap (lent c.args.session.now) c.replace.ensures.value in
+    let lent_is = c.keep_payload.ensures ∙ ap (lent c.args.session.now) c.take_body.ensures.taken in
     let gave = c.poll_response-answer.ensures.gives head began (rw lent_is asked)
     (rw lent_is runs) in
     let entry_is = c.take_back.ensures.entry ∙ ap
-    (noted (record c.args.entry.now { body = c.replace.new.dest }))
+    (noted c.take_body.new.self)
     c.take_waits-waits.ensures.rest in
     subst (λ (x : Entry). GivesAsked (g.SV.ServeHttp.gives c.args.app.now)
     (record (given_to x head) { began = began }) c.seen_as.result) (sym entry_is)

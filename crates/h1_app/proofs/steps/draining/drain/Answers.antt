@@ -13,7 +13,7 @@ pub returns-clause-continues : goal.returns-clause-continues
 returns-clause-continues g c =
     drain_continues g.L.Link.state _ _ _ _ _ _ _ _ _ c.requires.ready c.requires.at
     c.last_entry-entry.ensures.value c.reuse-answer.ensures.reuses c.reuse-answer.ensures.calls
-    c.stand.ensures _ _ _ _ refl c.reuse-answer.ensures.plan
+    c.stand.ensures _ _ _ _ refl refl c.reuse-answer.ensures.plan
 
 pub returns-clause-leaves : goal.returns-clause-leaves
 returns-clause-leaves g c =

@@ -11,8 +11,8 @@ empty_as (b ∷ bytes) = sym (ne_eqb (length (b ∷ bytes)) 0 (λ e. absurd (ome
 pub returns-in_err-filter_header-clause-err : goal.returns-in_err-filter_header-clause-err
 returns-in_err-filter_header-clause-err g c =
     rw (
-      c.in-Some.is,
+      ← c.in-Some.ensures,
       ← c.in_ok-header.ensures.ok,
-      empty_as c.in-Some.reply.body,
+      empty_as c.in-Some.reply.now.body,
       ← c.is_empty-then-not-is_empty.ensures,
     ) (search rules)

@@ -17,7 +17,7 @@ returns-clause-ok g c =
     filtered_head (chain g.B.HttpModuleBuilder.begins modules.request_header modules.response_header
     modules.response_body c.args.builders.now) c.args.session.now c.filter_noted.new.modules.modules
     c.args.transcript.now c.requires c.last_entry-entry.result.now c.req_header_mut-head.result.now
-    c.filter_noted.new.head c.filter_noted.new.filtered c.last_entry-entry.ensures.value
+    c.filter_noted.new.head c.filter_noted.new.entry c.last_entry-entry.ensures.value
     c.req_header_mut-head.ensures.value c.filter_noted.result c.filter_noted.ensures.ok
 
 pub returns-clause-err : goal.returns-clause-err
@@ -26,5 +26,5 @@ returns-clause-err g c =
     refused_head (chain g.B.HttpModuleBuilder.begins modules.request_header modules.response_header
     modules.response_body c.args.builders.now) c.args.session.now c.filter_noted.new.modules.modules
     c.args.transcript.now c.requires c.last_entry-entry.result.now c.req_header_mut-head.result.now
-    c.filter_noted.new.head c.filter_noted.new.filtered c.last_entry-entry.ensures.value
+    c.filter_noted.new.head c.filter_noted.new.entry c.last_entry-entry.ensures.value
     c.req_header_mut-head.ensures.value c.filter_noted.result c.filter_noted.ensures.err

@@ -1,4 +1,5 @@
 -- The application is started for what the filters made of the head, or not.
+use Rattle.std.proofs.Common.{◌∙◌}
 use Rattle.std.proofs.lemmas.Result.{err_from_is_err_and}
 use Rattle.h1_app.proofs.Words.{chain}
 use Rattle.h1_app.proofs.StartLemmas.{begun_for, refused_as, started_as}
@@ -31,3 +32,22 @@ returns-clause-started g c =
     c.in-Some.ensures (rw c.settings-settings.ensures at c.in_ok-begin_entry.ensures.ok)
     c.filter_head.new.transcript c.start_job.new.transcript c.start_job.result
     c.in_ok-filter_head.ensures.ok c.start_job.ensures.ok c.start_job.ensures.err
+
+pub returns-in_err-filter_head-clause-history : goal.returns-in_err-filter_head-clause-history
+returns-in_err-filter_head-clause-history g c =
+    c.filter_head.ensures.history ∙ c.begin_entry.ensures.history
+
+pub returns-in_err-filter_head-clause-kept : goal.returns-in_err-filter_head-clause-kept
+returns-in_err-filter_head-clause-kept g c =
+    c.filter_head.ensures.kept c.args.transcript.now.history c.args.transcript.now.last
+    c.begin_entry.ensures.kept
+
+pub returns-clause-history : goal.returns-clause-history
+returns-clause-history g c =
+    c.start_job.ensures.history ∙ c.filter_head.ensures.history ∙ c.begin_entry.ensures.history
+
+pub returns-clause-kept : goal.returns-clause-kept
+returns-clause-kept g c =
+    c.start_job.ensures.kept c.args.transcript.now.history c.args.transcript.now.last
+    (c.filter_head.ensures.kept c.args.transcript.now.history c.args.transcript.now.last
+    c.begin_entry.ensures.kept)

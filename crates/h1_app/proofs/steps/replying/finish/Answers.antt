@@ -10,8 +10,8 @@ returns-in-Pending-clause-stepped g c = λ filters shutdown allowed.
     finish_stepped g.L.Link.state _ _ _ c.args.now shutdown _ _ _ _ _
     (allowed_ready _ _ _ _ c.requires.ready allowed)
     (rw c.requires.at at c.requires.ready.sound) c.requires.at
-    c.poll_finish_body-answer.ensures.writes c.written_bytes-entry.ensures
-    (rw (c.last_entry-entry.ensures.value, c.in-Pending.is) (refl, refl, refl))
+    c.poll_finish_body-answer.ensures.writes c.written_bytes.ensures
+    (rw (c.last_entry-entry.ensures.value, c.note_written.ensures, c.in-Pending.is) (refl, refl, refl))
 
 pub returns-in-Some-clause-stepped : goal.returns-in-Some-clause-stepped
 returns-in-Some-clause-stepped g c = λ filters shutdown allowed.
@@ -19,8 +19,8 @@ returns-in-Some-clause-stepped g c = λ filters shutdown allowed.
     finish_stepped g.L.Link.state _ _ _ c.args.now shutdown _ _ _ _ _
     (allowed_ready _ _ _ _ c.requires.ready allowed)
     (rw c.requires.at at c.requires.ready.sound) c.requires.at
-    c.poll_finish_body-answer.ensures.writes c.written_bytes-entry.ensures
-    (rw (c.last_entry-entry.ensures.value, c.in-Ready-Ok.is, told) (refl, rw c.in-Some.is (refl, refl)))
+    c.poll_finish_body-answer.ensures.writes c.written_bytes.ensures
+    (rw (c.last_entry-entry.ensures.value, c.note_flushed.ensures, c.note_written.ensures, c.in-Ready-Ok.is, told) (refl, rw (← (rw (c.note_flushed.ensures, c.note_written.ensures) at c.in-Some.ensures)) (refl, refl)))
 
 pub returns-in-None-clause-stepped : goal.returns-in-None-clause-stepped
 returns-in-None-clause-stepped g c = λ filters shutdown allowed.
@@ -28,8 +28,8 @@ returns-in-None-clause-stepped g c = λ filters shutdown allowed.
     finish_stepped g.L.Link.state _ _ _ c.args.now shutdown _ _ _ _ _
     (allowed_ready _ _ _ _ c.requires.ready allowed)
     (rw c.requires.at at c.requires.ready.sound) c.requires.at
-    c.poll_finish_body-answer.ensures.writes c.written_bytes-entry.ensures
-    (rw (c.last_entry-entry.ensures.value, c.in-Ready-Ok.is, told) (refl, rw c.in-None.is (refl, refl)))
+    c.poll_finish_body-answer.ensures.writes c.written_bytes.ensures
+    (rw (c.last_entry-entry.ensures.value, c.note_flushed.ensures, c.note_written.ensures, c.in-Ready-Ok.is, told) (refl, rw (← (rw (c.note_flushed.ensures, c.note_written.ensures) at c.in-None.ensures)) (refl, refl)))
 
 pub returns-in-Ready-Err-clause-stepped : goal.returns-in-Ready-Err-clause-stepped
 returns-in-Ready-Err-clause-stepped g c = λ filters shutdown allowed.
@@ -37,8 +37,8 @@ returns-in-Ready-Err-clause-stepped g c = λ filters shutdown allowed.
     finish_stepped g.L.Link.state _ _ _ c.args.now shutdown _ _ _ _ _
     (allowed_ready _ _ _ _ c.requires.ready allowed)
     (rw c.requires.at at c.requires.ready.sound) c.requires.at
-    c.poll_finish_body-answer.ensures.writes c.written_bytes-entry.ensures
-    (rw (c.last_entry-entry.ensures.value, c.in-Ready-Err.is, told) (refl, refl, rw c.failure.ensures refl))
+    c.poll_finish_body-answer.ensures.writes c.written_bytes.ensures
+    (rw (c.last_entry-entry.ensures.value, c.note_written.ensures, c.in-Ready-Err.is, told) (refl, refl, rw (c.failure.ensures, c.body_error-in-Ready-Err.ensures, c.note_written.ensures) refl))
 
 pub returns-in-Ready-Err-clause-leaves : goal.returns-in-Ready-Err-clause-leaves
 returns-in-Ready-Err-clause-leaves g c =

@@ -41,17 +41,18 @@ returns-clause-stepped g c = λ shutdown.
     let f = c.note_body.new.entry in
     let made = body_made ready h c.in-Ok.piece c.note_body.new.modules.modules f
     (rw c.last_entry-entry.ensures.value c.in-Ok.ensures.ok) in
-    noted_with h.0 f made.bytes c.written_bytes-entry.result
+    noted_with h.0 f made.bytes c.written_bytes.result
     (taken_body_stepped g.L.Link.state _ _ _ c.args.now shutdown _ _ _
     (allowed_ready _ _ _ _ ready.ready ready.allowed) c.in-Ok.piece _ _ _ _ f h c.requires.at made
-    refl c.is_none.ensures c.if-is_none.false c.poll_write_body-answer.ensures.writes
-    c.written_bytes-entry.ensures c.stand.ensures) made.notes.entry refl
+    (rw c.note_written.ensures refl) c.is_none.ensures c.if-is_none.false
+    c.poll_write_body-answer.ensures.writes
+    c.written_bytes.ensures c.stand.ensures) made.notes.entry (rw c.note_written.ensures refl)
 
 pub returns-clause-continues : goal.returns-clause-continues
 returns-clause-continues g c =
     let call = c.poll_write_body-answer.ensures in
     call_continues g.L.Link.state _ _ _ _ _ _ _ (λ done. done) at.TakeBody at.Body at.Finish
-    c.requires.at refl call.plan tt tt tt call.calls (λ few. few) (λ few. omega (arith, few))
+    c.requires.at refl refl call.plan tt tt tt call.calls (λ few. few) (λ few. omega (arith, few))
     c.stand.ensures
 
 pub returns-clause-leaves : goal.returns-clause-leaves

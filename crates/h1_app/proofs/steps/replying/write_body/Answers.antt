@@ -11,14 +11,14 @@ returns-clause-stepped g c = λ filters shutdown allowed.
     body_stepped g.L.Link.state _ _ _ c.args.now shutdown _ _ _
     (allowed_ready _ _ _ _ c.requires.ready allowed) _ _ _
     (rw c.requires.at at c.requires.ready.sound) c.requires.at
-    (rw c.last_entry-entry.ensures.value refl) c.poll_write_body-answer.ensures.writes
-    c.written_bytes-entry.ensures c.stand.ensures
+    (rw (c.last_entry-entry.ensures.value, c.note_written.ensures) refl) c.poll_write_body-answer.ensures.writes
+    c.written_bytes.ensures c.stand.ensures
 
 pub returns-clause-continues : goal.returns-clause-continues
 returns-clause-continues g c =
     let call = c.poll_write_body-answer.ensures in
     call_continues g.L.Link.state _ _ _ _ _ _ _ (λ done. done) at.Body at.Body at.Finish
-    c.requires.at refl call.plan tt tt tt call.calls (λ few. few) (λ few. omega (arith, few))
+    c.requires.at refl refl call.plan tt tt tt call.calls (λ few. few) (λ few. omega (arith, few))
     c.stand.ensures
 
 pub returns-clause-leaves : goal.returns-clause-leaves

@@ -1,10 +1,8 @@
-use Rattle.std.proofs.Common.{sym, ◌∙◌}
-use Rattle.h1_transcript.specs.Entries.{exchanges_of}
-use Rattle.h1_transcript.proofs.EntryLemmas.{all_kept}
+use Rattle.std.proofs.Common.{Some, sym, ap, ◌∙◌}
+use Rattle.h1_transcript.proofs.EntryLemmas.{all_are}
 use Rattle.h1_transcript.proofs.transcript.Transcript.all.Goals as goal
 
-pub returns-then-self-eq0 : goal.returns-then-self-eq0
-returns-then-self-eq0 c =
-    rw (← c.self.view_is) (c.as_slice.ensures.value
-    ∙ all_kept (exchanges_of c.self.inside.past.items) c.self.inside.entries.items c.self.inside.ended
-    (sym c.if-self-eq0.true ∙ c.self.invariant.2) c.self.invariant.1)
+pub returns-in-Kept : goal.returns-in-Kept
+returns-in-Kept c =
+    rw (← c.self.view_is, c.in-Kept.is) (ap Some (c.as_slice.ensures.value
+    ∙ sym (all_are c.self.inside.entries.items c.self.inside.ended c.self.invariant.1)))

@@ -1,5 +1,5 @@
 use Rattle.std.proofs.Common.{refl}
-use Rattle.h1_transcript.proofs.EntryLemmas.{last_changes, last_is}
+use Rattle.h1_transcript.proofs.EntryLemmas.{ended_same, last_changes, last_is}
 use Rattle.h1_transcript.proofs.transcript.Transcript.last_entry.Goals as goal
 
 pub returns : goal.returns
@@ -9,9 +9,10 @@ returns c =
     rw (← c.self.view_is) (
       (
         refl,
-        λ w.
-            let changed = last_changes entries c.self.inside.ended w some in
-            rw (changed.0, changed.1) refl,
+        λ w. rw (
+          ended_same _ _ c.self.inside.ended entries w some,
+          (last_changes entries c.self.inside.ended w some).1,
+        ) refl,
       ),
       record {
         lends = tt;
