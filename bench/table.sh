@@ -58,6 +58,7 @@ row 'a request of gen' "$fewer" "$more" 3000
 serving 'a GET of one field, pipelined' get 1000 4000 $whole
 serving 'a GET of one field, one in each poll' get 1000 4000 $one_get
 serving 'a GET of nine fields, pipelined' browser 500 2000 $whole
+serving 'a POST of 100 bytes, pipelined' post 1000 4000 $whole
 serving 'a byte of a counted body, whole' counted 65536 1048576 $whole
 serving 'a byte of a counted body, in pieces of 64' counted 65536 1048576 64
 serving 'a byte of a body in chunks of 4,096, whole' chunked 65536 1048576 $whole

@@ -16,6 +16,9 @@ const BROWSER_GET: &[u8] = b"GET /news/today?page=2 HTTP/1.1\r\n\
     Upgrade-Insecure-Requests: 1\r\n\
     \r\n";
 
+const POST: &[u8] = b"POST / HTTP/1.1\r\nHost: a\r\nContent-Length: 100\r\n\r\n\
+    0123456789012345678901234567890123456789012345678901234567890123456789012345678901234567890123456789";
+
 /// How many bytes a chunk has, and the line that states it (RFC 9112, section 7.1).
 const CHUNK: usize = 0x1000;
 
@@ -24,14 +27,15 @@ const SIZE_LINE: &[u8] = b"1000\r\n";
 /// How many long lines a long head has.
 const LONG_LINES: usize = 8;
 
-/// The input of this kind: so many requests of the kinds `get` and `browser`, one request with so
-/// many bytes of body of the kinds `counted` and `chunked` (of which only whole chunks are made),
+/// The input of this kind: so many requests of the kinds `get`, `browser` and `post`, one request
+/// with so many bytes of body of the kinds `counted` and `chunked` (of which only whole chunks are made),
 /// and one with a head of about so many bytes of the kind `head`. None where there is no such kind.
 pub(crate) fn input(alloc: Global, kind: &str, count: usize) -> Result<Option<Vec<u8>>, Error> {
     let mut bytes = Vec::new(alloc);
     match kind {
         "get" => push_often(&mut bytes, GET, count)?,
         "browser" => push_often(&mut bytes, BROWSER_GET, count)?,
+        "post" => push_often(&mut bytes, POST, count)?,
         "counted" => push_counted(alloc, &mut bytes, count)?,
         "chunked" => push_chunked(&mut bytes, count)?,
         "head" => push_head(&mut bytes, count)?,
