@@ -1,11 +1,12 @@
 -- How what was read and written since goes on with each step.
-use Rattle.std.proofs.Common.{◌≡◌, ℕ, Bool, ◌+◌, ◌-◌, ◌^◌, ◌<◌, ◌≤◌, ◌⊎◌, inl, inr, true, false, min, List, [], ◌∷◌, ◌++◌, length, drop, Option, Some, None, IfSome, option_map, refl, sym, ◌∙◌, ap, subst, arith, append_assoc, length-append}
+use Rattle.std.proofs.Common.{◌≡◌, ℕ, Bool, ◌+◌, ◌-◌, ◌^◌, ◌<◌, ◌≤◌, ◌⊎◌, inl, inr, true, false, min, List, [], ◌∷◌, ◌++◌, length, drop, Option, Some, None, IfSome, option_map, refl, sym, ◌∙◌, ap, subst, arith, append-nil, append_assoc, length-append}
 use Rattle.std.proofs.lemmas.List.{drop-append-le}
 use Rattle.std.specs.Io.KnownBytes.{append_known}
-use Rattle.h1_app.specs.Words.{LinkState, RoseBy, Later, ResponseView, HeadAt, body, reads, HasRead, framing, Framing, BodyReader, Decoded, ahead, Error, ErrorType, Received, SessionView, allowance, Request, Settings, Entry, wish, IfTold, ReadBehind, WroteBehind, AfterRead, AfterWrote, FlushedBy, written_of, FailureCause, EndCause, LacksSo, AreAllDone, End, no_memory}
+use Rattle.h1_app.specs.Words.{LinkState, RoseBy, Later, ResponseView, HeadAt, body, reads, HasRead, framing, Framing, BodyReader, Decoded, ahead, Error, ErrorType, Received, SessionView, allowance, Request, Settings, Entry, wish, IfTold, ReadBehind, WroteBehind, AfterRead, AfterWrote, FlushedBy, written_of, FailureCause, EndCause, LacksSo, AreAllDone, End, no_memory, Payload, grown}
 use Rattle.h1_link.proofs.Laters.{later_on}
 use Rattle.h1_head.specs.RequestHead.{RefusedAt, NotYetAt}
 use Rattle.h1_head.proofs.RequestHeadLemmas.{HeadAt-append}
+use Rattle.h1_body.specs.Body.{payload_of}
 use Rattle.h1_body.proofs.RunLemmas.{ahead-ahead}
 use Rattle.h1_application.proofs.ReadLemmas.{budget_spent, within_spent}
 use Rattle.h1_body.proofs.ReadLemmas.{read_none}
@@ -38,25 +39,46 @@ settled_on before now later done (Some e) le h =
     settled_later e.sent_head e.owed (written_of done + e.written) before now later le h
 
 -- a body that can't be read on stays so
-pub stops_on : {L C : Type 0} (state : L → LinkState) (old new : SessionView L C) (k : ErrorType)
+pub stops_on : {L C : Type 0} (state : L → LinkState) (old new : SessionView L C) (payload : Payload)
+    (piece : List ℕ) (k : ErrorType)
     → new.body.reader ≡ old.body.reader → new.received ≡ old.received
     → ((state old.link).ended ≡ true → (state new.link).ended ≡ true)
-    → StopsBody state old k → StopsBody state new k
-stops_on state old new kind.InvalidBody reader received ends h = rw reader h
-stops_on state old new kind.ConnectionClosed reader received ends h =
+    → StopsBody state old payload k → StopsBody state new (grown piece payload) k
+stops_on state old new payload piece kind.InvalidBody reader received ends h = rw reader h
+stops_on state old new payload piece kind.ConnectionClosed reader received ends h =
     (ends h.0, rw (received, reader) h.1)
-stops_on state old new kind.ReadError reader received ends h = rw (received, reader) h
-stops_on state old new kind.ReadTimedout reader received ends h = rw (received, reader) h
-stops_on state old new kind.NoMemory reader received ends h = tt
-stops_on state old new _ reader received ends h = absurd h
+stops_on state old new payload piece kind.ReadError reader received ends h = rw (received, reader) h
+stops_on state old new payload piece kind.ReadTimedout reader received ends h = rw (received, reader) h
+stops_on state old new payload piece kind.ContentTooLarge reader received ends h =
+    rw (received, reader) (longer (payload_of (reads old.body.reader old.received)) h)
+  where
+    longer : (rest : List ℕ) → payload.gathering.limit < length (payload.bytes ++ rest)
+        → payload.gathering.limit < length ((payload.bytes ++ piece) ++ rest)
+    longer rest h = omega (
+      arith,
+      h,
+      length-append payload.bytes rest,
+      length-append payload.bytes piece,
+      length-append (payload.bytes ++ piece) rest,
+    )
+stops_on state old new payload piece kind.NoMemory reader received ends h = tt
+stops_on state old new payload piece _ reader received ends h = absurd h
 
-pub stopped_on : {L C : Type 0} (state : L → LinkState) (old new : SessionView L C)
+stops_so : {L C : Type 0} (state : L → LinkState) (old new : SessionView L C) (payload : Payload)
+    (k : ErrorType) → new.body.reader ≡ old.body.reader → new.received ≡ old.received
+    → ((state old.link).ended ≡ true → (state new.link).ended ≡ true)
+    → StopsBody state old payload k → StopsBody state new payload k
+stops_so state old new payload k reader received ends h =
+    subst (λ bytes. StopsBody state new (record payload { bytes = bytes }) k) (append-nil payload.bytes)
+    (stops_on state old new payload [] k reader received ends h)
+
+pub stopped_on : {L C : Type 0} (state : L → LinkState) (old new : SessionView L C) (payload : Payload)
     (error : Option Error) → new.body ≡ old.body → new.received ≡ old.received
     → Later (state old.link) (state new.link)
-    → IfSome error (StopsWith state old) → IfSome error (StopsWith state new)
-stopped_on state old new None body received later h = tt
-stopped_on state old new (Some error) body received later h = (
-  stops_on state old new error.kind (ap (λ b. b.reader) body) received later.ended h.0,
+    → IfSome error (StopsWith state old payload) → IfSome error (StopsWith state new payload)
+stopped_on state old new payload None body received later h = tt
+stopped_on state old new payload (Some error) body received later h = (
+  stops_so state old new payload error.kind (ap (λ b. b.reader) body) received later.ended h.0,
   h.1,
 )
 

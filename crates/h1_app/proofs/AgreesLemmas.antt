@@ -1,11 +1,11 @@
 -- A connection's transcript agrees with what its link gave and took.
-use Rattle.std.proofs.Common.{◌≡◌, ℕ, ◌+◌, ◌-◌, ◌^◌, min, drop, ap, append-nil, List, [], ◌∷◌, ◌++◌, length, false, option_to_list, Option, Some, None, IfSome, refl, sym, ◌∙◌, append_assoc}
-use Rattle.h1_app.specs.Words.{Rules, Terms, AllByRecursion, End, Error, ErrorType, LinkState, Body, whole, unfinished, broken, ahead, body, reads, HasRead, framing, SessionView, Reply, Entry, Stage, StoodAs, ReadBehind, WroteBehind, AfterRead, AfterWrote, DoneBehind, FlushedBy, render, IsAllowed}
+use Rattle.std.proofs.Common.{◌≡◌, ℕ, ◌+◌, ◌-◌, ◌^◌, min, drop, ap, append-nil, List, [], ◌∷◌, ◌++◌, length, false, option_to_list, Option, Some, None, IfSome, refl, sym, ◌∙◌, append_assoc, subst, ◌<◌}
+use Rattle.h1_app.specs.Words.{Rules, Terms, AllByRecursion, End, Error, ErrorType, LinkState, Body, whole, unfinished, broken, ahead, body, reads, HasRead, framing, SessionView, Reply, Entry, Stage, StoodAs, ReadBehind, WroteBehind, AfterRead, AfterWrote, DoneBehind, FlushedBy, render, IsAllowed, payload_in}
 use Rattle.h1_application.specs.Application.{Runs}
 use Rattle.h1_error.specs.declared.error.ErrorType.TheVariants as kind
 use Rattle.h1_body.specs.Body.{payload_of}
 use Rattle.h1_body.proofs.ReadLemmas.{read_is}
-use Rattle.h1_transfer.proofs.BodyLemmas.{payload_ahead}
+use Rattle.h1_body.proofs.PayloadLemmas.{payload_ahead}
 use Rattle.h1_transcript.specs.Agrees.{Agrees, AreOf, AreReplies, AreDone, RefusalOf}
 use Rattle.h1_app.proofs.Words.{Accounted, ReadEntry, ReadSo, WroteSo, StoppedSo, StoodSo, StopsBody, StopsWith, coming, Sound, IsKept}
 use Rattle.h1_transcript.specs.Stream.{Message, Begins, BehindBody}
@@ -30,7 +30,7 @@ replied_as session e used (Some reply) stood read = stood_as e.how e used sessio
 -- why the body can't be read on is what its bytes say
 refused_as : {L C : Type 0} (state : L → LinkState) (session : SessionView L C) (e : Entry)
     (used : List ℕ) (k : ErrorType)
-    → StopsBody state session k → HasRead (framing e.head) used e.body session.body.reader
+    → StopsBody state session (payload_in e) k → HasRead (framing e.head) used e.body session.body.reader
     → RefusalOf (state session.link) e
     (ahead e.body (length used) (reads session.body.reader session.received)) k
 refused_as state session e used kind.InvalidBody stops read =
@@ -50,12 +50,15 @@ refused_as state session e used kind.ReadError stops read =
 refused_as state session e used kind.ReadTimedout stops read =
     ap (λ xs. ahead e.body (length used) (reads session.body.reader xs)) stops.0
     ∙ ap (ahead e.body (length used)) stops.1 ∙ ap unfinished (append-nil e.body)
+refused_as state session e used kind.ContentTooLarge stops read =
+    subst (λ bytes. e.holding.limit < length bytes)
+    (sym (payload_ahead e.body (length used) (reads session.body.reader session.received))) stops
 refused_as state session e used kind.NoMemory stops read = tt
 refused_as state session e used _ stops read = absurd stops
 
 refusal_as : {L C : Type 0} (state : L → LinkState) (session : SessionView L C) (e : Entry)
     (used : List ℕ) (refused : Option Error)
-    → IfSome refused (StopsWith state session)
+    → IfSome refused (StopsWith state session (payload_in e))
     → HasRead (framing e.head) used e.body session.body.reader → IfSome refused
     (λ error. RefusalOf (state session.link) e
     (ahead e.body (length used) (reads session.body.reader session.received)) error.kind
@@ -67,7 +70,7 @@ refusal_as state session e used (Some error) stops read =
 -- the bytes begin with the request of the exchange
 one_request : {L C : Type 0} (state : L → LinkState) (since : List ℕ) (session : SessionView L C)
     (e : Entry)
-    → IfSome e.body_error (StopsWith state session) → ReadEntry since e session
+    → IfSome e.body_error (StopsWith state session (payload_in e)) → ReadEntry since e session
     → (requests : List Message) × Begins since requests
     × AreOf (state session.link) (e ∷ []) requests
 one_request state since session e stopped h =

@@ -1,16 +1,19 @@
 -- Steps in which the application goes on.
+use Rattle.h1_app.specs.Waits.{OthersFew}
+use Rattle.h1_app.specs.Step.{JobFrom}
 use Rattle.std.proofs.Common.{◌≡◌, ℕ, ◌+◌, ◌-◌, ◌<◌, ◌≤◌, ◌⊎◌, inl, inr, List, [], ◌∷◌, ◌++◌, Bool, true, false, Option, Some, None, IfSome, option_map, unwrap_or, refl, sym, ◌∙◌, ap, subst, length, length-append, arith}
 use Rattle.std.proofs.lemmas.Option.{IfSome_then, same_Some}
-use Rattle.h1_app.specs.Words.{Given, Rules, Error, ErrorType, no_memory, BodyRefusal, LinkState, Rose, RequestView, SessionView, Settings, Request, Reply, Entry, Exchange, Outcome, Stage, Asked, ReadsOnly, given_to, how_of, payload_of, LacksSo, IsAllowed, Grows, Stays}
+use Rattle.h1_app.specs.Words.{Given, Rules, Error, ErrorType, no_memory, BodyRefusal, LinkState, Rose, RequestView, SessionView, Settings, Request, Reply, Entry, Exchange, Outcome, Stage, ReadsOnly, given_to, how_of, payload_of, LacksSo, IsAllowed, Grows, Stays, Payload, grown, payload_in}
 use Rattle.h1_error.specs.declared.error.ErrorType.TheVariants as kind
 use Rattle.h1_error.specs.declared.progress.End.TheVariants as end
 use Rattle.h1_app.specs.declared.exchange.Outcome.TheVariants as outcome
 use Rattle.h1_app.specs.declared.exchange.Stage.TheVariants as stage
-use Rattle.h1_app.specs.declared.steps.answering.Asked.TheVariants as asked
+use Rattle.h1_app.specs.Heard.{Heard}
+use Rattle.h1_app.specs.Heard as asked
 use Rattle.h1_error.specs.declared.progress.Waiting.TheVariants as waiting
 use Rattle.h1_application.specs.Application.{IsAskedFor, ReadsInTime, RefusedBy, RefusesWith, WaitsBy, Runs}
 use Rattle.h1_application.proofs.TimeLemmas.{limit_is, limit_stays}
-use Rattle.h1_app.specs.Asking.{PendsAsked, RunsOn}
+use Rattle.h1_app.specs.Asking.{PendsAsked, RunsOn, entry_after, outcome_after, stage_after}
 use Rattle.h1_app.proofs.ReplyLemmas.{at_some}
 use Rattle.h1_app.proofs.Words.{AsksAs, GivesAsked, FiltersStay, StepReady, ahead, noted, Accounted, StopsBody, StopsWith, StoodSo, SoundStage, IsAnswering, IsKept, IsUnwritten, SameFiltered, lent, Stepped, MovesWithin, OutcomeCause, FewReadsNotReady}
 use Rattle.h1_app.specs.Answering.{IsAskedIn, bare}
@@ -25,6 +28,7 @@ use Rattle.h1_app.proofs.BodyTimeLemmas.{body_asked, noted_at_in}
 use Rattle.h1_app.proofs.StepLemmas.{grown_stepped}
 use Rattle.h1_app.proofs.StoodLemmas.{stood_so}
 use Rattle.h1_app.proofs.AccountedLemmas.{accounted_read, entry_on, stops_on}
+use Rattle.h1_transfer.specs.Decoding.{noted_of}
 
 -- the application's stage, taken apart
 pub at_answer : {L C J : Type 0} (runs : Runs J)
@@ -44,28 +48,32 @@ asked_for : {L C : Type 0} (session : SessionView L C) (request : Request)
 asked_for session request is = rw is refl
 
 -- what was handed out joins the payload
-payload_is : {L C : Type 0} (state : L → LinkState) (old behind : SessionView L C) (body : List ℕ)
-    (r : ReadsOnly state (lent old body) behind) → payload_of behind ≡ body ++ r.payload
-payload_is state old behind body r = ap (λ x. unwrap_or x []) r.kept
+payload_is : {L C : Type 0} (state : L → LinkState) (old behind : SessionView L C) (payload : Payload)
+    (r : ReadsOnly state (lent old payload) behind) → payload_of behind ≡ payload.bytes ++ r.payload
+payload_is state old behind payload r = ap noted_of r.kept
 
 -- a refusal in the call says why the body can't be read on
 refusal_stops : {L C : Type 0} (state : L → LinkState) (old behind : SessionView L C)
-    (k : ErrorType) → BodyRefusal state old behind k → StopsBody state behind k
-refusal_stops state old behind kind.InvalidBody h = h
-refusal_stops state old behind kind.ConnectionClosed h = h
-refusal_stops state old behind kind.ReadError h = h.1
-refusal_stops state old behind kind.ReadTimedout h = h.1
-refusal_stops state old behind kind.NoMemory h = tt
-refusal_stops state old behind _ h = absurd h
+    (payload : Payload) → behind.body.kept ≡ Some payload
+    → (k : ErrorType) → BodyRefusal state old behind k → StopsBody state behind payload k
+refusal_stops state old behind payload is kind.InvalidBody h = h
+refusal_stops state old behind payload is kind.ConnectionClosed h = h
+refusal_stops state old behind payload is kind.ReadError h = h.1
+refusal_stops state old behind payload is kind.ReadTimedout h = h.1
+refusal_stops state old behind payload is kind.ContentTooLarge h = rw is at h
+refusal_stops state old behind payload is kind.NoMemory h = tt
+refusal_stops state old behind payload is _ h = absurd h
 
 -- why the body can't be read on, where it can't: for an earlier error, or a new one
 stopped_by : {L C : Type 0} (state : L → LinkState) (old behind : SessionView L C)
-    (was : Option Error) → RefusedBy state old behind was
-    → IfSome was (StopsWith state old) → IfSome behind.body.refused (StopsWith state behind)
-stopped_by state old behind None h s = IfSome_then behind.body.refused h
-    (λ error refused. (refusal_stops state old behind error.kind refused.0, refused.1))
-stopped_by state old behind (Some error) h s =
-    rw h.0 (stops_on state old behind error.kind h.1 h.2 (λ was. h.3 ∙ was) s.0, s.1)
+    (payload : Payload) (piece : List ℕ) → behind.body.kept ≡ Some (grown piece payload)
+    → (was : Option Error) → RefusedBy state old behind was
+    → IfSome was (StopsWith state old payload)
+    → IfSome behind.body.refused (StopsWith state behind (grown piece payload))
+stopped_by state old behind payload piece is None h s = IfSome_then behind.body.refused h
+    (λ error refused. (refusal_stops state old behind (grown piece payload) is error.kind refused.0, refused.1))
+stopped_by state old behind payload piece is (Some error) h s =
+    rw h.0 (stops_on state old behind payload piece error.kind h.1 h.2 (λ was. h.3 ∙ was) s.0, s.1)
 
 -- what holds anyhow
 where_replied : (P : Type 0) (reply : Option Reply) → P → IfSome reply (λ _. P)
@@ -79,7 +87,7 @@ given_back behind = record behind { body = record behind.body { kept = None; wai
 -- what was given and taken goes on as the application reads; its reply may join the exchange
 asked_accounted : {L C : Type 0} (state : L → LinkState) (old behind : SessionView L C) (e : Entry)
     (reply : Option Reply) (before : LinkState) (done : List Entry)
-    → IsAnswering e old → ReadsOnly state (lent old e.body) behind
+    → IsAnswering e old → ReadsOnly state (lent old (payload_in e)) behind
     → Accounted state before old done (Some e) → Accounted state before (given_back behind) done
     (Some (record (noted e behind) { reply = reply }))
 asked_accounted {L} {C} state old behind e reply before done a r s =
@@ -88,24 +96,26 @@ asked_accounted {L} {C} state old behind e reply before done a r s =
     accounted_read state old new (Some e) (Some f) r.piece before done r.moved.later r.moved.given
     r.moved.written r.reply
     (λ rest p. entry_on old new e f r.piece r.used r.payload rest refl refl
-    (payload_is state old behind e.body r) r.bytes r.decoded
+    (payload_is state old behind (payload_in e) r) r.bytes r.decoded
     (λ front read stood. where_replied (StoodSo f.how f new.body) reply
     (stood_so f (front ++ r.used) new.body read refl refl refl)) p)
     (λ rest h. rw (r.reply, a.sent_head, a.sent_body) (rw (a.sent_head, a.sent_body) at h))
-    (stopped_by state (lent old e.body) behind old.body.refused r.refused
-    (subst (λ o. IfSome o (StopsWith state old)) a.asked.body_error s.stopped))
+    (subst (λ bytes. IfSome behind.body.refused (StopsWith state new (record (payload_in e) { bytes = bytes })))
+    (sym (payload_is state old behind (payload_in e) r))
+    (stopped_by state (lent old (payload_in e)) behind (payload_in e) r.payload r.kept old.body.refused r.refused
+    (subst (λ o. IfSome o (StopsWith state old (payload_in e))) a.asked.body_error s.stopped)))
     (rw a.sent_head tt) s
 
 -- an exchange whose application was asked is what the session read for it, and a reply that may have
 -- joined it
 asked_is : {L C : Type 0} {state : L → LinkState} {old new : SessionView L C} {e e2 : Entry} (e3 : Entry)
-    {answer : Asked} → e3 ≡ record e2 { reply = e3.reply }
+    {answer : Heard} → e3 ≡ record e2 { reply = e3.reply }
     → (h : AsksAs state old new e e2 answer) → e3 ≡ record (noted e h.behind) { reply = e3.reply }
 asked_is e3 like h = like ∙ ap (λ (x : Entry). record x { reply = e3.reply }) h.entry
 
 -- it is still that of the session's request
 asked_still : {L C : Type 0} (state : L → LinkState) (old new : SessionView L C) (e e2 e3 : Entry)
-    (answer : Asked) (request : Request) → e3 ≡ record e2 { reply = e3.reply }
+    (answer : Heard) (request : Request) → e3 ≡ record e2 { reply = e3.reply }
     → IsAskedIn e (bare old) request → AsksAs state old new e e2 answer
     → IsAskedIn e3 (bare new) request
 asked_still {L} {C} state old new e e2 e3 answer request like a h =
@@ -131,14 +141,14 @@ asked_still {L} {C} state old new e e2 e3 answer request like a h =
 
 -- nothing of a reply was taken up in the call
 unwritten_still : {L C : Type 0} (state : L → LinkState) (old new : SessionView L C) (e e2 : Entry)
-    (answer : Asked) → AsksAs state old new e e2 answer → IsUnwritten old.reply → IsUnwritten new.reply
+    (answer : Heard) → AsksAs state old new e e2 answer → IsUnwritten old.reply → IsUnwritten new.reply
 unwritten_still {L} {C} state old new e e2 answer h unwritten =
     subst IsUnwritten (sym (ap (λ (x : SessionView L C). x.reply) h.session ∙ h.reads.reply)) unwritten
 
 -- a job that goes on runs for the exchange, which still awaits its reply
 still_answers : {L C J : Type 0} (state : L → LinkState)
     (runs : Runs J) (old new : SessionView L C)
-    (e e2 : Entry) (job : J) (answer : Asked) (a : IsAnswering e old)
+    (e e2 : Entry) (job : J) (answer : Heard) (a : IsAnswering e old)
     → AsksAs state old new e e2 answer
     → runs job a.request.header e.began new.settings e2.body new.read_limit
     → SoundStage runs new (Some e2) (stage.Answer job)
@@ -159,14 +169,14 @@ still_answers state runs old new e e2 job answer a h on = (
 
 -- nothing of a reply is there until the answer
 still_unreplied : {L C : Type 0} (state : L → LinkState) (old new : SessionView L C)
-    (e e2 : Entry) (answer : Asked) → IsAnswering e old → AsksAs state old new e e2 answer
+    (e e2 : Entry) (answer : Heard) → IsAnswering e old → AsksAs state old new e e2 answer
     → e2.reply ≡ None
 still_unreplied state old new e e2 answer a h = ap (λ (x : Entry). x.reply) h.entry ∙ a.reply
 
 -- the reply joins the exchange, and its header is taken up next
 now_replied : {L C J : Type 0} (state : L → LinkState)
     (runs : Runs J) (old new : SessionView L C)
-    (e e2 : Entry) (reply : Reply) (answer : Asked) → IsAnswering e old
+    (e e2 : Entry) (reply : Reply) (answer : Heard) → IsAnswering e old
     → AsksAs state old new e e2 answer
     → SoundStage runs new (Some (record e2 { reply = Some reply })) stage.TakeHeader
 now_replied {L} {C} state runs old new e e2 reply answer a h = (
@@ -187,7 +197,7 @@ now_replied {L} {C} state runs old new e e2 reply answer a h = (
 
 -- the exchange is allowed as before, where the reply that joined it is one that the application gives
 allowed_asked : {L C : Type 0} (state : L → LinkState) (rules : Rules) (old new : SessionView L C)
-    (e e2 e3 : Entry) (answer : Asked) → e3 ≡ record e2 { reply = e3.reply }
+    (e e2 e3 : Entry) (answer : Heard) → e3 ≡ record e2 { reply = e3.reply }
     → (a : IsAnswering e old) → AsksAs state old new e e2 answer → IsLimitOf e3.body_error e3.read_limit
     → IsAllowed rules e
     → IfSome e3.reply (λ reply.
@@ -219,14 +229,14 @@ allowed_asked {L} {C} state rules old new e e2 e3 answer like a h limit allowed 
 
 -- the exchange says how much of its reply the session wrote
 kept_asked : {L C : Type 0} (state : L → LinkState) (old new : SessionView L C) (e e2 e3 : Entry)
-    (answer : Asked) → e3 ≡ record e2 { reply = e3.reply } → IsAnswering e old
+    (answer : Heard) → e3 ≡ record e2 { reply = e3.reply } → IsAnswering e old
     → AsksAs state old new e e2 answer → IsKept new e3
 kept_asked state old new e e2 e3 answer like a h =
     (asked_still state old new e e2 e3 answer a.request like a.asked h).written
 
 -- no filter of the exchange ran
 same_filtered : {L C : Type 0} (state : L → LinkState) (old new : SessionView L C)
-    (e e2 e3 : Entry) (answer : Asked) → e3 ≡ record e2 { reply = e3.reply } → IsAnswering e old
+    (e e2 e3 : Entry) (answer : Heard) → e3 ≡ record e2 { reply = e3.reply } → IsAnswering e old
     → AsksAs state old new e e2 answer → SameFiltered e e3
 same_filtered state old new e e2 e3 answer like a h =
     let is = asked_is e3 like h in record {
@@ -239,14 +249,14 @@ same_filtered state old new e e2 e3 answer like a h =
 
 -- why an application that reads waits
 reads_why : {L C : Type 0} (state : L → LinkState) (old new : SessionView L C) (e e2 : Entry)
-    (answer : Asked)
+    (answer : Heard)
     → IsAnswering e old → AsksAs state old new e e2 answer → answer ≡ asked.Reads
     → (Rose (state old.link).read_waits (state new.link).read_waits ⊎ (new.budget ≡ Some 0))
     × ((before : LinkState) (done : List Entry) → Accounted state before new done (Some e2)
     → LacksSo before (state new.link) done (Some e2))
 reads_why {L} {C} state old new e e2 answer a h is =
-    let waits : WaitsBy state (lent old e.body) h.behind true =
-    subst (λ b. WaitsBy state (lent old e.body) h.behind b) (h.reading is) (h.reads.waits a.asked.waits) in
+    let waits : WaitsBy state (lent old (payload_in e)) h.behind true =
+    subst (λ b. WaitsBy state (lent old (payload_in e)) h.behind b) (h.reading is) (h.reads.waits a.asked.waits) in
     let left : SessionView L C = given_back h.behind in
     let none : e2.reply ≡ None = ap (λ (x : Entry). x.reply) h.entry ∙ a.reply in
     subst (λ (x : SessionView L C). (Rose (state old.link).read_waits (state x.link).read_waits ⊎ (x.budget ≡ Some 0))
@@ -259,7 +269,7 @@ reads_why {L} {C} state old new e e2 answer a h is =
 
 -- the step goes on with what was given and taken
 asked_on : {L C : Type 0} (state : L → LinkState) (old new : SessionView L C) (e e2 e3 : Entry)
-    (answer : Asked) → e3 ≡ record e2 { reply = e3.reply } → IsAnswering e old
+    (answer : Heard) → e3 ≡ record e2 { reply = e3.reply } → IsAnswering e old
     → AsksAs state old new e e2 answer → (before : LinkState) (done : List Entry)
     → Accounted state before old done (Some e) → Accounted state before new done (Some e3)
 asked_on {L} {C} state old new e e2 e3 answer like a h before done s =
@@ -293,19 +303,19 @@ refusal_stays state old behind (Some error) h = h.0
 
 -- the exchange grows by what the application read; a reply may join it
 asked_grows : {L C : Type 0} (state : L → LinkState) (now : ℕ) (old new : SessionView L C)
-    (e e2 e3 : Entry) (answer : Asked)
+    (e e2 e3 : Entry) (answer : Heard)
     → e3 ≡ record e2 { reply = e3.reply } → IsAnswering e old → AsksAs state old new e e2 answer
     → StaysWith e.body_error e.read_limit e3.read_limit
     → Grows now (state old.link) (state new.link) e e3
 asked_grows {L} {C} state now old new e e2 e3 answer like a h limit =
     let r = h.reads in
     let entry = asked_is e3 like h in
-    let read : payload_of h.behind ≡ e.body ++ r.payload = payload_is state old h.behind e.body r in
-    let stays = refusal_stays state (lent old e.body) h.behind old.body.refused r.refused in
-    let within = refused_in state (lent old e.body) h.behind old.body.refused r.refused in
+    let read : payload_of h.behind ≡ e.body ++ r.payload = payload_is state old h.behind (payload_in e) r in
+    let stays = refusal_stays state (lent old (payload_in e)) h.behind old.body.refused r.refused in
+    let within = refused_in state (lent old (payload_in e)) h.behind old.body.refused r.refused in
     let link : (state new.link) ≡ (state h.behind.link) = ap (λ (x : SessionView L C). state x.link) h.session in
     subst (λ (x : Entry). Grows now (state old.link) (state new.link) e x) (sym entry) (record {
-      history = refl;
+      holding = refl;
       head = refl;
       both = refl;
       filtered = stays_itself e.filtered;
@@ -327,7 +337,7 @@ asked_grows {L} {C} state now old new e e2 e3 answer like a h limit =
 
 -- the limit that a read reached is kept with the error, and stays
 asked_limits : {L C : Type 0} (state : L → LinkState) (now : ℕ) (old new : SessionView L C)
-    (e e2 e3 : Entry) (answer : Asked) → e3 ≡ record e2 { reply = e3.reply } → IsAnswering e old
+    (e e2 e3 : Entry) (answer : Heard) → e3 ≡ record e2 { reply = e3.reply } → IsAnswering e old
     → AsksAs state old new e e2 answer → ReadsInTime state now old new
     → IsLimitOf e.body_error e.read_limit
     → StaysWith e.body_error e.read_limit e3.read_limit × IsLimitOf e3.body_error e3.read_limit
@@ -339,7 +349,7 @@ asked_limits {L} {C} state now old new e e2 e3 answer like a h timed limit =
     ap (λ (x : Entry). x.read_limit) is ∙ sym (ap (λ (x : SessionView L C). x.read_limit) h.session) in
     let stays : Stays old.body.refused new.body.refused =
     subst (λ (x : SessionView L C). Stays old.body.refused x.body.refused) (sym h.session)
-    (refusal_stays state (lent old e.body) h.behind old.body.refused h.reads.refused) in
+    (refusal_stays state (lent old (payload_in e)) h.behind old.body.refused h.reads.refused) in
     let before : IsLimitOf old.body.refused old.read_limit = rw (a.asked.body_error, a.asked.read_limit) at limit in
     rw (refused, noted, a.asked.body_error, a.asked.read_limit) (
       limit_stays now new.body.since.read old.read_limit new.read_limit old.body.refused new.body.refused
@@ -350,7 +360,7 @@ asked_limits {L} {C} state now old new e e2 e3 answer like a h timed limit =
 
 -- since when a read of its body waits, and whether it was refused for its time
 asked_body : {L C : Type 0} (state : L → LinkState) (now : ℕ) (old new : SessionView L C)
-    (e e2 e3 : Entry) (answer : Asked) → e3 ≡ record e2 { reply = e3.reply } → IsAnswering e old
+    (e e2 e3 : Entry) (answer : Heard) → e3 ≡ record e2 { reply = e3.reply } → IsAnswering e old
     → AsksAs state old new e e2 answer → ReadsInTime state now old new
     → Grows now (state old.link) (state new.link) e e3
     → BodyInTime now old.body.since.read new.body.since.read (Some e) (Some e3)
@@ -366,7 +376,7 @@ asked_body {L} {C} state now old new e e2 e3 answer like a h timed grows =
     (rw (refused, noted, a.asked.body_error, a.asked.read_limit) timed.limit)
 
 asked_few : {L C : Type 0} (state : L → LinkState) (old new : SessionView L C) (e e2 : Entry)
-    (answer : Asked) → AsksAs state old new e e2 answer
+    (answer : Heard) → AsksAs state old new e e2 answer
     → (state new.link).read_waits ≤ (state old.link).read_waits + 1
 asked_few {L} {C} state old new e e2 answer h =
     subst (λ (x : SessionView L C). (state x.link).read_waits ≤ (state old.link).read_waits + 1)
@@ -374,7 +384,7 @@ asked_few {L} {C} state old new e e2 answer h =
 
 -- what was moved as the application read
 asked_moves : {L C : Type 0} (state : L → LinkState) (old new : SessionView L C) (e e2 : Entry)
-    (answer : Asked) → AsksAs state old new e e2 answer → MovesWithin state old new
+    (answer : Heard) → AsksAs state old new e e2 answer → MovesWithin state old new
 asked_moves {L} {C} state old new e e2 answer h =
     subst (λ (x : SessionView L C). MovesWithin state old x) (sym h.session) (record {
       read = h.reads.piece;
@@ -386,34 +396,19 @@ asked_moves {L} {C} state old new e e2 answer h =
       context = h.reads.context;
     })
 
--- what the exchange is, where it stands and what the step comes to after each answer
-abbrev pub entry_after : Entry → Asked → Entry
-entry_after e (asked.Replied reply) = record e { reply = Some reply }
-entry_after e _ = e
-
-abbrev pub stage_after : {J : Type 0} → J → Asked → Stage J
-stage_after job (asked.Replied reply) = stage.TakeHeader
-stage_after job _ = stage.Answer job
-
-abbrev pub outcome_after : Asked → Outcome
-outcome_after asked.Reads = outcome.Waits waiting.Read
-outcome_after asked.Pends = outcome.Waits waiting.App
-outcome_after (asked.Replied reply) = outcome.Done
-outcome_after (asked.Failed error) = outcome.Ends (end.Failed error)
-
-after_like : (e : Entry) (answer : Asked)
+after_like : (e : Entry) (answer : Heard)
     → entry_after e answer ≡ record e { reply = (entry_after e answer).reply }
 after_like e (asked.Replied reply) = refl
 after_like e _ = refl
 
-gives_after : (gives : Given → Reply → Type 0) (given : Given) (e : Entry) (answer : Asked)
+gives_after : (gives : Given → Reply → Type 0) (given : Given) (e : Entry) (answer : Heard)
     → e.reply ≡ None → GivesAsked gives given answer
     → IfSome (entry_after e answer).reply (λ reply. gives given reply)
 gives_after gives given e (asked.Replied reply) none h = h
 gives_after gives given e _ none h = rw none tt
 
 -- a read was not ready at most once, and the reply makes up for it
-few_after : (old now : LinkState) (e e2 : Entry) (answer : Asked) → e.reply ≡ None → e2.reply ≡ None
+few_after : (old now : LinkState) (e e2 : Entry) (answer : Heard) → e.reply ≡ None → e2.reply ≡ None
     → now.read_waits ≤ old.read_waits + 1
     → FewReadsNotReady old now (e ∷ []) (entry_after e2 answer ∷ []) (outcome_after answer)
 few_after old now e e2 asked.Reads none still few = rw (none, still) (omega (arith, few))
@@ -422,18 +417,18 @@ few_after old now e e2 (asked.Replied reply) none still few = rw none (omega (ar
 few_after old now e e2 (asked.Failed error) none still few = rw (none, still) (omega (arith, few))
 
 -- an application fails only where memory ran out
-abbrev IsMemoryOnly : Asked → Type 0
+abbrev IsMemoryOnly : Heard → Type 0
 IsMemoryOnly (asked.Failed error) = error ≡ no_memory
 IsMemoryOnly _ = Unit {0}
 
-only_memory : (gives : Given → Reply → Type 0) (given : Given) (answer : Asked)
+only_memory : (gives : Given → Reply → Type 0) (given : Given) (answer : Heard)
     → GivesAsked gives given answer → IsMemoryOnly answer
 only_memory gives given (asked.Failed error) gave = gave
 only_memory gives given _ gave = tt
 
 -- the connection has no limit for what the application does
 asked_in_time : {L C J : Type 0} (state : L → LinkState) (now : ℕ) (old new : SessionView L C)
-    (job job2 : J) (first last : Option Entry) (answer : Asked) → MovesWithin state old new
+    (job job2 : J) (first last : Option Entry) (answer : Heard) → MovesWithin state old new
     → IsMemoryOnly answer
     → StepsInTime state now (stage.Answer job) (stage_after job2 answer) old new first last (outcome_after answer)
 asked_in_time state now old new job job2 first last asked.Reads moves failed =
@@ -454,7 +449,7 @@ nearer_asked job (Some left) new spent is = rw is (omega arith)
 -- why the step goes on, waits or ends
 asked_why : {L C J : Type 0} (state : L → LinkState) (pends : J → ℕ)
     (runs : Runs J) (gives : Given → Reply → Type 0)
-    (given : Given) (old new : SessionView L C) (e e2 : Entry) (job job2 : J) (answer : Asked)
+    (given : Given) (old new : SessionView L C) (e e2 : Entry) (job job2 : J) (answer : Heard)
     (a : IsAnswering e old) → AsksAs state old new e e2 answer
     → RunsOn (runs job2 a.request.header e.began new.settings e2.body new.read_limit) answer
     → GivesAsked gives given answer → PendsAsked (pends job) (pends job2) answer
@@ -468,7 +463,7 @@ asked_why {L} {C} state pends runs gives given old new e e2 job job2 asked.Pends
   still_answers state runs old new e e2 job2 asked.Pends a h on,
   (
     ap (λ (x : SessionView L C). (state x.link).read_waits) h.session
-        ∙ subst (λ b. WaitsBy state (lent old e.body) h.behind b) (h.pending refl) (h.reads.waits a.asked.waits),
+        ∙ subst (λ b. WaitsBy state (lent old (payload_in e)) h.behind b) (h.pending refl) (h.reads.waits a.asked.waits),
     counted,
   ),
 )
@@ -484,7 +479,7 @@ asked_why state pends runs gives given old new e e2 job job2 (asked.Failed error
 -- the application goes on: what it read joins the exchange, and its reply may
 pub asked_stepped : {L C J : Type 0} (state : L → LinkState) (pends : J → ℕ) (rules : Rules)
     (runs : Runs J)
-    (now : ℕ) (shutdown : Bool) (x y : Exchange L J C) (e e2 : Entry) (job job2 : J) (answer : Asked)
+    (now : ℕ) (shutdown : Bool) (x y : Exchange L J C) (e e2 : Entry) (job job2 : J) (answer : Heard)
     → StepReady runs now x → IfSome x.transcript.last (IsAllowed rules)
     → x.stage ≡ stage.Answer job → x.transcript.last ≡ Some e
     → y.transcript.last ≡ Some (entry_after e2 answer) → y.stage ≡ stage_after job2 answer
@@ -527,10 +522,34 @@ asked_stepped {L} {C} state pends rules runs now shutdown x y e e2 job job2 answ
     (rw (at, to) (asked_why state pends runs rules.gives given old new e e2 job job2 answer a asks
     (runs_on a.request.header e.began for s.1) gave counted))
 
+-- a call of the link moved nothing at most once
+pub asked_others : {L C : Type 0} (state : L → LinkState) (old new : SessionView L C) (e e2 : Entry)
+    (answer : Heard) → AsksAs state old new e e2 answer
+    → (state new.link).others ≤ (state old.link).others + 1
+asked_others {L} {C} state old new e e2 answer asks =
+    rw (ap (λ (x : SessionView L C). x.link) asks.session) asks.reads.calls.others
+
+-- a call that moved nothing is allowed for each answer
+pub answer_others : {J : Type 0} (old now : LinkState) (job job2 : J) (answer : Heard)
+    → now.others ≤ old.others + 1
+    → OthersFew old now (stage.Answer job) (stage_after job2 answer) (outcome_after answer)
+answer_others old now job job2 asked.Reads few = few
+answer_others old now job job2 asked.Pends few = few
+answer_others old now job job2 (asked.Replied reply) few = omega (arith, few)
+answer_others old now job job2 (asked.Failed error) few = few
+
+-- a job that goes on was there
+pub answer_job : {J : Type 0} (begins : J → Type 0) (pends : J → ℕ) (job job2 : J) (answer : Heard)
+    → pends job ≤ pends job2 → JobFrom begins pends (stage.Answer job) (stage_after job2 answer)
+answer_job begins pends job job2 asked.Reads later = inl (job, refl, later)
+answer_job begins pends job job2 asked.Pends later = inl (job, refl, later)
+answer_job begins pends job job2 (asked.Replied reply) later = tt
+answer_job begins pends job job2 (asked.Failed error) later = inl (job, refl, later)
+
 -- no filter of the exchange ran
 pub asked_filters : {L C J : Type 0} (state : L → LinkState)
     (runs : Runs J) (now : ℕ) (x : Exchange L J C)
-    (new : SessionView L C) (e e2 : Entry) (job : J) (answer : Asked) → StepReady runs now x
+    (new : SessionView L C) (e e2 : Entry) (job : J) (answer : Heard) → StepReady runs now x
     → x.stage ≡ stage.Answer job → x.transcript.last ≡ Some e → AsksAs state x.session new e e2 answer
     → FiltersStay x.transcript.last (Some (entry_after e2 answer))
 asked_filters state runs now x new e e2 job answer ready at was asks =

@@ -27,12 +27,12 @@ use Rattle.h1_app.proofs.TimelyLemmas.{fails_anyhow}
 pub entry_begun : (request : Request) (settings : Settings) (old new : TranscriptView)
     (result : Result (Unit {0}) Error)
     → OnOk result
-    (new ≡ with_last old (new_entry old.history settings request.both request.header))
+    (new ≡ with_last old (new_entry old.holding settings request.both request.header))
     → IfOk result (λ done. IfLast new.last
     (λ e. IsNewEntry request settings e × (e.filtered ≡ Some request.header)))
 entry_begun request settings old new (Err error) is = tt
 entry_begun request settings old new (Ok done) is = (
-  new_entry old.history settings request.both request.header,
+  new_entry old.holding settings request.both request.header,
   rw is refl,
   (
     record {
@@ -190,7 +190,7 @@ module _ {L C J M : Type 0} (state : L → LinkState) (begins : J → Type 0) (p
     (shutdown : Bool) (x : Exchange L J C) (mid : SessionView L C) (transcript : TranscriptView)
     (n : ℕ) (at : x.stage ≡ stage.Head)
     (h : AtHead state now x.session mid x.transcript.last (Ready (Ok (read.Head n))))
-    (kept : BeginsIn x.transcript.history x.transcript.last transcript.last) where
+    (kept : BeginsIn x.transcript.holding x.transcript.last transcript.last) where
   abbrev again : SessionView L C
   again = kept_again shutdown mid
 

@@ -1,6 +1,6 @@
 -- What steps leave of the waits for a request's body, one after the other.
 use Rattle.std.proofs.Common.{◌≡◌, ◌⊎◌, inl, inr, ℕ, nat_lt, Bool, true, false, Option, Some, None, Result, Ok, Err, refl, sym, ◌∙◌, subst}
-use Rattle.h1_app.specs.Words.{Poll, Ready, Pending, Error, Entry, Grows, LinkState, ReusesBy, SessionView, keeps_alive, allowance, Rose}
+use Rattle.h1_app.specs.Words.{Poll, Ready, Pending, Error, Entry, Grows, LinkState, ReusesBy, SessionView, keeps_alive, allowance, Rose, payload_in}
 use Rattle.h1_error.specs.declared.error.ErrorType.TheVariants as kind
 use Rattle.h1_application.specs.Application.{LimitedBy}
 use Rattle.h1_server.specs.Payload.{DrainsBody}
@@ -226,11 +226,11 @@ drain_noted {L} {C} state now old new e f answer h =
     subst (λ (s : SessionView L C). IsNotedIn now old.body.since.read s.body.since.read) (sym h.session)
     (by_alive (keeps_alive old) h.reuses)
   where
-    by_alive : (alive : Bool) → ReusesBy state now (lent old e.body) h.behind answer alive
+    by_alive : (alive : Bool) → ReusesBy state now (lent old (payload_in e)) h.behind answer alive
         → IsNotedIn now old.body.since.read h.behind.body.since.read
     by_alive false r = rw r.2 (noted_in_itself now old.body.since.read)
     by_alive true r =
-        let d : DrainsBody state now (lent old e.body) r.0 r.1 = r.2 in
+        let d : DrainsBody state now (lent old (payload_in e)) r.0 r.1 = r.2 in
         let limits = drain_limits old.settings.times now in
         rw r.3 (rest_noted_in now limits.read limits.total (nat_lt d.left (allowance old.budget))
         (Rose (state old.link).read_waits (state r.0.link).read_waits) old.body.since r.0.body.since d.left

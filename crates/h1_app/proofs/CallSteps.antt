@@ -44,7 +44,7 @@ pub call_continues : {L C J T : Type 0} (state : L → LinkState) (same_plan : L
     (begins : J → Type 0) (pends : J → ℕ) (x y : Exchange L J C) (result : Outcome)
     (answer : Poll (Result T Error)) (done : Bool → Bool) (from owed later : Stage J)
     → x.stage ≡ from → y.transcript.done ≡ x.transcript.done
-    → y.transcript.history ≡ x.transcript.history → same_plan x.session.link y.session.link
+    → y.transcript.holding ≡ x.transcript.holding → same_plan x.session.link y.session.link
     → JobFrom begins pends from from → JobFrom begins pends from owed
     → JobFrom begins pends from later
     → Called (state x.session.link) (state y.session.link) (done (succeeds answer))
@@ -64,7 +64,7 @@ call_continues {L} {C} {J} {T} state same_plan begins pends x y result answer do
         → Continues state same_plan begins pends x y result
     continues to is job others = record {
       done = same;
-      history = history;
+      holding = history;
       plan = plan;
       job = rw (stage, is) job;
       others = rw (stage, is) others;

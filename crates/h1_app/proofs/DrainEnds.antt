@@ -3,7 +3,7 @@ use Rattle.std.proofs.Common.{◌≡◌, ℕ, ◌<◌, ◌⊎◌, inl, inr, List
 use Rattle.std.proofs.lemmas.Bool.{false≢true, and_parts, not-true, not-false}
 use Rattle.std.proofs.lemmas.Option.{IfSome_then, same_Some}
 use Rattle.std.proofs.lemmas.List.{take-append-le}
-use Rattle.h1_app.specs.Words.{Rules, Ready, Error, ErrorType, LinkState, ResponseView, wish, whole, out, reads, end_bytes, Framing, Counted, Chunked, UntilClose, Lacks, BodyRefusal, has_reuses, keeps_alive, may_follow, SessionView, Outgoing, Settings, Reply, Stage, Entry, How, Open, Whole, Failed, IsLawful, AfterRead, is_until_close, FailureCause, IsComplete, LacksSo, IsAllowed, IsDated, given_to, is_short, may_keep, Grows, IfTold}
+use Rattle.h1_app.specs.Words.{Rules, Ready, Error, ErrorType, LinkState, ResponseView, wish, whole, out, reads, end_bytes, Framing, Counted, Chunked, UntilClose, Lacks, BodyRefusal, has_reuses, keeps_alive, may_follow, SessionView, Outgoing, Settings, Reply, Stage, Entry, How, Open, Whole, Failed, IsLawful, AfterRead, is_until_close, FailureCause, IsComplete, LacksSo, IsAllowed, IsDated, given_to, is_short, may_keep, Grows, IfTold, payload_in}
 use Rattle.h1_application.specs.Application.{Runs}
 use Rattle.h1_error.specs.declared.error.ErrorType.TheVariants as kind
 use Rattle.h1_body.specs.Reader as reader
@@ -16,9 +16,10 @@ use Rattle.h1_transcript.proofs.BehindLemmas.{told_map}
 use Rattle.h1_app.proofs.AccountedLemmas.{accounted_read, entry_on, settled_on}
 use Rattle.h1_app.proofs.JoinLemmas.{read_past}
 use Rattle.h1_transcript.proofs.GrowthLemmas.{dated_same, refused_same, replied_same, stays_itself, stays_with_itself}
-use Rattle.h1_app.proofs.EndReplies.{complete, stands_broken, stands_unfinished}
+use Rattle.h1_app.proofs.EndReplies.{complete, stands_broken, stands_unfinished, goes_past}
 use Rattle.h1_app.proofs.DrainLemmas.{Reused, HasMore, Answered, stood_on}
 use Rattle.h1_app.proofs.ReplyLemmas.{at_some}
+use Rattle.h1_transfer.specs.BodyAnswers.{RefusesBody}
 
 -- the drain's stage, taken apart
 pub at_drain : {L C J : Type 0} (runs : Runs J)
@@ -189,7 +190,7 @@ module _ {L C : Type 0} (state : L → LinkState) (old new : SessionView L C) (e
   drain_grows now =
       let g : Entry = record e { body = e.body ++ r.payload } in
       subst (λ (x : Entry). Grows now (state old.link) (state new.link) e x) (sym r.entry) (record {
-        history = refl;
+        holding = refl;
         head = refl;
         both = refl;
         filtered = stays_itself e.filtered;
@@ -291,7 +292,8 @@ module _ {L C : Type 0} (state : L → LinkState) (old new : SessionView L C) (e
 
   -- why it fails
   pub drain_fails : (before : LinkState) (done : List Entry) (error : Error) (k : ErrorType)
-      → keeps_alive old ≡ true → BodyRefusal state old new k
+      → keeps_alive old ≡ true
+      → RefusesBody (state old.link) (state new.link) (Some (payload_in f)) new.body.reader new.received k
       → Accounted state before new done (Some f)
       → FailureCause before (state old.link) (state new.link) done (Some f) error k
   drain_fails before done error kind.InvalidBody alive h s =
@@ -308,6 +310,8 @@ module _ {L C : Type 0} (state : L → LinkState) (old new : SessionView L C) (e
     inr (drain_done before done alive s, unrefused_still, h.0),
     stands_unfinished state before done new f s h.1,
   )
+  drain_fails before done error kind.ContentTooLarge alive h s =
+      (inr (drain_done before done alive s, unrefused_still, tt), goes_past state before done new f s h)
   drain_fails before done error kind.NoMemory alive h s = tt
   drain_fails before done error _ alive h s = absurd h
 
@@ -358,7 +362,7 @@ module _ {L C : Type 0} (state : L → LinkState) (old new : SessionView L C) (e
 
 -- bytes were received after the request, where the link is kept and isn't handed on
 pub drain_more : {L C : Type 0} (state : L → LinkState) (old new : SessionView L C) (e f : Entry)
-    → Answered state old new (Ready (Ok false)) → keeps_alive new ≡ true → HasMore new
+    → Answered state old new (payload_in f) (Ready (Ok false)) → keeps_alive new ≡ true → HasMore new
 drain_more state old new e f a alive = elim a.1 [
   | inl dead ↦ absurd (false≢true (sym (a.0 ∙ dead) ∙ alive))
   | inr more ↦ more.1

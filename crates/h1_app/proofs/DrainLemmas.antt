@@ -1,6 +1,6 @@
 -- What the rest of a request's body comes to after its reply, and why a connection isn't kept.
 use Rattle.std.proofs.Common.{◌≡◌, ℕ, ◌+◌, ◌-◌, ◌<◌, ◌≤◌, ◌⊎◌, inl, inr, zero, suc, List, [], ◌∷◌, ◌++◌, length, Bool, true, false, Option, Some, None, IfSome, IsSome, Result, Ok, Err, option_map, unwrap_or, refl, sym, ◌∙◌, ap, subst, append-nil, arith, ◌&&◌}
-use Rattle.h1_app.specs.Words.{Poll, Ready, Pending, Error, LinkState, Rose, Body, whole, unfinished, broken, ahead, chunked, reads, read_as, Chunking, BodyReader, Reading, Decoded, Lacks, Moved, BodyRefusal, is_whole, ReusesBy, keeps_alive, may_go_on, is_replied, SessionView, allowance, BodyState, Entry, How, Open, Whole, Failed, payload_of}
+use Rattle.h1_app.specs.Words.{Poll, Ready, Pending, Error, LinkState, Rose, Body, whole, unfinished, broken, ahead, chunked, reads, read_as, Chunking, BodyReader, Reading, Decoded, Lacks, Moved, BodyRefusal, is_whole, ReusesBy, keeps_alive, may_go_on, is_replied, SessionView, allowance, BodyState, Entry, How, Open, Whole, Failed, payload_of, Payload, grown, payload_in}
 use Rattle.std.proofs.lemmas.Bool.{false≢true}
 use Rattle.h1_link.specs.Steps.{after_shutdown}
 use Rattle.h1_link.proofs.Laters.{later_shutdown}
@@ -8,6 +8,11 @@ use Rattle.h1_body.specs.declared.chunking.Chunking.TheVariants as place
 use Rattle.h1_body.specs.declared.reader.Reading.TheVariants as reading
 use Rattle.h1_body.proofs.CountedLemmas.{counted_has, counted_lacks}
 use Rattle.h1_body.proofs.RunLemmas.{ahead_none}
+use Rattle.h1_error.specs.declared.error.ErrorType.{ErrorType}
+use Rattle.h1_error.specs.declared.error.ErrorType.TheVariants as kind
+use Rattle.h1_transfer.specs.BodyAnswers.{RefusesBody}
+use Rattle.h1_transfer.specs.Decoding.{noted_of}
+use Rattle.h1_transcript.specs.Entry.{gathering_of}
 use Rattle.h1_server.specs.Payload.{DrainsBody, DrainAnswer}
 use Rattle.h1_server.specs.Persistence.{may_follow}
 use Rattle.h1_server.specs.Reuse.{ReuseAnswer}
@@ -106,7 +111,7 @@ moved_shut s =
 reused_shut : {L C : Type 0} (state : L → LinkState) (old behind new : SessionView L C)
     (e f : Entry)
     → state behind.link ≡ after_shutdown (state old.link)
-    → behind ≡ record (lent old e.body) { link = behind.link; reusable = false }
+    → behind ≡ record (lent old (payload_in e)) { link = behind.link; reusable = false }
     → new ≡ record behind { body = record behind.body { kept = None } }
     → f ≡ record e { body = payload_of behind }
     → Reused state old new e f
@@ -147,7 +152,7 @@ drained_shape {L} {C} drained behind new is session =
 -- one that is kept: the rest of the body was read
 reused_drained : {L C : Type 0} (state : L → LinkState) (now : ℕ) (old drained behind new : SessionView L C)
     (e f : Entry) (outcome : Poll (Result (Unit {0}) Error))
-    → DrainsBody state now (lent old e.body) drained outcome
+    → DrainsBody state now (lent old (payload_in e)) drained outcome
     → behind ≡ record drained { reusable = behind.reusable }
     → new ≡ record behind { body = record behind.body { kept = None } }
     → f ≡ record e { body = payload_of behind }
@@ -164,7 +169,7 @@ reused_drained {L} {C} state now old drained behind new e f outcome d is session
       bytes = sym d.reads.received.bytes;
       decoded = d.reads.decoded;
       entry = entry ∙ ap (λ xs. record e { body = xs })
-          (ap (λ (x : SessionView L C). payload_of x) is ∙ ap (λ kept. unwrap_or kept []) d.reads.keeps_payload);
+          (ap (λ (x : SessionView L C). payload_of x) is ∙ ap noted_of d.reads.keeps_payload);
       request = ap (λ (s : SessionView L C). s.request) d.rest;
       reply = ap (λ (s : SessionView L C). s.reply) d.rest;
       keep = ap (λ (s : SessionView L C). s.keep) d.rest;
@@ -182,7 +187,7 @@ pub reused : {L C : Type 0} (state : L → LinkState) (now : ℕ) (old new : Ses
     → Reused state old new e f
 reused {L} {C} state now old new e f answer h = by_alive (keeps_alive old) h.reuses
   where
-    by_alive : (t : Bool) → ReusesBy state now (lent old e.body) h.behind answer t
+    by_alive : (t : Bool) → ReusesBy state now (lent old (payload_in e)) h.behind answer t
         → Reused state old new e f
     by_alive true r = reused_drained state now old r.0 h.behind new e f r.1 r.2 r.3 h.session h.entry
     by_alive false r = reused_shut state old h.behind new e f r.1 r.2 h.session h.entry
@@ -194,17 +199,18 @@ pub record HasMore {L C : Type 0} (new : SessionView L C) : Type 0 where
   pub more : 0 < length new.received
 
 -- what the call for reuse answered, by how the session stands after it
-abbrev pub Answered : {L C : Type 0} → (L → LinkState) → SessionView L C → SessionView L C
+abbrev pub Answered : {L C : Type 0} → (L → LinkState) → SessionView L C → SessionView L C → Payload
     → Poll (Result Bool Error) → Type 0
-Answered state old new (Ready (Ok true)) =
+Answered state old new payload (Ready (Ok true)) =
     (keeps_alive old ≡ true) × (reads new.body.reader [] ≡ whole [] 0) × (new.body.refused ≡ None)
     × (new.reusable ≡ true) × ((state new.link).read_waits ≡ (state old.link).read_waits)
     × (may_follow new.settings.pipelining new.received ≡ true)
-Answered state old new (Ready (Ok false)) =
+Answered state old new payload (Ready (Ok false)) =
     (keeps_alive new ≡ keeps_alive old) × ((keeps_alive old ≡ false) ⊎ ((keeps_alive old ≡ true) × HasMore new))
-Answered state old new (Ready (Err error)) =
-    (keeps_alive old ≡ true) × BodyRefusal state old new error.kind × (error.retry ≡ false)
-Answered state old new Pending =
+Answered state old new payload (Ready (Err error)) = (keeps_alive old ≡ true)
+    × RefusesBody (state old.link) (state new.link) (Some payload) new.body.reader new.received
+    error.kind × (error.retry ≡ false)
+Answered state old new payload Pending =
     (keeps_alive old ≡ true) × Lacks new.body.reader new.received × (new.body.refused ≡ None)
     × (Rose (state old.link).read_waits (state new.link).read_waits ⊎ (new.budget ≡ Some 0))
 
@@ -222,11 +228,11 @@ not_followed false [] h = absurd (false≢true (sym h))
 not_followed false (b ∷ received) h = (refl, omega arith)
 
 answered_kept : {L C : Type 0} (state : L → LinkState) (now : ℕ) (old drained : SessionView L C)
-    (payload : List ℕ) (reusable : Bool) (outcome : Poll (Result (Unit {0}) Error))
+    (payload : Payload) (reusable : Bool) (outcome : Poll (Result (Unit {0}) Error))
     (answer : Poll (Result Bool Error)) → keeps_alive old ≡ true → IsSome old.budget → old.body.refused ≡ None
-    → DrainsBody state now (lent old payload) drained outcome
+    → (d : DrainsBody state now (lent old payload) drained outcome)
     → ReuseAnswer (record drained { reusable = reusable }) outcome answer
-    → Answered state old (taken_from drained reusable) answer
+    → Answered state old (taken_from drained reusable) (grown d.payload payload) answer
 answered_kept {L} {C} state now old drained payload reusable outcome answer alive some unrefused d a =
     by_outcome outcome d.answer a
   where
@@ -240,7 +246,7 @@ answered_kept {L} {C} state now old drained payload reusable outcome answer aliv
         → drained.body.refused ≡ None
         → (state drained.link).read_waits ≡ (state old.link).read_waits
         → t ≡ may_follow drained.settings.pipelining drained.received
-        → Answered state old (taken_from drained t) (Ready (Ok t))
+        → Answered state old (taken_from drained t) (grown d.payload payload) (Ready (Ok t))
     by_reusable true read none still may = (alive, read, none, refl, still, sym may)
     by_reusable false read none still may =
         let follows = not_followed drained.settings.pipelining drained.received (sym may) in (
@@ -254,33 +260,37 @@ answered_kept {L} {C} state now old drained payload reusable outcome answer aliv
     by_outcome : (o : Poll (Result (Unit {0}) Error))
         → DrainAnswer state (lent old payload) drained d.left o
         → ReuseAnswer (record drained { reusable = reusable }) o answer
-        → Answered state old (taken_from drained reusable) answer
+        → Answered state old (taken_from drained reusable) (grown d.payload payload) answer
     by_outcome (Ready (Ok done)) h a =
-        subst (λ x. Answered state old (taken_from drained reusable) x) (sym a.1)
+        subst (λ x. Answered state old (taken_from drained reusable) (grown d.payload payload) x) (sym a.1)
         (by_reusable reusable h.0 h.1 h.2 a.0)
     by_outcome (Ready (Err error)) h a =
-        subst (λ x. Answered state old (taken_from drained reusable) x) (sym a.1)
-        (alive, h.1, h.2)
+        subst (λ x. Answered state old (taken_from drained reusable) (grown d.payload payload) x) (sym a.1)
+        (alive, rw d.reads.keeps_payload at h.1, h.2)
     by_outcome Pending h a =
-        subst (λ x. Answered state old (taken_from drained reusable) x) (sym a.1) (alive, h.0, h.1, why h.2)
+        subst (λ x. Answered state old (taken_from drained reusable) (grown d.payload payload) x) (sym a.1) (alive, h.0, h.1, why h.2)
 
 pub answered : {L C : Type 0} (state : L → LinkState) (now : ℕ) (old new : SessionView L C) (e f : Entry)
     (answer : Poll (Result Bool Error))
     → IsSome old.budget → old.body.refused ≡ None → ReusesAs state now old new e f answer
-    → Answered state old new answer
+    → Answered state old new (payload_in f) answer
 answered {L} {C} state now old new e f answer some unrefused h = by_alive (keeps_alive old) refl h.reuses
   where
-    by_alive : (t : Bool) → keeps_alive old ≡ t → ReusesBy state now (lent old e.body) h.behind answer t
-        → Answered state old new answer
+    by_alive : (t : Bool) → keeps_alive old ≡ t → ReusesBy state now (lent old (payload_in e)) h.behind answer t
+        → Answered state old new (payload_in f) answer
     by_alive true alive r =
-        let kept = answered_kept state now old r.0 e.body h.behind.reusable r.1 answer alive some unrefused r.2
+        let read : payload_in f ≡ grown r.2.payload (payload_in e) =
+        ap payload_in h.entry ∙ ap (λ kept. record (payload_in e) { bytes = noted_of kept })
+        (ap (λ (x : SessionView L C). x.body.kept) r.3 ∙ r.2.reads.keeps_payload) in
+        let kept = answered_kept state now old r.0 (payload_in e) h.behind.reusable r.1 answer alive some unrefused r.2
         (subst (λ (x : SessionView L C). ReuseAnswer x r.1 answer) r.3 r.4) in
-        subst (λ (x : SessionView L C). Answered state old x answer)
-        (sym (drained_shape r.0 h.behind new r.3 h.session)) kept
+        subst (λ payload. Answered state old new payload answer) (sym read)
+        (subst (λ (x : SessionView L C). Answered state old x (grown r.2.payload (payload_in e)) answer)
+        (sym (drained_shape r.0 h.behind new r.3 h.session)) kept)
     by_alive false alive r =
         let same : keeps_alive new ≡ keeps_alive old =
         ap (λ (x : SessionView L C). keeps_alive x) h.session ∙ ap (λ (x : SessionView L C). keeps_alive x) r.2 in
-        subst (λ x. Answered state old new x) (sym r.0) (same, inl alive)
+        subst (λ x. Answered state old new (payload_in f) x) (sym r.0) (same, inl alive)
 
 -- after a whole reply the connection goes on where it persists
 pub alive_replied : (alive replied : Bool) → replied ≡ true → (alive && replied) ≡ alive
@@ -290,13 +300,13 @@ alive_replied false replied is = refl
 -- the session is lent the payload, asked, and gives the payload back
 pub reuses_as : {L C : Type 0} (state : L → LinkState) (now : ℕ) (old asked behind new : SessionView L C)
     (e : Entry) (payload : List ℕ) (answer : Poll (Result Bool Error))
-    → is_replied old.reply ≡ true → asked ≡ lent old e.body
+    → is_replied old.reply ≡ true → asked ≡ lent old (payload_in e)
     → ReusesBy state now asked behind answer (may_go_on asked)
     → new ≡ record behind { body = record behind.body { kept = None } }
     → payload ≡ payload_of behind → ReusesAs state now old new e (record e { body = payload }) answer
 reuses_as {L} {C} state now old asked behind new e payload answer replied lent_is reuses session is = record {
   behind = behind;
-  reuses = subst (λ t. ReusesBy state now (lent old e.body) behind answer t)
+  reuses = subst (λ t. ReusesBy state now (lent old (payload_in e)) behind answer t)
       (alive_replied (keeps_alive old) (is_replied old.reply) replied)
       (subst (λ (x : SessionView L C). ReusesBy state now x behind answer (may_go_on x)) lent_is reuses);
   session = session;
@@ -305,10 +315,10 @@ reuses_as {L} {C} state now old asked behind new e payload answer replied lent_i
 
 -- a call that reads the rest of a body does the same with a session that is lent a payload
 drains_lent : {L C : Type 0} (state : L → LinkState) (now : ℕ) (old drained : SessionView L C)
-    (payload : List ℕ) (outcome : Poll (Result (Unit {0}) Error))
-    → (d : DrainsBody state now old drained outcome)
-    → DrainsBody state now (lent old payload) (lent drained (payload ++ d.payload)) outcome
-drains_lent {L} {C} state now old drained payload outcome d = record {
+    (payload : Payload) (outcome : Poll (Result (Unit {0}) Error))
+    → old.body.kept ≡ None → (d : DrainsBody state now old drained outcome)
+    → DrainsBody state now (lent old payload) (lent drained (grown d.payload payload)) outcome
+drains_lent {L} {C} state now old drained payload outcome none d = record {
   payload = d.payload;
   left = d.left;
   parsed = d.parsed;
@@ -319,16 +329,31 @@ drains_lent {L} {C} state now old drained payload outcome d = record {
     keeps_payload = refl;
   };
   budget = d.budget;
-  rest = ap (λ (s : SessionView L C). lent s (payload ++ d.payload)) d.rest;
+  rest = ap (λ (s : SessionView L C). lent s (grown d.payload payload)) d.rest;
   few = d.few;
   answer = by_outcome outcome d.answer;
   timed = d.timed;
 }
   where
+    -- a body of which no payload is kept isn't refused for its length
+    refused : (k : ErrorType)
+        → RefusesBody (state old.link) (state drained.link) None drained.body.reader drained.received k
+        → RefusesBody (state old.link) (state drained.link) (Some (grown d.payload payload))
+        drained.body.reader drained.received k
+    refused kind.InvalidBody h = h
+    refused kind.ConnectionClosed h = h
+    refused kind.ReadError h = h
+    refused kind.ReadTimedout h = h
+    refused kind.ContentTooLarge h = absurd h
+    refused kind.NoMemory h = h
+    refused _ h = absurd h
+
     by_outcome : (o : Poll (Result (Unit {0}) Error)) → DrainAnswer state old drained d.left o
-        → DrainAnswer state (lent old payload) (lent drained (payload ++ d.payload)) d.left o
+        → DrainAnswer state (lent old payload) (lent drained (grown d.payload payload)) d.left o
     by_outcome (Ready (Ok done)) h = h
-    by_outcome (Ready (Err error)) h = h
+    by_outcome (Ready (Err error)) h =
+        let unkept = d.reads.keeps_payload ∙ ap (option_map (grown d.payload)) none in
+        (h.0, refused error.kind (rw unkept at h.1), h.2)
     by_outcome Pending h = h
 
 -- of a body that was read to its end nothing is read, so nothing has to be lent
@@ -340,13 +365,13 @@ reuses_read {L} {C} state now old new e answer replied none read reuses =
     by_alive (keeps_alive old) refl (subst (λ t. ReusesBy state now old new answer t)
     (alive_replied (keeps_alive old) (is_replied old.reply) replied) reuses)
   where
-    back : (kept : Option (List ℕ)) → new.body.kept ≡ kept → kept ≡ None
+    back : (kept : Option Payload) → new.body.kept ≡ kept → kept ≡ None
         → new ≡ record new { body = record new.body { kept = None } }
     back kept is nothing =
-        ap (λ (k : Option (List ℕ)). record new { body = record new.body { kept = k } })
+        ap (λ (k : Option Payload). record new { body = record new.body { kept = k } })
         (is ∙ nothing)
 
-    asked : (payload : List ℕ) (outcome : Poll (Result (Unit {0}) Error))
+    asked : (payload : Payload) (outcome : Poll (Result (Unit {0}) Error))
         → ReuseAnswer new outcome answer → ReuseAnswer (lent new payload) outcome answer
     asked payload (Ready (Ok done)) h = h
     asked payload (Ready (Err error)) h = h
@@ -355,28 +380,41 @@ reuses_read {L} {C} state now old new e answer replied none read reuses =
     by_alive : (t : Bool) → keeps_alive old ≡ t → ReusesBy state now old new answer t
         → ReusesAs state now old new e e answer
     by_alive true is r =
-        let all = e.body ++ r.2.payload in
+        let all = grown r.2.payload (payload_in e) in
         let ends = decoded_end old.body.reader r.0.body.reader r.2.reads.used r.2.payload
         r.2.reads.decoded read in
         record {
           behind = lent new all;
-          reuses = subst (λ t. ReusesBy state now (lent old e.body) (lent new all) answer t) (sym is) (
+          reuses = subst (λ t. ReusesBy state now (lent old (payload_in e)) (lent new all) answer t) (sym is) (
             lent r.0 all,
             r.1,
-            drains_lent state now old r.0 e.body r.1 r.2,
+            drains_lent state now old r.0 (payload_in e) r.1 none r.2,
             ap (λ (s : SessionView L C). lent s all) r.3,
             asked all r.1 r.4,
           );
           session = back r.0.body.kept (ap (λ (s : SessionView L C). s.body.kept) r.3)
               (r.2.reads.keeps_payload
-              ∙ ap (λ (k : Option (List ℕ)). option_map (λ front. front ++ r.2.payload) k) none);
+              ∙ ap (option_map (grown r.2.payload)) none);
           entry = ap (λ xs. record e { body = xs })
               (sym (ap (λ xs. e.body ++ xs) ends.0 ∙ append-nil e.body));
         }
     by_alive false is r = record {
-      behind = lent new e.body;
-      reuses = subst (λ t. ReusesBy state now (lent old e.body) (lent new e.body) answer t) (sym is)
-          (r.0, r.1, ap (λ (s : SessionView L C). lent s e.body) r.2);
+      behind = lent new (payload_in e);
+      reuses = subst (λ t. ReusesBy state now (lent old (payload_in e)) (lent new (payload_in e)) answer t) (sym is)
+          (r.0, r.1, ap (λ (s : SessionView L C). lent s (payload_in e)) r.2);
       session = back old.body.kept (ap (λ (s : SessionView L C). s.body.kept) r.2) none;
       entry = refl;
     }
+
+-- the payload that was lent comes back as it is held
+pub reused_gathering : {L C : Type 0} (state : L → LinkState) (now : ℕ) (old asked behind : SessionView L C)
+    (e : Entry) (answer : Poll (Result Bool Error)) (alive : Bool) → asked ≡ lent old (payload_in e)
+    → ReusesBy state now asked behind answer alive
+    → IfSome behind.body.kept (λ payload. payload.gathering ≡ gathering_of e.holding)
+reused_gathering {L} {C} state now old asked behind e answer alive is reuses =
+    by alive (subst (λ (x : SessionView L C). ReusesBy state now x behind answer alive) is reuses)
+  where
+    by : (alive : Bool) → ReusesBy state now (lent old (payload_in e)) behind answer alive
+        → IfSome behind.body.kept (λ payload. payload.gathering ≡ gathering_of e.holding)
+    by true r = rw (ap (λ (x : SessionView L C). x.body.kept) r.3, r.2.reads.keeps_payload) refl
+    by false r = rw (ap (λ (x : SessionView L C). x.body.kept) r.2) refl

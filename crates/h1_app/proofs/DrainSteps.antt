@@ -1,6 +1,6 @@
 -- The step that drains a request's body, whole.
 use Rattle.std.proofs.Common.{◌≡◌, ℕ, [], ◌∷◌, Bool, true, false, inl, IfSome, Some, Result, Ok, Err, sym, ◌∙◌, ap, subst, ◌+◌, ◌≤◌, arith, ◌-◌, ◌<◌, Option, None, option_map, refl}
-use Rattle.h1_app.specs.Words.{Rules, Poll, Ready, Pending, Error, FaultsBy, LinkState, keeps_alive, SessionView, Settings, Entry, Exchange, TranscriptView, Stage, Outcome, IsAllowed, replies}
+use Rattle.h1_app.specs.Words.{Rules, Poll, Ready, Pending, Error, FaultsBy, LinkState, keeps_alive, SessionView, Settings, Entry, Exchange, TranscriptView, Stage, Outcome, IsAllowed, replies, payload_in}
 use Rattle.h1_application.specs.Application.{Runs}
 use Rattle.h1_app.proofs.Words.{ReusesAs, IsDraining, JobFrom, Leaves, MovesWithin, StepReady, Stepped, OutcomeCause, FewReadsNotReady, outcome_end, ahead, CalledForReuse, ShutUnless, StandsDrained, Continues, OthersFew}
 use Rattle.h1_app.proofs.DrainEnds.{at_drain, drain_moves, drain_accounted, drain_allowed, drain_kept, drain_grows, drain_waits, drain_fails, drain_overread, drain_more, drain_shut, draining_on, drain_over}
@@ -44,7 +44,7 @@ module _ {L C J : Type 0} (state : L → LinkState)
   did : Reused state x.session new e f
   did = reused state now x.session new e f answer reuses
 
-  told : Answered state x.session new answer
+  told : Answered state x.session new (payload_in f) answer
   told = answered state now x.session new e f answer ready.budget draining.body reuses
 
   -- a read was not ready at most once, and where the step goes on none was
@@ -59,7 +59,7 @@ module _ {L C J : Type 0} (state : L → LinkState)
       most = omega (arith, same, did.few)
 
       by_answer : (answer : Poll (Result Bool Error)) (alive : Bool)
-          → Answered state x.session new answer
+          → Answered state x.session new (payload_in f) answer
           → StandsDrained answer alive x.stage to result
           → FewReadsNotReady (state x.session.link) (state new.link) (e ∷ []) (f ∷ []) result
       by_answer Pending alive a stands = rw stands.1 most
@@ -76,7 +76,7 @@ module _ {L C J : Type 0} (state : L → LinkState)
       old = x.session
 
       by_answer : (answer : Poll (Result Bool Error)) (alive : Bool) → keeps_alive new ≡ alive
-          → Answered state old new answer → StandsDrained answer alive x.stage to result
+          → Answered state old new (payload_in f) answer → StandsDrained answer alive x.stage to result
           → OutcomeCause state pends runs old new (Some f) x.stage to result
       by_answer Pending alive lives a stands = rw (stands.0, stands.1, stage) (
         (f, refl, draining_on state old new e f draining did a.2),
@@ -152,7 +152,7 @@ module _ {L C J : Type 0} (state : L → LinkState)
   -- what continues through the step
   pub drain_continues : (same_plan : L → L → Type 0) (begins : J → Type 0) (pends : J → ℕ)
       (transcript : TranscriptView) → transcript.done ≡ x.transcript.done
-      → transcript.history ≡ x.transcript.history → same_plan x.session.link new.link → Continues state same_plan begins pends x
+      → transcript.holding ≡ x.transcript.holding → same_plan x.session.link new.link → Continues state same_plan begins pends x
       (record { session = new; transcript = transcript; stage = to }) result
   drain_continues same_plan begins pends transcript same history plan =
       by_answer answer (keeps_alive new) called.others stands
@@ -166,7 +166,7 @@ module _ {L C J : Type 0} (state : L → LinkState)
       continues at_last is job few =
           record {
             done = same;
-            history = history;
+            holding = history;
             plan = plan;
             job = rw (stage, is) job;
             others = rw (stage, is) few;
@@ -200,7 +200,7 @@ module _ {L C J : Type 0} (state : L → LinkState)
       shut_as kept is = subst (λ t. ShutUnless t before.shut behind.shut) is called.shut
 
       by_answer : (answer : Poll (Result Bool Error)) (alive : Bool) → keeps_alive new ≡ alive
-          → Answered state x.session new answer
+          → Answered state x.session new (payload_in f) answer
           → FaultsBy before behind (read_fault_of answer)
           → StandsDrained answer alive x.stage to result
           → Leaves before behind (Some f) (outcome_end result)

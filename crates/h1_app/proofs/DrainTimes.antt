@@ -1,6 +1,6 @@
 -- How long a drain of a request's body waits.
 use Rattle.std.proofs.Common.{◌≡◌, ℕ, nat_lt, ◌||◌, ◌⊎◌, inl, inr, [], Bool, true, false, Option, Some, None, IsSome, option_map, Result, Ok, Err, refl, sym, ◌∙◌, ap, subst}
-use Rattle.h1_app.specs.Words.{Poll, Ready, Pending, Error, LinkState, ReusesBy, SessionView, Rose, Entry, allowance, keeps_alive}
+use Rattle.h1_app.specs.Words.{Poll, Ready, Pending, Error, LinkState, ReusesBy, SessionView, Rose, Entry, allowance, keeps_alive, payload_in}
 use Rattle.h1_error.specs.declared.progress.End.TheVariants as end
 use Rattle.h1_server.specs.Payload.{DrainsBody}
 use Rattle.h1_server.specs.Reuse.{ReuseAnswer}
@@ -141,11 +141,11 @@ pub drain_timed : {L C : Type 0} (state : L → LinkState) (now : ℕ) (old new 
     → f.left.times ≡ old.settings.times
     → ReusesAs state now old new e f answer → DrainTimed state now e f old new answer
 drain_timed {L} {C} state now old new e f answer some times h = by_alive (keeps_alive old) h.reuses where
-  by_alive : (alive : Bool) → ReusesBy state now (lent old e.body) h.behind answer alive
+  by_alive : (alive : Bool) → ReusesBy state now (lent old (payload_in e)) h.behind answer alive
       → DrainTimed state now e f old new answer
   by_alive false r = rw r.0 tt
   by_alive true r =
-      let d : DrainsBody state now (lent old e.body) r.0 r.1 = r.2 in
+      let d : DrainsBody state now (lent old (payload_in e)) r.0 r.1 = r.2 in
       let kept : DrainTimed state now e f old (taken_from r.0 h.behind.reusable) answer =
       drain_told state now e f old (taken_from r.0 h.behind.reusable) d.left some d.budget times
       (call_moved (state old.link) (state r.0.link) d.reads.received.piece [] (allowance old.budget)

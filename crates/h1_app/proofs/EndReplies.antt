@@ -2,7 +2,7 @@
 use Rattle.std.proofs.Common.{Option, None, ◌≡◌, ℕ, ◌+◌, ◌-◌, ◌^◌, ◌<◌, ◌⊎◌, inl, inr, min, List, [], ◌∷◌, ◌++◌, length, take, Bool, true, false, cond, nat_lt, nat_le, Some, refl, sym, ◌∙◌, ap, subst, append-nil, length-take, arith, codes}
 use Rattle.std.proofs.lemmas.Bool.{false≢true, ltb-true, lt-ltb}
 use Rattle.std.proofs.lemmas.Option.{none-some}
-use Rattle.h1_app.specs.Words.{AllByRecursion, Error, ErrorType, LinkState, ResponseView, Body, whole, unfinished, broken, ahead, chunked, body, reads, read_as, framing, out, begun, after_piece, end_bytes, is_head, Framing, Counted, Chunked, UntilClose, Chunking, Reading, Lacks, SessionView, Reply, Entry, WroteBehind, AfterWrote, FlushedBy, written_of, FailureCause, EndCause, IsComplete, IsWrittenShort, LastStands, render, is_short, shown, IfTold, OfLast, IsWrittenSoFar}
+use Rattle.h1_app.specs.Words.{AllByRecursion, Error, ErrorType, LinkState, ResponseView, Body, whole, unfinished, broken, ahead, chunked, body, reads, read_as, framing, out, begun, after_piece, end_bytes, is_head, Framing, Counted, Chunked, UntilClose, Chunking, Reading, Lacks, SessionView, Reply, Entry, WroteBehind, AfterRead, AfterWrote, FlushedBy, written_of, FailureCause, EndCause, IsComplete, IsWrittenShort, LastStands, render, is_short, shown, IfTold, OfLast, IsWrittenSoFar, IsPast, payload_in}
 use Rattle.h1_error.specs.declared.error.ErrorType.TheVariants as kind
 use Rattle.h1_error.specs.declared.progress.End.TheVariants as end
 use Rattle.h1_fields.specs.Lines.{Line}
@@ -16,7 +16,9 @@ use Rattle.h1_body.specs.Framing.{by_length, by_fields, has_no_body}
 use Rattle.h1_body.specs.Writer.{lacks}
 use Rattle.h1_body.specs.declared.chunking.Chunking.TheVariants as place
 use Rattle.h1_body.specs.declared.reader.Reading.TheVariants as reading
-use Rattle.h1_transcript.specs.Ends.{EndsBody, LastAfter}
+use Rattle.h1_body.specs.Body.{payload_of}
+use Rattle.h1_body.proofs.PayloadLemmas.{payload_ahead}
+use Rattle.h1_transcript.specs.Ends.{EndsBody, LastAfter, LastGoesPast}
 use Rattle.h1_app.proofs.Words.{Accounted, IsBodied, ReadEntry, WroteSo, coming, StopsBody, StopsWith}
 use Rattle.h1_app.proofs.ReplyLemmas.{at_some}
 use Rattle.h1_transcript.proofs.BehindLemmas.{told_map, read_map}
@@ -75,11 +77,24 @@ module _ {L C : Type 0} (state : L → LinkState) (before : LinkState) (done : L
       (ap (λ xs. reads session.body.reader xs) h.0 ∙ h.1)
       (λ used. ap (λ xs. unfinished xs) (append-nil e.body))
 
+  -- the body is too large where what is received goes on past the limit
+  pub goes_past : IsPast e.holding.limit e.body (reads session.body.reader session.received)
+      → IfTold before.given (state session.link).given (AfterRead done (λ rest. LastGoesPast rest e))
+  goes_past past = read_map done before.given (state session.link).given
+      (λ rest. ReadEntry rest e session) (λ rest. LastGoesPast rest e)
+      (λ rest r. record {
+        n = r.n;
+        head = r.head;
+        body = subst (λ bytes. e.holding.limit < length bytes)
+            (sym (ap payload_of (ap (λ xs. body (framing e.head) xs) r.bytes ∙ r.decoded.read session.received)
+            ∙ payload_ahead e.body (length r.used) (reads session.body.reader session.received))) past;
+      }) s.read
+
 -- an error of the request's body ends the connection for its own cause
 stop_cause : {L C : Type 0} (state : L → LinkState) (before old : LinkState) (done : List Entry)
     (session : SessionView L C) (e : Entry) (error : Error) (k : ErrorType)
     → Accounted state before session done (Some e)
-    → EndsBody before (state session.link) done e error → StopsBody state session k
+    → EndsBody before (state session.link) done e error → StopsBody state session (payload_in e) k
     → FailureCause before old (state session.link) done (Some e) error k
 stop_cause state before old done session e error kind.InvalidBody s ends h =
     (inl ends, stands_broken state before done session e s h)
@@ -89,6 +104,8 @@ stop_cause state before old done session e error kind.ReadError s ends h =
     inr (inl ends, stands_unfinished state before done session e s h)
 stop_cause state before old done session e error kind.ReadTimedout s ends h =
     inr (inl ends, stands_unfinished state before done session e s h)
+stop_cause state before old done session e error kind.ContentTooLarge s ends h =
+    (inl ends, goes_past state before done session e s h)
 stop_cause state before old done session e error kind.NoMemory s ends h = tt
 stop_cause state before old done session e error _ s ends h = absurd h
 
@@ -99,7 +116,7 @@ pub stopped_cause : {L C : Type 0} (state : L → LinkState) (before old : LinkS
     ⊎ IsWrittenShort before (state session.link) done e
     → EndCause before old (state session.link) done (Some e) (end.Failed error)
 stopped_cause state before old done session e error s is replied =
-    let stops = at_some (StopsWith state session) e.body_error error is s.stopped in (
+    let stops = at_some (StopsWith state session (payload_in e)) e.body_error error is s.stopped in (
       stops.1,
       stop_cause state before old done session e error error.kind s
           (record { is = is; replied = replied }) stops.0,

@@ -1,6 +1,10 @@
 -- What steps leave of the link, one after the other.
+use Rattle.h1_app.specs.Turn.{outcome_end}
+use Rattle.h1_app.specs.Asking.{entry_after, outcome_after}
+use Rattle.h1_app.specs.Heard.{Heard}
+use Rattle.h1_app.specs.Heard as asked
 use Rattle.std.proofs.Common.{◌≡◌, ◌⊎◌, inl, inr, ℕ, List, Bool, Option, Some, None, IfNone, sym, ap, ◌∙◌, subst, refl, true, false, Result, arith}
-use Rattle.h1_app.specs.Words.{ErrorType, End, LinkState, Entry, ExtendsLast, SessionView, Error, Poll, Called, FaultsBy, ReusesBy, is_replied, keeps_alive, may_go_on, Asked}
+use Rattle.h1_app.specs.Words.{ErrorType, End, LinkState, Entry, ExtendsLast, SessionView, Error, Poll, Called, FaultsBy, ReusesBy, is_replied, keeps_alive, may_go_on, Payload, Reply}
 use Rattle.h1_error.specs.declared.error.ErrorType.TheVariants as kind
 use Rattle.h1_error.specs.declared.progress.End.TheVariants as end
 use Rattle.h1_app.proofs.Words.{View, AsksAs, failure_of, Leaves, LeavesOn, CalledForReuse, NotesFault, ReadsHeld, ReadsHeldBy, ShutBy, WritesHeld, WritesHeldBy}
@@ -98,7 +102,7 @@ held_reads before now last _ same = same
 
 -- the application was asked
 asked_met : {L C : Type 0} (state : L → LinkState) (old new : SessionView L C) (e e2 e3 : Entry)
-    (answer : Asked)
+    (answer : Heard)
     → AsksAs state old new e e2 answer → e3.body_error ≡ e2.body_error
     → ((state new.link).write_faults ≡ (state old.link).write_faults)
     × (((state new.link).read_faults ≡ (state old.link).read_faults) ⊎ NotesFault (Some e3))
@@ -110,16 +114,16 @@ asked_met {L} {C} state old new e e2 e3 answer asks like =
     asks.behind.body.refused calls.faults noted in
     rw (ap (λ (x : SessionView L C). x.link) asks.session) (met.0, met.1, calls.shut)
 
-pub asked_leaves : {L C : Type 0} (state : L → LinkState) (old new : SessionView L C)
-    (e e2 e3 : Entry) (answer : Asked)
+asked_leaves : {L C : Type 0} (state : L → LinkState) (old new : SessionView L C)
+    (e e2 e3 : Entry) (answer : Heard)
     → AsksAs state old new e e2 answer → e3.body_error ≡ e2.body_error
     → Leaves (state old.link) (state new.link) (Some e3) None
 asked_leaves state old new e e2 e3 answer asks like =
     let met = asked_met state old new e e2 e3 answer asks like in
     record { writes = met.0; reads = met.1; shut = met.2 }
 
-pub asked_fails : {L C : Type 0} (state : L → LinkState) (old new : SessionView L C)
-    (e e2 e3 : Entry) (answer : Asked) (error : Error)
+asked_fails : {L C : Type 0} (state : L → LinkState) (old new : SessionView L C)
+    (e e2 e3 : Entry) (answer : Heard) (error : Error)
     → AsksAs state old new e e2 answer → e3.body_error ≡ e2.body_error
     → Leaves (state old.link) (state new.link) (Some e3) (Some (end.Failed error))
 asked_fails state old new e e2 e3 answer error asks like =
@@ -130,9 +134,19 @@ asked_fails state old new e e2 e3 answer error asks like =
       shut = met.2;
     }
 
+pub answer_leaves : {L C : Type 0} (state : L → LinkState) (old new : SessionView L C) (e e2 : Entry)
+    (answer : Heard) → AsksAs state old new e e2 answer
+    → Leaves (state old.link) (state new.link) (Some (entry_after e2 answer)) (outcome_end (outcome_after answer))
+answer_leaves state old new e e2 asked.Reads asks = asked_leaves state old new e e2 e2 asked.Reads asks refl
+answer_leaves state old new e e2 asked.Pends asks = asked_leaves state old new e e2 e2 asked.Pends asks refl
+answer_leaves state old new e e2 (asked.Replied reply) asks =
+    asked_leaves state old new e e2 (record e2 { reply = Some reply }) (asked.Replied reply) asks refl
+answer_leaves state old new e e2 (asked.Failed error) asks =
+    asked_fails state old new e e2 e2 (asked.Failed error) error asks refl
+
 -- the session was asked for its link's reuse
 pub called_reuse : {L C : Type 0} (state : L → LinkState) (now : ℕ) (old asked behind : SessionView L C)
-    (kept : Option (List ℕ)) (answer : Poll (Result Bool Error))
+    (kept : Option Payload) (answer : Poll (Result Bool Error))
     → asked ≡ record old { body = record old.body { kept = kept } } → is_replied old.reply ≡ true
     → ReusesBy state now asked behind answer (may_go_on asked) → (may_go_on asked ≡ true
     → Called (state asked.link) (state behind.link) (is_reused answer) (read_fault_of answer))

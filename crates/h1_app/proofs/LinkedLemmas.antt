@@ -1,6 +1,6 @@
 -- What was read and written since, where a connection is new or its link was used by others.
 use Rattle.std.proofs.Common.{◌≡◌, ℕ, ◌-◌, ◌^◌, min, List, [], ◌++◌, length, Option, Some, None, refl, sym, ◌∙◌, ap, subst, append-nil, arith}
-use Rattle.h1_app.specs.Words.{LinkState, SessionView, Settings, Entry, AfterRead, AfterWrote, IfTold}
+use Rattle.h1_app.specs.Words.{LinkState, SessionView, Settings, Entry, AfterRead, AfterWrote, IfTold, payload_in}
 use Rattle.h1_link.specs.Later.{KeepsBytes}
 use Rattle.h1_link.proofs.Laters.{keeps_itself, later_itself, later_keeps, append_known-nil}
 use Rattle.h1_server.specs.SessionView.{IsNewSession}
@@ -68,7 +68,7 @@ accounted_linked state old new last before done kept received request body reply
   where
     stays : (last : Option Entry) → StoppedSo state old last → StoppedSo state new last
     stays None h = tt
-    stays (Some e) h = stopped_on state old new e.body_error body received
+    stays (Some e) h = stopped_on state old new (payload_in e) e.body_error body received
         (later_keeps (state old.link) (state new.link) kept) h
 
 -- a poll's budget is no part of it

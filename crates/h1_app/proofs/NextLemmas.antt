@@ -202,7 +202,7 @@ pub sound_next_with : {L C J M : Type 0} (gives : Given → Reply → Type 0)
 sound_next_with gives runs chain terms x y modules s is h = record {
   sound = sound_next (rules_with gives chain) runs terms x y s.sound is h;
   stand = rw h.last tt;
-  history = h.history ∙ s.history;
+  holding = h.holding ∙ s.holding;
 }
 
 -- what the step to the next exchange leaves

@@ -1,6 +1,6 @@
 -- A call that writes a part of a reply, and what its exchange notes of it.
 use Rattle.std.proofs.Common.{Bool, IfSome, List, None, Option, Some, [], ap, append-nil, append_assoc, arith, length, length-append, min, refl, sym, ℕ, ◌++◌, ◌+◌, ◌-◌, ◌^◌, ◌∙◌, ◌≡◌}
-use Rattle.h1_app.specs.Words.{BodyState, Entry, Failed, Grows, How, LinkState, Moved, Open, Reply, Request, ResponseView, RoseBy, SessionView, Stays, Whole, Writes, allowance, render, written_of}
+use Rattle.h1_app.specs.Words.{BodyState, Entry, Failed, Grows, How, LinkState, Moved, Open, Reply, Request, ResponseView, RoseBy, SessionView, Stays, Whole, Writes, allowance, render, written_of, payload_in}
 use Rattle.h1_link.proofs.Laters.{later_on}
 use Rattle.h1_transcript.proofs.BehindLemmas.{flushed_on, read_same, wrote_on}
 use Rattle.h1_transcript.proofs.GrowthLemmas.{dated_same, refused_same, replied_same, stays_itself, stays_with_itself}
@@ -141,7 +141,7 @@ part_accounted {L} {C} state now before done old new taking left e p part settle
             count_on old.reply.sent new.reply.sent (length w.sent.piece) (length rest) _ w.counted
                 h.1 (length-append rest w.sent.piece),
           )) s.wrote;
-      stopped = stopped_on state old new e.body_error (ap (λ s. s.body) w.rest)
+      stopped = stopped_on state old new (payload_in e) e.body_error (ap (λ s. s.body) w.rest)
           (ap (λ s. s.received) w.rest) moved.later s.stopped;
       flushed = flushed_on before (state old.link) (state new.link) 0 done moved.later.flushed
           s.flushed;
@@ -155,7 +155,7 @@ pub part_grows : {L C : Type 0} (state : L → LinkState) (now : ℕ) (old new :
     → WritesPart state now old new taking left e p
     → Grows now (state old.link) (state new.link) e (replying e p)
 part_grows state now old new taking left e p w = record {
-  history = refl;
+  holding = refl;
   head = refl;
   both = refl;
   filtered = stays_itself e.filtered;

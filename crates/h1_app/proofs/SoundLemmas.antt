@@ -34,7 +34,7 @@ sound_linked_with gives runs chain terms x link budget modules end s = record {
   sound = sound_linked (rules_with gives chain) runs terms x.session link budget x.transcript.done
       x.transcript.last x.stage end s.sound;
   stand = s.stand;
-  history = s.history;
+  holding = s.holding;
 }
 
 -- the exchange that goes on has a head for its application

@@ -8,7 +8,7 @@ use Rattle.h1_server.specs.Heads.{with_header}
 use Rattle.h1_transcript.specs.Entries.{with_last}
 use Rattle.h1_transfer.specs.Calls.{no_fault}
 use Rattle.h1_app.specs.Beginning.{BegunFor, HeadFiltered, HeadRefused, IfLast, StandsBegun, StartedAs, with_filtered}
-use Rattle.h1_app.specs.Words.{BeginsIn, History, Called, Error, LinkState, Request, RequestView, SessionView, Settings, Entry, Outcome, Stage, TranscriptView}
+use Rattle.h1_app.specs.Words.{BeginsIn, Holding, Called, Error, LinkState, Request, RequestView, SessionView, Settings, Entry, Outcome, Stage, TranscriptView}
 use Rattle.h1_application.specs.Application.{Runs}
 use Rattle.h1_app.specs.declared.exchange.Stage.TheVariants as stage
 use Rattle.h1_app.proofs.Words.{BegunAs, Chain, Continues, IsNewEntry, JobFrom, Leaves, OthersFew, behind_request, outcome_end}
@@ -77,14 +77,14 @@ module _ {L C J M : Type 0} (state : L → LinkState) (begins : J → Type 0)
 
   pub begun_continues : (same_plan : L → L → Type 0) (pends : J → ℕ) (from : Stage J)
       (before behind : TranscriptView) → from ≡ stage.Head → behind.done ≡ before.done
-      → behind.history ≡ before.history
+      → behind.holding ≡ before.holding
       → same_plan old.link mid.link
       → Continues state same_plan begins pends
       (record { session = old; transcript = before; stage = from })
       (record { session = new; transcript = behind; stage = to }) result
   begun_continues same_plan pends from before behind at done history plan = record {
     done = done;
-    history = history;
+    holding = history;
     plan = rw same_link plan;
     job = started_job begins runs chain mid new modules last pends from to result begun.0 begun.1
         begun.2;
@@ -121,11 +121,11 @@ new_filtered request settings e filtered is = record {
 }
 
 -- an exchange that began is kept as the connection keeps its exchanges, whatever its head becomes
-pub kept_on : (history : History) (old before : Option Entry) (e : Entry) (filtered : Option RequestView)
-    → before ≡ Some e → BeginsIn history old before
-    → BeginsIn history old (Some (record e { filtered = filtered }))
-kept_on history None before e filtered is kept = rw is at kept
-kept_on history (Some first) before e filtered is kept = tt
+pub kept_on : (holding : Holding) (old before : Option Entry) (e : Entry) (filtered : Option RequestView)
+    → before ≡ Some e → BeginsIn holding old before
+    → BeginsIn holding old (Some (record e { filtered = filtered }))
+kept_on holding None before e filtered is kept = rw is at kept
+kept_on holding (Some first) before e filtered is kept = tt
 
 -- the exchange that is lent is the one that began
 pub lent_new : (request : Request) (settings : Settings) (e : Entry) (last : Option Entry)

@@ -37,10 +37,10 @@ begun_join terms i first (f ∷ more) e h is =
     )
 
 begun_grows : (terms : Terms) (i : ℕ) (first : Bool) (done : List Entry) (a b : Entry)
-    → b.began ≡ a.began → b.history ≡ a.history
+    → b.began ≡ a.began → b.holding ≡ a.holding
     → AreBegun terms i first (done ++ a ∷ []) → AreBegun terms i first (done ++ b ∷ [])
 begun_grows terms i first [] a b is kept h = (
-  record { set = rw is h.0.set; keepalive = rw is h.0.keepalive; history = kept ∙ h.0.history },
+  record { set = rw is h.0.set; keepalive = rw is h.0.keepalive; holding = kept ∙ h.0.holding },
   tt,
 )
 begun_grows terms i first (f ∷ more) a b is kept h =
@@ -60,7 +60,7 @@ begun_stepped : (terms : Terms) (now : ℕ) (shutdown : Bool) (first second : Li
     (old new : Settings) (done : List Entry) (last behind : Option Entry)
     → AreBegun terms 0 false (done ++ option_to_list last)
     → ExtendsLast now shutdown first second last behind
-    → BeginsWith old new last behind → BeginsIn terms.history last behind
+    → BeginsWith old new last behind → BeginsIn terms.holding last behind
     → (last ≡ None → IsNextSet terms done old)
     → AreBegun terms 0 false (done ++ option_to_list behind)
 begun_stepped terms now shutdown first second old new done None None h extends begins kept next = h
@@ -70,14 +70,14 @@ begun_stepped terms now shutdown first second old new done None (Some e) h exten
       set = set_alike terms.limit (length done) (pipelining_behind false done) old e.began (next refl)
           begins.0;
       keepalive = begins.1;
-      history = kept;
+      holding = kept;
     } in
     begun_join terms 0 false done e (subst (λ xs. AreBegun terms 0 false xs) (append-nil done) h)
     (subst (λ n. IsBegunFor terms n (pipelining_behind false done) e) same set)
 begun_stepped terms now shutdown first second old new done (Some a) None h extends begins kept next =
     absurd extends
 begun_stepped terms now shutdown first second old new done (Some a) (Some b) h extends begins kept next =
-    begun_grows terms 0 false done a b extends.began extends.history h
+    begun_grows terms 0 false done a b extends.began extends.holding h
 
 -- and after a step it is still set so
 next_stepped : {L C J : Type 0} (runs : Runs J)
@@ -117,7 +117,7 @@ pub sound_stepped : {L C J : Type 0} (rules : Rules)
     (state : L → LinkState) (pends : J → ℕ) (now : ℕ) (shutdown : Bool) (x y : Exchange L J C)
     (result : Outcome)
     → Sound rules runs terms x.session x.transcript.done x.transcript.last x.stage None
-    → x.transcript.history ≡ terms.history
+    → x.transcript.holding ≡ terms.holding
     → Stepped state pends rules runs now shutdown x y result → y.transcript.done ≡ x.transcript.done
     → Sound rules runs terms y.session y.transcript.done y.transcript.last y.stage
     (outcome_end result)
@@ -150,14 +150,14 @@ pub sound_stepped_with : {L C J M : Type 0} (gives : Given → Reply → Type 0)
     (state : L → LinkState) (pends : J → ℕ) (now : ℕ) (shutdown : Bool) (x y : Exchange L J C)
     (first second : List M) (result : Outcome) → SoundWith gives runs chain terms x first None
     → SteppedWith state pends gives runs chain now shutdown second x y result
-    → y.transcript.done ≡ x.transcript.done → y.transcript.history ≡ x.transcript.history
+    → y.transcript.done ≡ x.transcript.done → y.transcript.holding ≡ x.transcript.holding
     → SoundWith gives runs chain terms y second (outcome_end result)
 sound_stepped_with gives runs chain terms state pends now shutdown x y first second result s made same
     kept = record {
       sound = sound_stepped (rules_with gives chain) runs terms state pends now shutdown x y result s.sound
-          s.history made.stepped same;
+          s.holding made.stepped same;
       stand = made.stand;
-      history = kept ∙ s.history;
+      holding = kept ∙ s.holding;
     }
 
 few_stepped : (old now : LinkState) (done : List Entry) (last behind : Option Entry)

@@ -1,7 +1,7 @@
 -- What a connection read and wrote since its link had a state: the bytes of the link, taken apart
 -- into the exchanges and what is still to be used or written.
 use Rattle.std.specs.Prelude.{◌≡◌, ℕ, ◌+◌, ◌-◌, ◌^◌, List, [], ◌++◌, length, drop, min, true, false, Option, Some, None, IfSome, IsSome}
-use Rattle.h1_app.specs.Words.{Error, ErrorType, LinkState, RoseBy, Later, HeadAt, broken, is_whole, BodyState, How, Open, Whole, Failed, reads, wish, HasRead, WriterView, end_bytes, framing, Lacks, SessionView, Request, Entry, AfterRead, AfterWrote, DoneBehind, FlushedBy, IsBelow, written_of, render, IfTold}
+use Rattle.h1_app.specs.Words.{Error, ErrorType, LinkState, RoseBy, Later, HeadAt, broken, is_whole, BodyState, How, Open, Whole, Failed, reads, wish, HasRead, WriterView, end_bytes, framing, Lacks, SessionView, Request, Entry, AfterRead, AfterWrote, DoneBehind, FlushedBy, IsBelow, written_of, render, IfTold, IsPast, Payload, payload_in}
 use Rattle.h1_transfer.specs.BodyErrors.{SaysOfBody}
 
 -- how the body stood when the application replied, of a body that is read on after the reply
@@ -48,18 +48,21 @@ WroteSo since session (Some e) =
     since ++ session.reply.owed ++ coming e.sent_body session.reply.writer ≡ render e
 
 -- what an error of this kind says of a body that can't be read on
-abbrev pub StopsBody : {L C : Type 0} → (L → LinkState) → SessionView L C → ErrorType → Type 0
-StopsBody state session kind = SaysOfBody (reads session.body.reader [] ≡ broken [])
+abbrev pub StopsBody : {L C : Type 0} → (L → LinkState) → SessionView L C → Payload → ErrorType
+    → Type 0
+StopsBody state session payload kind = SaysOfBody (reads session.body.reader [] ≡ broken [])
     (((state session.link).ended ≡ true) × Lacks session.body.reader session.received)
-    (Lacks session.body.reader session.received) (Lacks session.body.reader session.received) kind
+    (Lacks session.body.reader session.received) (Lacks session.body.reader session.received)
+    (IsPast payload.gathering.limit payload.bytes (reads session.body.reader session.received)) kind
 
 -- the error of the request's body has its cause, and isn't for a retry
-abbrev pub StopsWith : {L C : Type 0} → (L → LinkState) → SessionView L C → Error → Type 0
-StopsWith state session error = StopsBody state session error.kind × (error.retry ≡ false)
+abbrev pub StopsWith : {L C : Type 0} → (L → LinkState) → SessionView L C → Payload → Error → Type 0
+StopsWith state session payload error =
+    StopsBody state session payload error.kind × (error.retry ≡ false)
 
 abbrev pub StoppedSo : {L C : Type 0} → (L → LinkState) → SessionView L C → Option Entry → Type 0
 StoppedSo state session None = Unit {0}
-StoppedSo state session (Some e) = IfSome e.body_error (StopsWith state session)
+StoppedSo state session (Some e) = IfSome e.body_error (StopsWith state session (payload_in e))
 
 -- a reply of which nothing is owed any more was flushed
 abbrev pub SettledSo : LinkState → LinkState → List Entry → Option Entry → Type 0

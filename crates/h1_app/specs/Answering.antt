@@ -1,11 +1,12 @@
 -- How a session and the exchange that is last stand to each other until the application replies.
 use Rattle.std.specs.Prelude.{◌≡◌, ℕ, ◌^◌, ◌<◌, List, [], length, false, Some, None}
 use Rattle.h1_app.specs.Words.{is_head, wish, SessionView, Request, Outgoing, Entry}
+use Rattle.h1_body.specs.Payload.{Payload}
 use Rattle.h1_server.specs.Times.{new_times}
 use Rattle.h1_transfer.specs.declared.outgoing.Step.TheVariants as step
 
 -- the session with the payload handed in, as the application is lent it
-abbrev pub lent : {L C : Type 0} → SessionView L C → List ℕ → SessionView L C
+abbrev pub lent : {L C : Type 0} → SessionView L C → Payload → SessionView L C
 lent session payload = record session { body = record session.body { kept = Some payload } }
 
 -- The session but for its link, its budget and what the caller keeps with it. What is sound says

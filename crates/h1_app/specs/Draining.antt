@@ -1,6 +1,6 @@
 -- Reading what is left of a request's body after its reply, and going on to the next request.
 use Rattle.std.specs.Prelude.{◌≡◌, ℕ, Bool, Option, None, Some, Result, Ok, Err, true, false}
-use Rattle.h1_app.specs.Words.{Fault, FaultsBy, Poll, Ready, Pending, Error, LinkState, ReusesBy, keeps_alive, SessionView, Entry, Stage, Outcome, payload_of}
+use Rattle.h1_app.specs.Words.{Fault, FaultsBy, Poll, Ready, Pending, Error, LinkState, ReusesBy, keeps_alive, SessionView, Entry, Stage, Outcome, payload_of, payload_in}
 use Rattle.h1_error.specs.declared.progress.Waiting.TheVariants as waiting
 use Rattle.h1_error.specs.declared.progress.End.TheVariants as end
 use Rattle.h1_app.specs.declared.exchange.Stage.TheVariants as stage
@@ -13,7 +13,7 @@ use Rattle.h1_app.specs.Replied.{IsDraining, MayGoOn}
 pub record ReusesAs {L C : Type 0} (state : L → LinkState) (now : ℕ) (old new : SessionView L C)
     (e noted : Entry) (answer : Poll (Result Bool Error)) : Type 0 where
   pub behind : SessionView L C
-  pub reuses : ReusesBy state now (lent old e.body) behind answer (keeps_alive old)
+  pub reuses : ReusesBy state now (lent old (payload_in e)) behind answer (keeps_alive old)
   pub session : new ≡ record behind { body = record behind.body { kept = None } }
   pub entry : noted ≡ record e { body = payload_of behind }
 

@@ -34,4 +34,4 @@ pub record SoundWith {L C J M : Type 0} (gives : Given → Reply → Type 0)
   -- until an end came the modules are as the filters left them that ran
   pub stand : IfNone end (ModulesStand chain x.transcript.last modules)
   -- exchanges are kept, or not, as the connection was made
-  pub history : x.transcript.history ≡ terms.history
+  pub holding : x.transcript.holding ≡ terms.holding

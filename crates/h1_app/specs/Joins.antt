@@ -31,5 +31,5 @@ pub record JoinsNext {L C J : Type 0} (old new : Exchange L J C) : Type 0 where
   pub awaits : AwaitsNext old.session new.session
   pub done : new.transcript.done ≡ old.transcript.done ++ option_to_list old.transcript.last
   pub last : new.transcript.last ≡ None
-  pub history : new.transcript.history ≡ old.transcript.history
+  pub holding : new.transcript.holding ≡ old.transcript.holding
   pub stage : new.stage ≡ stage.Head

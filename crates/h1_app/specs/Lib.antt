@@ -2,6 +2,7 @@ pub mod View
 pub mod Accounted
 pub mod Answering
 pub mod Filtering
+pub mod Heard
 pub mod Replied
 pub mod Beginning
 pub mod Sound

@@ -70,7 +70,7 @@ pub record Stepped {L C J : Type 0} (state : L → LinkState) (pends : J → ℕ
   pub begins_with : BeginsWith old.session.settings new.session.settings
       old.transcript.last new.transcript.last
   -- and is kept as the connection keeps its exchanges
-  pub begins_in : BeginsIn old.transcript.history old.transcript.last new.transcript.last
+  pub begins_in : BeginsIn old.transcript.holding old.transcript.last new.transcript.last
   -- reads that were not ready
   pub reads_not_ready : FewReadsNotReady (state old.session.link) (state new.session.link)
       (option_to_list old.transcript.last) (option_to_list new.transcript.last) result
@@ -100,7 +100,7 @@ pub record Continues {L C J : Type 0} (state : L → LinkState) (same_plan : L �
   -- the exchanges that ended stay
   pub done : new.transcript.done ≡ old.transcript.done
   -- whether exchanges are kept
-  pub history : new.transcript.history ≡ old.transcript.history
+  pub holding : new.transcript.holding ≡ old.transcript.holding
   -- what is still to come from the link is planned as before
   pub plan : same_plan old.session.link new.session.link
   -- the job was there, or it began in this step

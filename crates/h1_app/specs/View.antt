@@ -1,7 +1,7 @@
 -- What contracts see of a connection.
-use Rattle.std.specs.Prelude.{◌≡◌, ℕ, List, [], ◌++◌, option_to_list, Option, Some, None}
+use Rattle.std.specs.Prelude.{◌≡◌, ℕ, ◌^◌, ◌-◌, List, [], ◌++◌, Bool, true, option_to_list, Option, Some, None}
 use Rattle.h1_server.specs.Keepalive.{new_settings}
-use Rattle.h1_app.specs.Words.{End, SessionView, Entry, Exchange, History, Kept, Stage, Terms}
+use Rattle.h1_app.specs.Words.{End, SessionView, Entry, Exchange, History, Holding, Kept, Stage, Terms}
 use Rattle.h1_app.specs.Work.{Work, reads_head, work_at}
 use Rattle.h1_app.specs.declared.options.HttpServerOptions.{HttpServerOptions}
 
@@ -52,9 +52,33 @@ abbrev pub history_of : Option HttpServerOptions → History
 history_of None = Kept
 history_of (Some options) = options.history
 
+-- how many bytes of a request's body a server gathers at most
+abbrev pub gather_limit_of : Option HttpServerOptions → Option ℕ
+gather_limit_of None = None
+gather_limit_of (Some options) = options.gather_limit
+
+-- how much payload a request may have: what is not gathered has no limit that is reached
+abbrev pub payload_limit : Bool → Option ℕ → ℕ
+payload_limit true (Some limit) = limit
+payload_limit _ _ = 2 ^ 64 - 1
+
+-- what a connection of a server holds, whose application gathers the whole of a body or doesn't
+abbrev pub holding_of : Option HttpServerOptions → Bool → Holding
+holding_of options gathers = record {
+  history = history_of options;
+  gathers = gathers;
+  limit = payload_limit gathers (gather_limit_of options);
+}
+
+-- the same where no limit is set
+abbrev pub unlimited : History → Bool → Holding
+unlimited history gathers =
+    record { history = history; gathers = gathers; limit = payload_limit gathers None }
+
 -- what a connection of a server is made with
-abbrev pub terms_of : Option HttpServerOptions → Terms
-terms_of options = record { limit = limit_of options; history = history_of options }
+abbrev pub terms_of : Option HttpServerOptions → Bool → Terms
+terms_of options gathers =
+    record { limit = limit_of options; holding = holding_of options gathers }
 
 -- what the connection does that may wait only so long, and since when it waits
 abbrev pub work_of : {L C A J : Type 0} → View L C A J → Work
@@ -62,11 +86,11 @@ work_of view = work_at view.stage view.last view.session
 
 -- a connection that read and wrote nothing yet
 pub record IsNewConnection {L C A J : Type 0} (server : A) (options : Option HttpServerOptions)
-    (start : L) (made : View L C A J) : Type 0 where
+    (gathers : Bool) (start : L) (made : View L C A J) : Type 0 where
   pub link : made.session.link ≡ start
   pub settings : made.session.settings ≡ record new_settings { reuses = limit_of options }
   pub served : made.served ≡ server
-  pub terms : made.terms ≡ terms_of options
+  pub terms : made.terms ≡ terms_of options gathers
   pub done : made.done ≡ []
   pub last : made.last ≡ None
   pub work : work_of made ≡ reads_head None

@@ -4,12 +4,12 @@ pub use Rattle.futures.specs.declared.task.Poll.TheVariants.{Pending, Ready}
 pub use Rattle.h1_app.specs.declared.exchange.Exchange.{Exchange}
 pub use Rattle.h1_app.specs.declared.exchange.Outcome.{Outcome}
 pub use Rattle.h1_app.specs.declared.exchange.Stage.{Stage}
-pub use Rattle.h1_app.specs.declared.steps.answering.Asked.{Asked}
 pub use Rattle.h1_application.specs.Application.{ReadsOnly, given_by, how_of, how_stands, payload_of}
 pub use Rattle.h1_body.specs.Body.{Body, ahead, broken, unfinished, whole}
 pub use Rattle.h1_body.specs.Chunks.{chunked}
 pub use Rattle.h1_body.specs.Framing.{framing, is_head, out}
 pub use Rattle.h1_body.specs.Laws.{GrowsTo}
+pub use Rattle.h1_body.specs.Payload.{IsPast, Payload, grown}
 pub use Rattle.h1_body.specs.Read.{HasRead}
 pub use Rattle.h1_body.specs.Reader.{body, read_as, reads}
 pub use Rattle.h1_body.specs.Writer.{WriterView, after_piece, begun, end_bytes}
@@ -55,9 +55,10 @@ pub use Rattle.h1_transcript.specs.Refusals.{EndsBy, IsRefusedBy, IsWrittenSoFar
 pub use Rattle.h1_transcript.specs.Rules.{ArePlain, Filters, LawfulRules, Rules}
 pub use Rattle.h1_transcript.specs.Told.{IfTold, ToldGrowth}
 pub use Rattle.h1_transcript.specs.declared.reply.Reply.{Reply}
-pub use Rattle.h1_transcript.specs.Entry.{Entry}
+pub use Rattle.h1_transcript.specs.Entry.{Entry, payload_in}
 pub use Rattle.h1_transcript.specs.declared.entry.How.{How}
 pub use Rattle.h1_transcript.specs.declared.history.History.{History}
+pub use Rattle.h1_transcript.specs.declared.history.Holding.{Holding}
 pub use Rattle.h1_transcript.specs.declared.history.History.TheVariants.{Kept}
 pub use Rattle.h1_transcript.specs.declared.entry.How.TheVariants.{Failed, Open, Whole}
 pub use Rattle.h1_transfer.specs.Budget.{allowance}

@@ -51,7 +51,8 @@ where
     ghost view = { λ c. record {
       session = c.exchange.session;
       served = served_by (arc_value c.server).app (arc_value c.server).modules;
-      terms = terms_of (arc_value c.server).server_options;
+      terms = terms_of (arc_value c.server).server_options
+          (SV.takes_whole (arc_value c.server).app);
       done = c.exchange.transcript.done;
       last = c.exchange.transcript.last;
       stage = c.exchange.stage;
@@ -61,7 +62,8 @@ where
     ghost invariant = { λ c. SoundWith (SV.gives (arc_value c.server).app)
         (SV.runs (arc_value c.server).app)
         (chain_of B.HttpModuleBuilder B.Module.HttpModule (arc_value c.server).modules)
-        (terms_of (arc_value c.server).server_options) c.exchange c.modules.modules c.end };
+        (terms_of (arc_value c.server).server_options (SV.takes_whole (arc_value c.server).app))
+        c.exchange c.modules.modules c.end };
 }
 
 impl<L, SV, B, C> Connection<L, SV, B, C>
@@ -92,20 +94,20 @@ where
     pub fn new(alloc: Global, server: Arc<HttpServer<SV, B>>, link: L) -> Result<Self, Error>
         ensures fresh { IsOkAnd result
             (IsNewConnection (served_by (arc_value server).app (arc_value server).modules)
-            (arc_value server).server_options link) }
+            (arc_value server).server_options (SV.takes_whole (arc_value server).app) link) }
         ensures accounted { IfOk result
             (λ made. Accounted L.state (L.state link) made.session made.done made.last) }
     {
         let mut session = HttpSession::new(alloc, link)?;
         session.set_keepalive_reuses_remaining(server.request_limit());
-        let history = server.history();
+        let holding = server.holding(server.app.gathers());
         Ok(Connection {
             alloc,
             server,
             modules: HttpModuleCtx::empty(alloc),
             exchange: Exchange {
                 session,
-                transcript: Transcript::new(alloc, history),
+                transcript: Transcript::new(alloc, holding),
                 stage: Stage::Head,
             },
             end: None,
@@ -238,7 +240,8 @@ where
     /// What was read and written so far.
     pub fn transcript(&self) -> &Transcript
         ensures entries { transcript_entries result.now ≡ entries self.now }
-        ensures history { result.now.history ≡ self.now.terms.history }
+        ensures holding { result.now.holding ≡ self.now.terms.holding }
+        ensures last { result.now.last ≡ self.now.last }
     {
         &self.exchange.transcript
     }

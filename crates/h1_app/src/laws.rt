@@ -19,7 +19,7 @@ ghost use Rattle.h1_app.specs.Accounted.{Accounted};
 ghost use Rattle.h1_transcript.specs.Agrees.{Agrees};
 ghost use Rattle.h1_app.specs.Causes.{Cause, PendedBy};
 ghost use Rattle.h1_transcript.specs.Ends.{EndCause};
-ghost use Rattle.h1_transcript.specs.Complete.{IsValid, GaveOf, AreWithin, NoFault, IsInTime, KeepsOn, ServesAll};
+ghost use Rattle.h1_transcript.specs.Complete.{Fits, IsValid, GaveOf, AreWithin, NoFault, IsInTime, KeepsOn, ServesAll};
 ghost use Rattle.h1_transcript.specs.Stream.{Message};
 ghost use Rattle.h1_transcript.specs.Rules.{Filters};
 ghost use Rattle.h1_app.specs.View.{Served, View};
@@ -58,6 +58,7 @@ pub fn valid_input_is_served<L: Link + Drop, SV: ServeHttp<L, C> + Drop, C: Drop
         (input : List ℕ) (requests : List Message)
         → (done : List Entry) (last : Option Entry) (reason : End)
         → IsValid input requests → GaveOf input before now → AreWithin terms.limit (length requests)
+        → AllByRecursion (Fits terms.holding.limit) requests
         → NoFault old now → IsInTime now reason
         → Agrees (record { gives = SV.gives app; filters = filters }) terms before now
         (done ++ option_to_list last)

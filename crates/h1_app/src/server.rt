@@ -5,13 +5,13 @@ ghost use Rattle.h1_error.specs.Memory.{no_memory};
 ghost use Rattle.h1_modules.specs.Builders.{has_key, placed};
 ghost use Rattle.h1_modules.specs.Outcome.{duplicate};
 ghost use Rattle.std.specs.Option.{option_copied};
-ghost use Rattle.h1_app.specs.View.{history_of, limit_of};
+ghost use Rattle.h1_app.specs.View.{holding_of, limit_of};
 
 use crate::{HttpServerOptions, ServeHttp};
 use h1_error::Error;
 use h1_link::Link;
 use h1_modules::{HttpModuleBuilder, HttpModules, NoModules};
-use h1_transcript::History;
+use h1_transcript::{History, Holding};
 use std::alloc::Global;
 
 /// An application with its modules.
@@ -48,13 +48,22 @@ impl<SV: Drop, B: HttpModuleBuilder + Drop> HttpServer<SV, B> {
         self.modules.add_module(builder)
     }
 
-    /// Whether a connection keeps its exchanges.
-    pub(crate) fn history(&self) -> History
-        ensures { result ≡ history_of self.now.server_options }
+    /// What a connection holds of its exchanges, where the application gathers whole bodies or not.
+    pub(crate) fn holding(&self, gathers: bool) -> Holding
+        ensures { result ≡ holding_of self.now.server_options gathers }
     {
-        match &self.server_options {
-            Some(options) => options.history,
-            None => History::Kept,
+        let (history, gather_limit) = match &self.server_options {
+            Some(options) => (options.history, options.gather_limit),
+            None => (History::Kept, None),
+        };
+        let limit = match gather_limit {
+            Some(limit) if gathers => limit,
+            _ => u64::MAX,
+        };
+        Holding {
+            history,
+            gathers,
+            limit,
         }
     }
 

@@ -1,5 +1,6 @@
 //! The steps of an exchange: each makes the calls of one stage.
 ghost use Rattle.h1_app.specs.Sound.{IsInWork};
+ghost use Rattle.h1_app.specs.Asking.{GathersLast};
 ghost use Rattle.h1_app.specs.Turn.{LeavesBy};
 ghost use Rattle.h1_app.specs.Filtering.{chain_of};
 ghost use Rattle.h1_app.specs.FilterSteps.{FilterReady, SteppedWith};
@@ -9,6 +10,7 @@ mod answering;
 mod draining;
 mod filtering;
 mod joining;
+mod lending;
 mod reading_head;
 mod replying;
 
@@ -38,6 +40,7 @@ where
         (chain_of B.HttpModuleBuilder B.Module.HttpModule server.now.modules) now
         modules.old.modules exchange.old }
     requires unfinished { IsInWork exchange.old.stage }
+    requires holds { GathersLast (SV.takes_whole server.now.app) exchange.old.transcript.last }
     ensures stepped { SteppedWith L.state SV.pends (SV.gives server.now.app) (SV.runs server.now.app)
         (chain_of B.HttpModuleBuilder B.Module.HttpModule server.now.modules) now shutdown
         modules.new.modules exchange.old exchange.new result }

@@ -1,5 +1,8 @@
 -- How an application's reading goes on from call to call.
 use Rattle.std.proofs.Common.{◌≡◌, ℕ, ◌+◌, ◌-◌, ◌≤◌, ◌⊎◌, inl, inr, List, [], ◌++◌, length, Bool, true, false, Option, Some, None, IfSome, IfNone, IsSome, refl, sym, ap, ◌∙◌, subst, append-nil, append_assoc, length-append, arith}
+use Rattle.h1_body.specs.Payload.{Payload, grown, held_so}
+use Rattle.h1_transfer.specs.Decoding.{held_of, noted_of}
+use Rattle.h1_transfer.proofs.BodyLemmas.{kept_none, kept_on}
 use Rattle.h1_transfer.proofs.CalledLemmas.{called_itself, called_on, called_undone}
 use Rattle.std.proofs.lemmas.Bool.{false≢true}
 use Rattle.std.specs.Prelude.{option_map, Result, Ok, Err}
@@ -15,7 +18,7 @@ use Rattle.h1_transfer.specs.BodyAnswers.{IsReadSo}
 use Rattle.h1_transfer.specs.Budget.{allowance}
 use Rattle.h1_transfer.proofs.MovedLemmas.{moved_itself, moved_on}
 use Rattle.h1_application.proofs.Words.{ReadsOnly, RefusedBy, WaitsBy}
-use Rattle.h1_application.specs.Application.{fault_met, ReadsAtOnce, RefusesWith}
+use Rattle.h1_application.specs.Application.{fault_met, HoldsPayload, ReadsAtOnce, RefusesWith}
 
 -- nothing of a budget was spent
 pub budget_itself : (budget : Option ℕ) → budget ≡ option_map (λ left. left - 0) budget
@@ -63,21 +66,6 @@ budget_none None new left there step none = absurd (false≢true there)
 budget_none (Some had) new left there step none = step ∙ ap Some none
 
 -- payload that is kept
-kept_itself : (kept : Option (List ℕ)) → kept ≡ option_map (λ front. front ++ []) kept
-kept_itself None = refl
-kept_itself (Some front) = ap Some (sym (append-nil front))
-
-kept_on : (a b c : Option (List ℕ)) (x y : List ℕ) → b ≡ option_map (λ front. front ++ x) a
-    → c ≡ option_map (λ front. front ++ y) b
-    → c ≡ option_map (λ front. front ++ (x ++ y)) a
-kept_on a b c x y first second = second ∙ ap (option_map (λ front. front ++ y)) first ∙ twice a
-  where
-    twice : (a : Option (List ℕ))
-        → option_map (λ front. front ++ y) (option_map (λ front. front ++ x) a) ≡ option_map
-        (λ front. front ++ (x ++ y)) a
-    twice None = refl
-    twice (Some front) = ap Some (append_assoc front x y)
-
 -- a reading goes on after the one before
 decoded_on : (a b c : BodyReader) (used more payload further : List ℕ) → Decoded a b used payload
     → Decoded b c more further
@@ -101,6 +89,7 @@ refusal_on state a b c kind.InvalidBody later h = h
 refusal_on state a b c kind.ConnectionClosed later h = h
 refusal_on state a b c kind.ReadError later h = (let counts = later.counts in omega (arith, h.0), h.1)
 refusal_on state a b c kind.ReadTimedout later h = (let counts = later.counts in omega (arith, h.0), h.1)
+refusal_on state a b c kind.ContentTooLarge later h = h
 refusal_on state a b c kind.NoMemory later h = tt
 refusal_on state a b c _ later h = absurd h
 
@@ -149,7 +138,7 @@ reads_itself state s = record {
       (rw (met_itself s.body.refused) (called_itself (state s.link)));
   bytes = append-nil s.received;
   decoded = record { reads = λ more. sym (ahead_none (reads s.body.reader more)) };
-  kept = kept_itself s.body.kept;
+  kept = kept_none s.body.kept;
   request = refl;
   head_refused = refl;
   reuses = refl;
@@ -161,6 +150,23 @@ reads_itself state s = record {
   undrained = λ none. none;
   waits = λ free. rw free refl;
 }
+
+-- what is read is held where payload was
+pub holds_on : {L C : Type 0} (state : L → LinkState) (a b : SessionView L C) → ReadsOnly state a b
+    → HoldsPayload a → HoldsPayload b
+holds_on state a b reads holds = rw reads.kept (by a.body.kept holds) where
+  by : (kept : Option Payload) → held_of kept ≡ Some (noted_of kept)
+      → held_of (option_map (grown reads.payload) kept) ≡ Some (noted_of (option_map (grown reads.payload) kept))
+  by None holds = absurd (never holds) where
+    never : None ≡ Some (noted_of None) → ⊥
+    never same = cc
+  by (Some kept) holds = so kept.gathering.holds holds where
+    so : (t : Bool) → held_so t kept.bytes ≡ Some kept.bytes
+        → held_so t (kept.bytes ++ reads.payload) ≡ Some (kept.bytes ++ reads.payload)
+    so true h = refl
+    so false h = absurd (none h) where
+      none : None ≡ Some kept.bytes → ⊥
+      none same = cc
 
 -- reading on, where no read was pending or refused before
 pub reads_on : {L C : Type 0} (state : L → LinkState) (a b c : SessionView L C)
@@ -209,7 +215,7 @@ payload_refused state old new payload left (Ready (Err error)) h =
     subst (λ o. IfSome o (RefusesWith state old new)) (sym h.1)
     (behind new.body.kept error error.kind refl (h.2, h.4))
   where
-    behind : (kept : Option (List ℕ)) (error : Error) (k : ErrorType) → error.kind ≡ k
+    behind : (kept : Option Payload) (error : Error) (k : ErrorType) → error.kind ≡ k
         → RefusesWith state old new error
         → IfSome (refused_behind kept error) (RefusesWith state old new)
     behind None error kind.NoMemory is h = rw is tt
@@ -239,7 +245,7 @@ payload_waits state old new payload left Pending there step h none =
     why (inr spent) = inr (budget_none old.budget new.budget left there step spent)
 
 -- a fault that the answer tells is the one that the refusal notes
-refusal_fault : (kept : Option (List ℕ)) (error : Error) (k : ErrorType) → error.kind ≡ k
+refusal_fault : (kept : Option Payload) (error : Error) (k : ErrorType) → error.kind ≡ k
     → read_fault_of_kind error.kind ≡ fault_met None (refused_behind kept error)
 refusal_fault None error kind.NoMemory is = rw is refl
 refusal_fault (Some payload) error kind.NoMemory is = rw is refl

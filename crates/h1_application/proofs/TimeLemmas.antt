@@ -1,4 +1,5 @@
 -- What an application notes of the time that its reads wait.
+use Rattle.h1_body.specs.Payload.{Payload}
 use Rattle.std.proofs.Common.{◌≡◌, ℕ, ◌+◌, ◌≤◌, nat_le, nat_lt, inl, inr, List, Bool, true, false, Option, Some, None, IfSome, IfNone, IsSome, refl, sym, ◌∙◌, ap, subst, arith}
 use Rattle.std.proofs.lemmas.Bool.{false≢true}
 use Rattle.std.proofs.lemmas.Bool.Decides.{nat_tests}
@@ -169,7 +170,7 @@ module _ (now : ℕ) (limit : Option ℕ) (before behind : ℕ) (moved : Bool)
 
 -- what is noted of a limit behind an error
 limit_failed : (now : ℕ) (since limit before behind : Option ℕ)
-    (kept : Option (List ℕ)) (error : Error) (k : ErrorType) → error.kind ≡ k
+    (kept : Option Payload) (error : Error) (k : ErrorType) → error.kind ≡ k
     → behind ≡ limit_behind {T = Option (List ℕ)} limit before (Ready (Err error))
     → (error.kind ≡ kind.ReadTimedout → IsOverAt now since limit)
     → LimitedBy now since before behind None (refused_behind kept error)

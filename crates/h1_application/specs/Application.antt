@@ -1,12 +1,13 @@
 -- What an application may do with a session, and what it is given.
-use Rattle.std.specs.Prelude.{◌≡◌, ℕ, ◌+◌, ◌-◌, ◌≤◌, ◌⊎◌, List, [], ◌++◌, Bool, true, false, Option, Some, None, option_map, unwrap_or, IfSome, Result, Ok, Err}
+use Rattle.std.specs.Prelude.{◌≡◌, ℕ, ◌+◌, ◌-◌, ◌≤◌, ◌⊎◌, List, [], ◌++◌, Bool, true, false, Option, Some, None, option_map, IfSome, Result, Ok, Err}
 use Rattle.h1_application.specs.Words.{Called, no_fault, read_fault_of_kind, Poll, Ready, Pending, Error, ErrorType, LinkState, Rose, raised, reads, Decoded, BodyRefusal, SessionView, Settings}
 use Rattle.h1_error.specs.declared.error.ErrorType.TheVariants as kind
 use Rattle.h1_transfer.specs.Calls.{Fault}
 use Rattle.h1_head.specs.Views.{RequestView}
 use Rattle.h1_body.specs.Body.{Body, whole, unfinished, broken}
 use Rattle.h1_transfer.specs.Moved.{Moved}
-use Rattle.h1_transfer.specs.Decoding.{Lacks}
+use Rattle.h1_transfer.specs.Decoding.{Lacks, held_of, noted_of}
+use Rattle.h1_body.specs.Payload.{grown}
 use Rattle.h1_transfer.specs.declared.body.BodyState.{BodyState}
 use Rattle.h1_transcript.specs.declared.reply.Reply.{Reply}
 use Rattle.h1_transcript.specs.declared.entry.How.{How}
@@ -25,7 +26,11 @@ abbrev pub how_of : BodyState → How
 how_of body = how_stands (reads body.reader []) body.refused
 
 abbrev pub payload_of : {L C : Type 0} → SessionView L C → List ℕ
-payload_of session = unwrap_or session.body.kept []
+payload_of session = noted_of session.body.kept
+
+-- memory holds all payload
+abbrev pub HoldsPayload : {L C : Type 0} → SessionView L C → Type 0
+HoldsPayload session = held_of session.body.kept ≡ Some (payload_of session)
 
 abbrev pub given_by : {L C : Type 0} → RequestView → Settings → SessionView L C → Given
 given_by head began session =
@@ -87,7 +92,7 @@ pub record ReadsOnly {L C : Type 0} (state : L → LinkState)
       (fault_met old.body.refused new.body.refused)
   pub bytes : old.received ++ piece ≡ used ++ new.received
   pub decoded : Decoded old.body.reader new.body.reader used payload
-  pub kept : new.body.kept ≡ option_map (λ front. front ++ payload) old.body.kept
+  pub kept : new.body.kept ≡ option_map (grown payload) old.body.kept
   pub request : new.request ≡ old.request
   pub head_refused : new.refused ≡ old.refused
   pub reuses : new.settings.reuses ≡ old.settings.reuses

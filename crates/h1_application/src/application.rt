@@ -1,11 +1,11 @@
 //! What an application is to a connection.
-ghost use Rattle.std.specs.Prelude.{◌≡◌, ℕ, ◌<◌, ◌≤◌, List, [], Option, None, IfOk, IfErr, IsSome, false};
+ghost use Rattle.std.specs.Prelude.{◌≡◌, ℕ, ◌<◌, ◌≤◌, List, [], Bool, Option, None, true, IfOk, IfErr, IsSome, false};
 ghost use Rattle.h1_error.specs.declared.moment.TheConstants.{YEAR_10000};
 ghost use Rattle.h1_error.specs.Memory.{no_memory};
 ghost use Rattle.h1_server.specs.declared.settings.Settings.{Settings};
 ghost use Rattle.h1_head.specs.Views.{RequestView};
 ghost use Rattle.h1_transcript.specs.Given.{Given};
-ghost use Rattle.h1_application.specs.Application.{ReadsOnly, ReadsInTime, IfPending, GivesReply, given_by, PendsBy, IsAskedFor, payload_of};
+ghost use Rattle.h1_application.specs.Application.{ReadsOnly, ReadsInTime, IfPending, GivesReply, HoldsPayload, given_by, PendsBy, IsAskedFor, payload_of};
 ghost use Rattle.h1_transcript.specs.Lawful.{LawfulReplies};
 ghost use Rattle.h1_transcript.specs.declared.reply.Reply.{Reply};
 
@@ -17,6 +17,10 @@ use h1_transcript::Reply;
 use std::alloc::Global;
 
 /// An application: it is started for each request, reads the body and replies.
+///
+/// One that uses each piece of a body as it comes reads with `poll_read_body_bytes`, and nothing of
+/// the body stays in memory. One that `gathers` has all payload that it read so far in
+/// `held_payload`, up to the limit that is set for it.
 ///
 /// Its relation `gives` says which reply it gives to what it was given. It only reads the body, and
 /// after a call nothing is left unread where a read was pending (`reads`). It reads at the moment that
@@ -44,6 +48,13 @@ pub trait ServeHttp<L: Link + Drop, C: Drop> {
     ghost runs: { Self → Self.Job → RequestView → Settings → Settings → List ℕ → Option ℕ
         → Type 0 };
 
+    /// Whether it uses the whole of a body, and not its pieces alone.
+    ghost takes_whole: { Self → Bool };
+
+    /// Whether all payload that it reads is held for it.
+    fn gathers(&self) -> bool
+        ensures { result ≡ takes_whole self.now };
+
     /// Starts a job. Its only error is being out of memory.
     fn start(&self, alloc: Global) -> Result<Self::Job, Error>
         ensures begins { IfOk result begins }
@@ -60,6 +71,7 @@ pub trait ServeHttp<L: Link + Drop, C: Drop> {
     ) -> Poll<Result<Reply, Error>>
         requires request { IsSome http.old.request }
         requires kept { IsSome http.old.body.kept }
+        requires holds { takes_whole self.now ≡ true → HoldsPayload http.old }
         requires budget { IsSome http.old.budget }
         // The session's note of a pending read is clear.
         requires waits { http.old.body.waits ≡ false }

@@ -33,9 +33,8 @@ pub(crate) fn serve(alloc: Global, bytes: &[u8], piece: usize, work: Work) -> Re
 {
     let mut server = HttpServer::new_app(alloc, EchoApp);
     server.server_options = Some(HttpServerOptions {
-        keepalive_request_limit: None,
-        allow_connect_method_proxying: false,
         history: History::Forgotten,
+        ..HttpServerOptions::default()
     });
     let server = Arc::new(alloc, server)?;
     let mut connection: Connection<MemLink, EchoApp, NoModules, ()> = Connection::new(

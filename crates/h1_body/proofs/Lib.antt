@@ -6,6 +6,7 @@ pub mod FeedLemmas
 pub mod GrammarRuns
 pub mod LawLemmas
 pub mod MachineLemmas
+pub mod PayloadLemmas
 pub mod ReadLemmas
 pub mod RunLemmas
 pub mod SoundLemmas

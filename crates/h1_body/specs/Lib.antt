@@ -6,6 +6,7 @@ pub mod Feeds
 pub mod Fixed
 pub mod Framing
 pub mod Laws
+pub mod Payload
 pub mod Read
 pub mod Reader
 pub mod Takes

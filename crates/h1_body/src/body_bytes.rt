@@ -11,6 +11,9 @@ use std::alloc::Global;
 use std::marker::Model;
 use std::mem;
 
+/// The most room that bytes keep once they are cleared.
+pub const ROOM: usize = 65_536;
+
 /// Bytes that grow at their end. Contracts see the list of them.
 #[derive(Debug, Drop)]
 pub struct BodyBytes {
@@ -150,11 +153,12 @@ impl BodyBytes {
         }
     }
 
-    /// Drops all bytes. Memory that no one else holds is kept.
+    /// Drops all bytes. A block of at most [`ROOM`] bytes that no one else holds is kept.
     pub fn clear(&mut self)
         ensures { self.new ≡ [] }
     {
         match &mut self.held {
+            Held::Own(own) if own.capacity() > ROOM => *own = Vec::new(*own.allocator()),
             Held::Own(own) => own.clear(),
             Held::Shared(alloc, _) => self.held = Held::Own(Vec::new(*alloc)),
         }

@@ -9,6 +9,7 @@ mod fed;
 mod fixed_buffer;
 mod framing;
 mod laws;
+mod payload;
 mod reader;
 mod size_line;
 #[cfg(test)]
@@ -17,13 +18,14 @@ mod wire;
 mod writer;
 mod writing_laws;
 
-pub use body_bytes::BodyBytes;
+pub use body_bytes::{BodyBytes, ROOM};
 pub use chunk_laws::{chunked_is_the_grammar, no_chunked_body_begins_another};
 pub use chunking::{CHUNK_LIMIT, Chunking, SIZE_LINE_LIMIT, TRAILERS_LIMIT};
 pub use fed::{Fed, FeedState, Taken};
 pub use fixed_buffer::FixedBuffer;
 pub use framing::{Framing, framing_of, is_head_only, reply_framing};
 pub use laws::{bodies_grow, readings_join};
+pub use payload::{Gathering, Payload};
 pub use reader::{BodyReader, Reading};
 pub use wire::Wire;
 pub use writer::BodyWriter;

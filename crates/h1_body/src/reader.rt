@@ -1,21 +1,19 @@
 //! Reading a body from pieces of any size (RFC 9112, sections 6 and 7.1).
-ghost use Rattle.std.specs.Prelude.{◌≡◌, ◌≤◌, ◌++◌, ℕ, List, [], length, drop, true, false, slice_range, IfOk, IfErr};
+ghost use Rattle.std.specs.Prelude.{◌≡◌, ◌≤◌, ◌++◌, ℕ, List, [], length, drop, true, false, slice_range, IfOk, IfErr, OnErr};
 ghost use Rattle.h1_error.specs.Memory.{no_memory};
 ghost use Rattle.h1_body.specs.Body.{stop_of, whole, unfinished};
 ghost use Rattle.h1_body.specs.Chunks.{chunked};
 ghost use Rattle.h1_body.specs.Reader.{body, counted, reads, closes_with_link, is_until_close};
 ghost use Rattle.h1_body.specs.Feeds.{Feeds};
+ghost use Rattle.h1_body.specs.Payload.{TakeFault, grown};
 ghost use Rattle.h1_body.specs.Takes.{Takes, some_bytes, payload_bytes};
 ghost use Rattle.h1_body.specs.declared.fed.FeedState.TheVariants as state;
 
 use crate::chunking::{Chunking, state_of, step};
-use crate::{BodyBytes, Fed, FeedState, Framing, Taken};
+use crate::{BodyBytes, Fed, FeedState, Framing, Payload, Taken};
 use bytes::{Bytes, BytesMut};
 use h1_error::Error;
 use h1_head::Room;
-
-/// A first run of payload that has at most so many bytes is kept in memory that small pieces share.
-const SHORT: usize = 512;
 
 /// Reads the payload out of the bytes of one body.
 #[derive(Clone, Copy, Debug, PartialEq, Eq)]
@@ -120,25 +118,27 @@ impl BodyReader {
         })
     }
 
-    /// Takes as `take` does, and adds a copy of the payload to what is kept. A short run before
-    /// which nothing is kept is copied into the room's memory, and the copy itself is handed out.
+    /// Takes as `take` does, and notes the payload as read. Where payload is held a copy is added to
+    /// it; a short run before which nothing is held is copied into the room's memory, and the copy
+    /// itself is handed out. A body that goes on past the payload's limit is refused.
     #[inline(always)]
     pub fn take_into(
         &mut self,
         buf: &mut BytesMut,
-        kept: &mut BodyBytes,
+        kept: &mut Payload,
         room: &mut Room,
     ) -> Result<Taken, Error>
         ensures ok { IfOk result
             (λ taken. Takes self.old self.new buf.old.items buf.new.items taken
-            × (kept.new ≡ kept.old ++ payload_bytes taken.payload)) }
-        ensures err { IfErr result (λ error. (error ≡ no_memory)
-            × (self.new ≡ self.old) × (buf.new ≡ buf.old) × (kept.new ≡ kept.old)) }
+            × (kept.new ≡ grown (payload_bytes taken.payload) kept.old)) }
+        ensures fault { IfErr result (TakeFault kept.old (reads self.old buf.old.items)) }
+        ensures err { OnErr result ((self.new ≡ self.old) × (buf.new ≡ buf.old)
+            × (kept.new ≡ kept.old)) }
         ensures closes { closes_with_link self.new ≡ closes_with_link self.old }
     {
         let mut after = *self;
         let fed = after.feed(buf.as_slice());
-        let payload = keep(buf, fed.payload.start, fed.payload.end, kept, room)?;
+        let payload = kept.keep(buf, fed.payload.start, fed.payload.end, room)?;
         *self = after;
         Ok(Taken {
             payload,
@@ -163,7 +163,7 @@ impl BodyReader {
 
 /// Takes the bytes through this end out of the buffer, and hands out those from the start on.
 #[inline(always)]
-fn cut(buf: &mut BytesMut, start: usize, end: usize) -> Result<Option<Bytes>, Error>
+pub(crate) fn cut(buf: &mut BytesMut, start: usize, end: usize) -> Result<Option<Bytes>, Error>
     requires ordered { start ≤ end }
     requires within { end ≤ length buf.old.items }
     ensures ok { IfOk result (λ piece. (piece ≡ some_bytes (slice_range buf.old.items start end))
@@ -177,58 +177,6 @@ fn cut(buf: &mut BytesMut, start: usize, end: usize) -> Result<Option<Bytes>, Er
     let mut piece = buf.freeze_to(end)?;
     piece.advance(start);
     Ok(Some(piece))
-}
-
-/// Cuts, and adds a copy of what is handed out to what is kept.
-#[inline(always)]
-fn keep(
-    buf: &mut BytesMut,
-    start: usize,
-    end: usize,
-    kept: &mut BodyBytes,
-    room: &mut Room,
-) -> Result<Option<Bytes>, Error>
-    requires ordered { start ≤ end }
-    requires within { end ≤ length buf.old.items }
-    ensures ok { IfOk result (λ piece. (piece ≡ some_bytes (slice_range buf.old.items start end))
-        × (buf.new.items ≡ drop end buf.old.items)
-        × (kept.new ≡ kept.old ++ slice_range buf.old.items start end)) }
-    ensures err { IfErr result (λ error. (error ≡ no_memory) × (buf.new ≡ buf.old)
-        × (kept.new ≡ kept.old)) }
-{
-    if start == end {
-        return cut(buf, start, end);
-    }
-    if end - start <= SHORT && kept.is_empty() {
-        let piece = kept.hold_copy(&buf.as_slice()[start..end], room)?;
-        buf.advance(end);
-        return Ok(Some(piece));
-    }
-    keep_behind(buf, start, end, kept)
-}
-
-/// The same of a piece that is long or has others before it.
-fn keep_behind(
-    buf: &mut BytesMut,
-    start: usize,
-    end: usize,
-    kept: &mut BodyBytes,
-) -> Result<Option<Bytes>, Error>
-    requires ordered { start ≤ end }
-    requires within { end ≤ length buf.old.items }
-    ensures ok { IfOk result (λ piece. (piece ≡ some_bytes (slice_range buf.old.items start end))
-        × (buf.new.items ≡ drop end buf.old.items)
-        × (kept.new ≡ kept.old ++ slice_range buf.old.items start end)) }
-    ensures err { IfErr result (λ error. (error ≡ no_memory) × (buf.new ≡ buf.old)
-        × (kept.new ≡ kept.old)) }
-{
-    let len = kept.len();
-    kept.append(&buf.as_slice()[start..end])?;
-    let piece = cut(buf, start, end);
-    if piece.is_err() {
-        kept.truncate(len);
-    }
-    piece
 }
 
 fn feed_counted(left: u64, piece: &[u8]) -> (u64, Fed)

@@ -1,9 +1,12 @@
 //! Outside examples of bodies (RFC 9112, sections 6 and 7.1).
-use crate::{BodyBytes, BodyReader, BodyWriter, FeedState, FixedBuffer, Framing, Wire};
+use crate::{
+    BodyBytes, BodyReader, BodyWriter, FeedState, FixedBuffer, Framing, Gathering, Payload, Wire,
+};
 use bytes::{Bytes, BytesMut};
 use h1_error::{Error, ErrorType};
 use h1_head::Room;
 use std::alloc::Global;
+use std::process::Abort;
 use std::test::Fail;
 
 const CHUNKED: Framing = Framing::Chunked;
@@ -187,25 +190,83 @@ fn bytes_of(payload: &Option<Bytes>) -> Option<&[u8]> {
     }
 }
 
-#[test]
-fn all_payload_that_is_taken_is_kept(rt: HostRuntime) -> Result<(), Fail> {
-    let chunks = b"3\r\nabc\r\n2\r\nde\r\n0\r\n\r\nGET";
-    let mut buf = BytesMut::copy_from_slice(rt.alloc(), chunks)?;
+/// A chunked body of five bytes, and the front of what follows it.
+const FIVE: &[u8] = b"3\r\nabc\r\n2\r\nde\r\n0\r\n\r\nGET";
+
+/// Reads the body of five bytes: each piece and state as they come, what is held then, and how much
+/// was read.
+fn read_five(
+    rt: &impl Abort,
+    alloc: Global,
+    gathering: Gathering,
+    holds: [Option<&[u8]>; 3],
+) -> Result<(), Fail> {
+    let mut buf = BytesMut::copy_from_slice(alloc, FIVE)?;
     let mut reader = BodyReader::new(CHUNKED);
-    let mut kept = BodyBytes::new(rt.alloc());
-    let mut room = Room::new(rt.alloc());
-    let expected: [(Option<&[u8]>, &[u8], FeedState); 3] = [
-        (Some(b"abc"), b"abc", FeedState::More),
-        (Some(b"de"), b"abcde", FeedState::More),
-        (None, b"abcde", FeedState::Done),
+    let mut payload = Payload::new(alloc, gathering);
+    let mut room = Room::new(alloc);
+    let expected: [(Option<&[u8]>, u64, FeedState); 3] = [
+        (Some(b"abc"), 3, FeedState::More),
+        (Some(b"de"), 5, FeedState::More),
+        (None, 5, FeedState::Done),
     ];
-    for (piece, all, state) in expected {
-        let taken = reader.take_into(&mut buf, &mut kept, &mut room)?;
+    for ((piece, len, state), held) in expected.into_iter().zip(holds) {
+        let taken = reader.take_into(&mut buf, &mut payload, &mut room)?;
         assert_eq!(rt; bytes_of(&taken.payload), piece);
-        assert_eq!(rt; kept.as_slice(), all);
         assert_eq!(rt; taken.state, state);
+        assert_eq!(rt; payload.held(), held);
+        assert_eq!(rt; payload.len(), len);
     }
     assert_eq!(rt; buf.as_slice(), b"GET".as_slice());
+    Ok(())
+}
+
+#[test]
+fn all_payload_that_is_taken_is_held(rt: HostRuntime) -> Result<(), Fail> {
+    for limit in [5, u64::MAX] {
+        let holds = true;
+        let held: [Option<&[u8]>; 3] = [Some(b"abc"), Some(b"abcde"), Some(b"abcde")];
+        read_five(&rt, rt.alloc(), Gathering { holds, limit }, held)?;
+    }
+    Ok(())
+}
+
+#[test]
+fn payload_that_is_not_held_is_counted(rt: HostRuntime) -> Result<(), Fail> {
+    for limit in [5, u64::MAX] {
+        let holds = false;
+        read_five(
+            &rt,
+            rt.alloc(),
+            Gathering { holds, limit },
+            [None, None, None],
+        )?;
+    }
+    Ok(())
+}
+
+#[test]
+fn a_body_that_goes_on_past_its_limit_is_refused(rt: HostRuntime) -> Result<(), Fail> {
+    for holds in [true, false] {
+        let mut buf = BytesMut::copy_from_slice(rt.alloc(), FIVE)?;
+        let mut reader = BodyReader::new(CHUNKED);
+        let mut payload = Payload::new(rt.alloc(), Gathering { holds, limit: 4 });
+        let mut room = Room::new(rt.alloc());
+        let taken = reader.take_into(&mut buf, &mut payload, &mut room)?;
+        assert_eq!(rt; taken.payload, Some(Bytes::from_static(b"abc")));
+        for _ in 0..2 {
+            match reader.take_into(&mut buf, &mut payload, &mut room) {
+                Ok(taken) => assert!(rt; false, "{taken:?}"),
+                Err(error) => assert_eq!(rt; error, Error::from(ErrorType::ContentTooLarge)),
+            }
+            assert_eq!(rt; payload.len(), 3);
+            assert_eq!(rt; buf.len(), 17);
+        }
+        payload.clear();
+        let taken = reader.take_into(&mut buf, &mut payload, &mut room)?;
+        assert_eq!(rt; taken.payload, Some(Bytes::from_static(b"de")));
+        assert_eq!(rt; payload.len(), 2);
+    }
     Ok(())
 }
 

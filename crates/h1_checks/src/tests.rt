@@ -5,6 +5,7 @@ ghost use Rattle.h1_error.specs.declared.moment.TheConstants.{YEAR_10000};
 mod acts;
 mod applications;
 mod failing;
+mod gathering;
 mod generated;
 mod modules;
 mod play;
@@ -13,7 +14,7 @@ mod servers;
 mod serving;
 mod waiting;
 
-use h1_app::{Connection, History, HttpServer, HttpServerOptions, NoModules, Progress, ServeHttp};
+use h1_app::{Connection, HttpServer, HttpServerOptions, NoModules, Progress, ServeHttp};
 use h1_error::Error;
 use h1_link::{Link, MemLink};
 use std::alloc::Global;
@@ -54,30 +55,29 @@ fn ended_link_of(alloc: Global, bytes: &[u8]) -> Result<MemLink, Error> {
     Ok(link)
 }
 
-/// A connection of this application over this link.
+/// A connection of this application over this link, which may serve so many requests more than one.
 fn connect<L: Link + Drop, SV: ServeHttp<L, ()> + Drop>(
     alloc: Global,
     app: SV,
     limit: Option<u32>,
     link: L,
 ) -> Result<Served<L, SV>, Error> {
-    connect_with(alloc, app, limit, History::Kept, link)
+    let options = HttpServerOptions {
+        keepalive_request_limit: limit,
+        ..HttpServerOptions::default()
+    };
+    connect_with(alloc, app, options, link)
 }
 
-/// The same, which keeps its exchanges or forgets them.
+/// The same with what is set on its server.
 fn connect_with<L: Link + Drop, SV: ServeHttp<L, ()> + Drop>(
     alloc: Global,
     app: SV,
-    limit: Option<u32>,
-    history: History,
+    options: HttpServerOptions,
     link: L,
 ) -> Result<Served<L, SV>, Error> {
     let mut server = HttpServer::new_app(alloc, app);
-    server.server_options = Some(HttpServerOptions {
-        keepalive_request_limit: limit,
-        allow_connect_method_proxying: false,
-        history,
-    });
+    server.server_options = Some(options);
     let connection = Connection::new(alloc, Arc::new(alloc, server)?, link)?;
     Ok(Served { connection })
 }
@@ -142,12 +142,9 @@ fn exchanges<SV: ServeHttp<MemLink, ()> + Drop>(served: &Served<MemLink, SV>) ->
 }
 
 /// How many bytes of the reply of this exchange were written, and how many of its body were read.
-fn counts<SV: ServeHttp<MemLink, ()> + Drop>(
-    served: &Served<MemLink, SV>,
-    i: usize,
-) -> (u64, usize) {
+fn counts<SV: ServeHttp<MemLink, ()> + Drop>(served: &Served<MemLink, SV>, i: usize) -> (u64, u64) {
     match served.connection.transcript().get(i) {
-        Some(entry) => (entry.written(), entry.body().len()),
+        Some(entry) => (entry.written(), entry.body_len()),
         None => (0, 0),
     }
 }

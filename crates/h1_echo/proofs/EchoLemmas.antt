@@ -1,4 +1,5 @@
 -- Steps of the echo application.
+use Rattle.h1_body.specs.Payload.{Payload}
 use Rattle.std.proofs.Common.{◌≡◌, ◌≢◌, ◌⊎◌, inl, inr, ℕ, ◌^◌, ◌<◌, ◌==◌, true, false, List, [], ◌∷◌, ◌++◌, length, Option, Some, None, IfSome, IfNone, IsSome, refl, sym, ap, ◌∙◌, subst, arith}
 use Rattle.h1_transfer.proofs.CalledLemmas.{called_itself, called_on}
 use Rattle.std.specs.Prelude.{Bool, cond, not, bytes_eq, codes, option_map, Result, Ok, Err, IfOk, IfErr, decimal}
@@ -74,7 +75,7 @@ pub stop_cause : (P : Type 0) {L C : Type 0} (state : L → LinkState) (now : �
 stop_cause P {L} {C} state now old new error stop again reads is =
     by_kind error.kind refl (by_refused old.body.refused refl again reads) is
   where
-    for_good : (body : Option (List ℕ)) (error : Error) (k : ErrorType) → error.kind ≡ k
+    for_good : (body : Option Payload) (error : Error) (k : ErrorType) → error.kind ≡ k
         → (k ≢ NoMemory) → refused_behind body error ≡ Some error
     for_good body error NoMemory is other = absurd (other refl)
     for_good body error _ is other = rw is refl

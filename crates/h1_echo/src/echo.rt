@@ -1,7 +1,7 @@
 //! An application that replies with what it was asked.
-ghost use Rattle.std.specs.Prelude.{◌≡◌, ◌<◌, ◌^◌, [], length, ⊤, IsSome, IfSome, IfOk, IfErr, Some, None};
+ghost use Rattle.std.specs.Prelude.{◌≡◌, ◌<◌, ◌^◌, [], length, ⊤, IsSome, IfSome, IfOk, IfErr, Some, None, true};
 ghost use Rattle.h1_error.specs.Memory.{no_memory};
-ghost use Rattle.h1_application.specs.Application.{ReadsInTime, ReadsOnly, payload_of};
+ghost use Rattle.h1_application.specs.Application.{HoldsPayload, ReadsInTime, ReadsOnly, payload_of};
 ghost use Rattle.h1_echo.specs.Echo.{EchoGives, echo_body, echo_fields, echo_reply, refused_reply, echo_settings};
 ghost use Rattle.h1_echo.specs.EchoRun.{EchoRuns, KeepsLimit, StopCause, IsLonger, IsStopOf};
 ghost use Rattle.h1_server.specs.Limit.{shown};
@@ -45,6 +45,12 @@ impl<L: Link + Drop, C: Drop> ServeHttp<L, C> for EchoApp {
     ghost pends = { λ _. 0 };
 
     ghost runs = { λ _ _ head began now _ limit. EchoRuns head began now limit };
+
+    ghost takes_whole = { λ _. true };
+
+    fn gathers(&self) -> bool {
+        true
+    }
 
     fn start(&self, alloc: Global) -> Result<EchoJob, Error> {
         Ok(EchoJob { alloc })
@@ -142,8 +148,8 @@ fn read_piece<L: Link + Drop, C: Drop>(http: &mut HttpSession<L, C>, now: u64) -
         Poll::Ready(Ok(None)) => Some(Stopped::Whole),
         Poll::Ready(Err(error)) => Some(stop_of(error)),
         Poll::Ready(Ok(Some(_))) => {
-            // What is kept is bounded by its block.
-            let _kept = http.kept_payload().len();
+            // The payload is bounded by its limit.
+            let _len = http.payload_len();
             None
         }
     }
@@ -165,7 +171,8 @@ fn reply_in_room<L: Link + Drop, C: Drop>(
     alloc: Global,
     http: &mut HttpSession<L, C>,
 ) -> Result<Reply, Error>
-    requires { IsSome http.old.request }
+    requires request { IsSome http.old.request }
+    requires holds { HoldsPayload http.old }
     ensures ok { IfOk result (λ reply. IfSome http.old.request
         (λ request. reply ≡ echo_reply request.header (payload_of http.old) None)) }
     ensures small { IfOk result (λ reply. length reply.body < 2 ^ 63) }
@@ -173,28 +180,15 @@ fn reply_in_room<L: Link + Drop, C: Drop>(
     ensures same { http.new ≡ http.old }
 {
     let mut room = http.take_room();
-    let reply = reply_to(alloc, &mut room, http.req_header(), http.kept_payload());
+    let body = match http.held_payload() {
+        Some(payload) => body_of(alloc, &mut room, http.req_header(), payload),
+        None => unreachable!(),
+    };
     http.put_room(room);
-    reply
-}
-
-/// The reply to a request that was read to its end.
-#[inline(always)]
-fn reply_to(
-    alloc: Global,
-    room: &mut Room,
-    header: &RequestHeader,
-    handed: &[u8],
-) -> Result<Reply, Error>
-    requires { room.old ≡ [] }
-    ensures ok { IfOk result (λ reply. reply ≡ echo_reply header.now handed.now None) }
-    ensures small { IfOk result (λ reply. length reply.body < 2 ^ 63) }
-    ensures err { IfErr result (λ error. error ≡ no_memory) }
-{
-    let body = body_of(alloc, room, header, handed)?;
-    let mut head = ResponseHeader::build(alloc, 200, Some(1))?;
-    state_length(&mut head, header.raw_path(), body.len() as u64)?;
-    Ok(Reply { header: head, body })
+    let body = body?;
+    let mut header = ResponseHeader::build(alloc, 200, Some(1))?;
+    state_length(&mut header, http.req_header().raw_path(), body.len() as u64)?;
+    Ok(Reply { header, body })
 }
 
 /// The body of the reply: the method, the target and the request's body.

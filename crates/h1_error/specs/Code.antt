@@ -22,6 +22,7 @@ code_of (kind.ModuleFailed number) = 11
 code_of (kind.TaskFailed number) = 12
 code_of kind.Duplicate = 13
 code_of kind.NoMemory = 14
+code_of kind.ContentTooLarge = 15
 
 -- the second is of the first's kind, whatever value it carries
 abbrev pub SameVariant : ErrorType → ErrorType → Type 0
@@ -40,3 +41,4 @@ SameVariant (kind.ModuleFailed number) b = (other : ℕ) × (b ≡ kind.ModuleFa
 SameVariant (kind.TaskFailed number) b = (other : ℕ) × (b ≡ kind.TaskFailed other)
 SameVariant kind.Duplicate b = b ≡ kind.Duplicate
 SameVariant kind.NoMemory b = b ≡ kind.NoMemory
+SameVariant kind.ContentTooLarge b = b ≡ kind.ContentTooLarge

@@ -64,3 +64,4 @@ text_of (kind.ModuleFailed number) = codes "ModuleFailed " ++ decimal number
 text_of (kind.TaskFailed number) = codes "TaskFailed " ++ decimal number
 text_of kind.Duplicate = codes "Duplicate"
 text_of kind.NoMemory = codes "NoMemory"
+text_of kind.ContentTooLarge = codes "ContentTooLarge"

@@ -64,6 +64,9 @@ pub enum ErrorType {
     /// The allocator had no memory.
     #[error("out of memory")]
     NoMemory,
+    /// A body is longer than its receiver gathers (RFC 9110, section 15.5.14).
+    #[error("the body is longer than what is gathered of one")]
+    ContentTooLarge,
 }
 
 /// Why a link couldn't be made or taken again.
@@ -108,6 +111,7 @@ impl ErrorType {
             ErrorType::TaskFailed(_) => 12,
             ErrorType::Duplicate => 13,
             ErrorType::NoMemory => 14,
+            ErrorType::ContentTooLarge => 15,
         }
     }
 
@@ -134,6 +138,7 @@ impl ErrorType {
             ErrorType::TaskFailed(number) => format!(in alloc; "TaskFailed {number}")?,
             ErrorType::Duplicate => format!(in alloc; "Duplicate")?,
             ErrorType::NoMemory => format!(in alloc; "NoMemory")?,
+            ErrorType::ContentTooLarge => format!(in alloc; "ContentTooLarge")?,
         };
         Ok(text)
     }

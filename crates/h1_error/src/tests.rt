@@ -4,7 +4,7 @@ use std::test::Fail;
 
 #[test]
 fn a_kind_has_a_name_for_reports(rt: HostRuntime) -> Result<(), Fail> {
-    let cases: [(ErrorType, &str); 9] = [
+    let cases: [(ErrorType, &str); 10] = [
         (
             ErrorType::InvalidHTTPHeader(HeadFault::DuplicateHost),
             "InvalidHTTPHeader DuplicateHost",
@@ -29,6 +29,7 @@ fn a_kind_has_a_name_for_reports(rt: HostRuntime) -> Result<(), Fail> {
             "TaskFailed 4294967295",
         ),
         (ErrorType::NoMemory, "NoMemory"),
+        (ErrorType::ContentTooLarge, "ContentTooLarge"),
     ];
     for (kind, text) in cases {
         assert_eq!(rt; kind.text(rt.alloc())?.as_str(), text);
@@ -38,7 +39,7 @@ fn a_kind_has_a_name_for_reports(rt: HostRuntime) -> Result<(), Fail> {
 
 #[test]
 fn an_error_has_a_message_for_people(rt: HostRuntime) -> Result<(), Fail> {
-    let cases: [(ErrorType, &str); 9] = [
+    let cases: [(ErrorType, &str); 10] = [
         (
             ErrorType::InvalidHTTPHeader(HeadFault::DuplicateHost),
             "the head is refused: it has more than one Host line",
@@ -69,6 +70,10 @@ fn an_error_has_a_message_for_people(rt: HostRuntime) -> Result<(), Fail> {
             "a task failed with the number 4294967295",
         ),
         (ErrorType::NoMemory, "out of memory"),
+        (
+            ErrorType::ContentTooLarge,
+            "the body is longer than what is gathered of one",
+        ),
     ];
     for (kind, message) in cases {
         assert_eq!(rt; kind.to_string(rt.alloc())?.as_str(), message);

@@ -1,5 +1,9 @@
 -- The exchanges over bytes that are made are for the requests that are made.
-use Rattle.std.proofs.Common.{◌≡◌, ℕ, zero, suc, ◌+◌, ◌<◌, ◌≤◌, ◌^◌, ◌%◌, List, [], ◌∷◌, ◌++◌, length, drop, sym, ◌∙◌, ap, subst, arith, length-append, false, Option, Some, None, IfSome, IsSome}
+use Rattle.h1_words.specs.declared.words.TheConstants.{MOST_GENERATED}
+use Rattle.h1_generator.specs.Messages.{message_of, messages}
+use Rattle.std.specs.List.{AllByRecursion}
+use Rattle.h1_transcript.specs.Complete.{Fits}
+use Rattle.std.proofs.Common.{◌≡◌, ℕ, zero, suc, ◌+◌, ◌<◌, ◌≤◌, ◌^◌, ◌%◌, List, [], ◌∷◌, ◌++◌, length, drop, sym, ◌∙◌, ap, subst, arith, length-append, false, Option, Some, None, IfSome, IsSome, map}
 use Rattle.std.proofs.lemmas.List.{length-replicate, drop-append-le}
 use Rattle.h1_link.specs.LinkState.{LinkState}
 use Rattle.h1_head.specs.RequestHead.{HeadAt}
@@ -18,8 +22,8 @@ use Rattle.h1_transcript.specs.declared.entry.How.TheVariants.{Failed}
 use Rattle.h1_transcript.specs.declared.reply.Reply.{Reply}
 use Rattle.h1_transcript.specs.Behind.{StoodAs}
 use Rattle.h1_transcript.proofs.BehindLemmas.{whole_stays, whole_within}
-use Rattle.h1_transcript.proofs.CompleteLemmas.{no_head}
-use Rattle.h1_generator.specs.Generated.{form_of, asked, asked_as, head_of, print_head, print_asked, generated_from}
+use Rattle.h1_transcript.proofs.CompleteLemmas.{no_head, payload_within}
+use Rattle.h1_generator.specs.Generated.{form_of, asked, asked_as, head_of, print_head, print_asked, generated_from, asked_from}
 use Rattle.h1_generator.specs.declared.generator.Form.{Form}
 use Rattle.h1_generator.specs.declared.generator.Form.TheVariants.{Plain, Counted, Chunked}
 use Rattle.h1_generator.proofs.ValidLemmas.{front_of}
@@ -52,12 +56,18 @@ few_bytes Plain number size few = omega arith
 few_bytes Counted number size few = omega (arith, length-replicate {A = ℕ} size 97)
 few_bytes Chunked number size few = omega (arith, length-replicate {A = ℕ} size 98)
 
--- payload only grows as more bytes come
-payload_within : (some all : Body) → GrowsTo some all
-    → length (payload_of some) ≤ length (payload_of all)
-payload_within (whole payload n) all h = let same = ap payload_of h in omega (arith, ap length same)
-payload_within (unfinished payload) all h = omega (arith, ap length h.1, length-append payload h.0)
-payload_within (broken payload) all h = let same = ap payload_of h in omega (arith, ap length same)
+few_from : (count number limit : ℕ) → number + count < 2 ^ 64 → 7 ≤ limit
+    → AllByRecursion (Fits limit) (map message_of (asked_from number count))
+few_from zero number limit small roomy = tt
+few_from (suc count) number limit small roomy = (
+  (let few = few_bytes (form_of number) number (number % 7) (omega arith) in omega (arith, few, roomy)),
+  few_from count (number + 1) limit (omega (arith, small)) roomy,
+)
+
+-- each request that is made fits
+pub all_fit : (count limit : ℕ) → count ≤ MOST_GENERATED → 7 ≤ limit
+    → AllByRecursion (Fits limit) (messages count)
+all_fit count limit few roomy = few_from count 1 limit (omega arith) roomy
 
 -- the first request that begins in a front of the bytes is the first that was made, and more of its
 -- payload may follow

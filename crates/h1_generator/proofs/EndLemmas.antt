@@ -17,10 +17,10 @@ use Rattle.h1_transcript.specs.Entry.{Entry}
 use Rattle.h1_transcript.specs.declared.entry.How.{How}
 use Rattle.h1_transcript.specs.declared.entry.How.TheVariants.{Open, Whole, Failed}
 use Rattle.h1_transcript.specs.Agrees.{Agrees, AreOf}
-use Rattle.h1_transcript.specs.declared.history.History.{History}
+use Rattle.h1_transcript.specs.declared.history.Holding.{Holding}
 use Rattle.h1_transcript.specs.Behind.{ReadBehind, AfterRead, is_until_close}
-use Rattle.h1_transcript.specs.Complete.{GaveOf, NoFault, IsInTime, KeepsOn, ServesAll}
-use Rattle.h1_transcript.specs.Ends.{EndCause, FailureCause, StopsLast, LastAfter, LastStands, AreAllDone, OfLast, ReadAll}
+use Rattle.h1_transcript.specs.Complete.{GaveOf, NoFault, IsInTime, KeepsOn, ServesAll, Fits}
+use Rattle.h1_transcript.specs.Ends.{EndCause, FailureCause, StopsLast, LastAfter, LastStands, AreAllDone, OfLast, ReadAll, LastGoesPast}
 use Rattle.h1_transcript.specs.Exchange.{IsDated, given_to, is_short}
 use Rattle.h1_transcript.specs.Lawful.{IsLawful}
 use Rattle.h1_head.specs.Views.{ResponseView}
@@ -28,15 +28,15 @@ use Rattle.h1_body.specs.Framing.{out}
 use Rattle.h1_body.specs.declared.framing.Framing.TheVariants as as_framing
 use Rattle.h1_transcript.specs.Stream.{Message, Begins, Parses, empty, begun}
 use Rattle.h1_transcript.specs.Told.{IfTold}
-use Rattle.h1_transcript.proofs.CompleteLemmas.{told_of, left_of, not_cut, not_broken}
+use Rattle.h1_transcript.proofs.CompleteLemmas.{told_of, left_of, not_cut, not_broken, not_past}
 use Rattle.h1_transcript.proofs.PlainLemmas.{IsUnfiltered, all_plain}
-use Rattle.h1_transcript.proofs.ServedLemmas.{served}
+use Rattle.h1_transcript.proofs.ServedLemmas.{served, held_last}
 use Rattle.h1_echo.specs.Echo.{EchoGives, echo_reply}
 use Rattle.h1_generator.specs.Generated.{asked, generated}
 use Rattle.h1_generator.specs.Kept.{IsKeptOn}
 use Rattle.h1_generator.specs.Messages.{messages}
 use Rattle.h1_words.specs.declared.words.TheConstants.{MOST_GENERATED}
-use Rattle.h1_generator.proofs.AskedLemmas.{IsAskedBy, AreAskedFrom, asked_for}
+use Rattle.h1_generator.proofs.AskedLemmas.{IsAskedBy, AreAskedFrom, asked_for, all_fit}
 use Rattle.h1_generator.proofs.EchoLemmas.{IsPlainHead, plain_head, pipelines, out_is, never_short, never_closes}
 use Rattle.h1_generator.proofs.ValidLemmas.{valid}
 
@@ -190,8 +190,9 @@ pub record Over (count : ℕ) (before old now : LinkState) (done : List Entry)
   pub gave : GaveOf (generated count) before now
   pub faultless : NoFault old now
   pub ready : IsReady old now
-  pub history : History
-  pub agrees : Agrees (plain EchoGives) (record { limit = None; history = history }) before now
+  pub holding : Holding
+  pub roomy : 7 ≤ holding.limit
+  pub agrees : Agrees (plain EchoGives) (record { limit = None; holding = holding }) before now
       (done ++ option_to_list last)
   pub kept : AllByRecursion IsKeptOn (done ++ option_to_list last)
   pub behind : IfTold before.given now.given (AfterRead done (λ rest. Unit {0}))
@@ -214,17 +215,18 @@ known_of count before old now done last o =
     (all_plain EchoGives (done ++ option_to_list last) o.agrees.allowed) o.kept
 
 -- the bytes after the exchanges that ended are the requests that are left
-record Left (done : List Entry) (rest : List ℕ) (requests : List Message)
+record Left (done : List Entry) (rest : List ℕ) (requests : List Message) (limit : ℕ)
     (P : List ℕ → Type 0) : Type 0 where
   behind : List ℕ
   holds : P behind
   left : List Message
   parses : Parses (behind ++ rest) left empty
+  fits : AllByRecursion (Fits limit) left
 
 left_after : (count : ℕ) (before old now : LinkState) (done : List Entry) (last : Option Entry)
     (P : List ℕ → Type 0)
     → (o : Over count before old now done last) → IfTold before.given now.given (AfterRead done P)
-    → Left done o.gave.rest (messages count) P
+    → Left done o.gave.rest (messages count) o.holding.limit P
 left_after count before old now done last P o h =
     let after =
     told_of before.given now.given o.gave.front o.gave.since
@@ -232,7 +234,13 @@ left_after count before old now done last P o h =
     let parses =
     subst (λ xs. Parses xs (messages count) empty) o.gave.input_is (valid count o.few).parses in
     let left = left_of done o.gave.since after.0 o.gave.rest (messages count) after.1 parses in
-    record { behind = after.0; holds = after.2; left = left.0; parses = left.1 }
+    record {
+      behind = after.0;
+      holds = after.2;
+      left = left.0;
+      parses = left.1;
+      fits = left.3 (Fits o.holding.limit) (all_fit count o.holding.limit o.few o.roomy);
+    }
 
 -- a failure of a connection whose last body was refused is being out of memory
 refused_fails : (count : ℕ) (before old now : LinkState) (done : List Entry) (e : Entry)
@@ -264,6 +272,12 @@ refused_fails count before old now done e met error kind.InvalidBody o is at cau
     let l = left_after count before old now done (Some e)
     (λ rest. LastStands rest e (broken e.body)) o cause.1 in
     absurd (not_broken l.behind o.gave.rest l.left e l.parses l.holds)
+refused_fails count before old now done e met error kind.ContentTooLarge o is at cause =
+    let l = left_after count before old now done (Some e) (λ rest. LastGoesPast rest e) o cause.1 in
+    let limit = ap (λ (h : Holding). h.limit)
+    (held_last (record { limit = None; holding = o.holding }) 0 false done e o.agrees.begun) in
+    absurd (not_past l.behind o.gave.rest l.left e l.parses l.holds
+    (subst (λ n. AllByRecursion (Fits n) l.left) (sym limit) l.fits))
 refused_fails count before old now done e met error kind.ReadError o is at (inl h) =
     absurd (never h.0) where
       never : Some e ≡ None → ⊥
@@ -365,9 +379,9 @@ kept_ends : (count : ℕ) (before old now : LinkState) (done : List Entry) (last
     → EndCause before old now done last reason
     → ServesAll before now (messages count) done last reason
 kept_ends count before old now done last reason o none cause =
-    served (plain EchoGives) (record { limit = None; history = o.history }) before old now
+    served (plain EchoGives) (record { limit = None; holding = o.holding }) before old now
     (generated count) (messages count) done last reason
-    (valid count o.few) o.gave tt o.faultless (in_time count before old now done last reason o none cause) o.agrees
+    (valid count o.few) o.gave tt (all_fit count o.holding.limit o.few o.roomy) o.faultless (in_time count before old now done last reason o none cause) o.agrees
     (keeps_all (done ++ option_to_list last) (known_of count before old now done last o) none) cause
 
 -- every end is that of a connection that served all

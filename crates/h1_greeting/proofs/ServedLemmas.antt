@@ -37,10 +37,10 @@ pub record IsServed {C A J : Type 0} (rules : A → Rules) (server : A) (given :
   pub same : served.served ≡ server
   pub put : served.session.link.put ≡ given
   pub ready : NeverWaits served.session.link
-  pub terms : served.terms ≡ terms_of None
+  pub terms : served.terms ≡ terms_of None false
   pub accounted : Accounted (λ link. link.state) new_mem_state.state served.session served.done
       served.last
-  pub agrees : Agrees (rules server) (terms_of None) new_mem_state.state served.session.link.state
+  pub agrees : Agrees (rules server) (terms_of None false) new_mem_state.state served.session.link.state
       (entries served)
   pub polled : Polled polls served.end served.session.link.state
 
@@ -136,7 +136,7 @@ fed_link fresh fed ended given new made said =
 
 -- no exchange was begun, and nothing was read or written
 agrees_none : (rules : Rules)
-    → Agrees rules (terms_of None) new_mem_state.state new_mem_state.state []
+    → Agrees rules (terms_of None false) new_mem_state.state new_mem_state.state []
 agrees_none rules = record {
   read = ([], refl, ([], tt, tt));
   allowed = tt;
@@ -150,7 +150,7 @@ pub served_none : {C A J : Type 0} (rules : A → Rules) (server started : A) (g
     (options : Option HttpServerOptions) (link : MemState) (made : View MemState C A J)
     → started ≡ server → options ≡ None
     → link ≡ record new_mem_state { put = given; end_at = Some (length given) }
-    → IsNewConnection started options link made
+    → IsNewConnection started options false link made
     → Accounted (λ (link : MemState). link.state) link.state made.session made.done made.last
     → IsServed rules server given 0 made
 served_none rules server started given options link made starts unset fed new accounted =
@@ -161,7 +161,7 @@ served_none rules server started given options link made starts unset fed new ac
       put = ap (λ (l : MemState). l.put) linked;
       ready = subst NeverWaits (sym linked)
           (record { end_at = refl; gate = refl; reads = refl; writes = refl });
-      terms = new.terms ∙ ap terms_of unset;
+      terms = new.terms ∙ ap (λ options. terms_of options false) unset;
       accounted = subst (λ s. Accounted (λ (link : MemState). link.state) s made.session made.done
           made.last) (ap (λ (l : MemState). l.state) fed) accounted;
       agrees = rw (new.done, new.last, linked) (agrees_none (rules server));

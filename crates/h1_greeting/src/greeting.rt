@@ -1,5 +1,5 @@
 //! The application that greets, and a caller that has it serve given bytes.
-ghost use Rattle.std.specs.Prelude.{◌≡◌, [], IfOk, IfErr, IfSome, None, Some, take};
+ghost use Rattle.std.specs.Prelude.{◌≡◌, [], IfOk, IfErr, IfSome, None, Some, take, false};
 ghost use Rattle.std.specs.List.{All};
 ghost use Rattle.h1_error.specs.Memory.{no_memory};
 ghost use Rattle.h1_link.specs.MemState.{new_mem_state};
@@ -40,6 +40,12 @@ impl<L: Link + Drop, C: Drop> ServeHttp<L, C> for Greets {
     // Nothing was set and nothing read since the job began.
     ghost runs = { λ _ job head began now payload limit. (now ≡ began) × (payload ≡ []) };
 
+    ghost takes_whole = { λ _. false };
+
+    fn gathers(&self) -> bool {
+        false
+    }
+
     fn start(&self, alloc: Global) -> Result<Global, Error> {
         Ok(alloc)
     }
@@ -74,7 +80,7 @@ pub fn greet(alloc: Global, given: &[u8]) -> Result<Greeted, Error>
         (λ served. served.session.link.state.given
         ≡ Some (take served.session.link.state.bytes_in given.now)) }
     ensures agrees { IfOk result
-        (λ served. Agrees (plain Greeting) (terms_of None) new_mem_state.state
+        (λ served. Agrees (plain Greeting) (terms_of None false) new_mem_state.state
         served.session.link.state (entries served)) }
     ensures greeted { IfOk result
         (λ served. All (λ exchange. IfSome exchange.reply (λ reply. reply ≡ greeting))

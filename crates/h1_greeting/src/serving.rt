@@ -1,5 +1,5 @@
 //! A connection that serves given bytes, whatever modules its server has.
-ghost use Rattle.std.specs.Prelude.{◌≡◌, IfOk, IfErr, None, Some, take};
+ghost use Rattle.std.specs.Prelude.{◌≡◌, IfOk, IfErr, None, Some, take, false};
 ghost use Rattle.h1_error.specs.Memory.{no_memory};
 ghost use Rattle.h1_link.specs.MemState.{new_mem_state};
 ghost use Rattle.h1_transcript.specs.Agrees.{Agrees};
@@ -34,7 +34,7 @@ pub fn serve<B: LawfulFor<MemLink, (), Greets> + Drop>(
     ensures agrees { IfOk result
         (λ served. Agrees
         (rules_with Greeting (chain_of B.HttpModuleBuilder B.Module.HttpModule server.modules))
-        (terms_of None) new_mem_state.state served.session.link.state (entries served)) }
+        (terms_of None false) new_mem_state.state served.session.link.state (entries served)) }
     // It ended, or each of its polls moved bytes in 64 calls: no poll waited for the link or for the
     // application.
     ensures polled { IfOk result

@@ -1,5 +1,5 @@
 //! A module that stamps the header of each reply, and a caller that has it run.
-ghost use Rattle.std.specs.Prelude.{◌≡◌, Ok, None, Some, pos, take, IfOk, IfErr, IfSome};
+ghost use Rattle.std.specs.Prelude.{◌≡◌, Ok, None, Some, pos, take, IfOk, IfErr, IfSome, false};
 ghost use Rattle.std.specs.List.{All};
 ghost use Rattle.h1_error.specs.Memory.{no_memory};
 ghost use Rattle.h1_link.specs.MemState.{new_mem_state};
@@ -120,7 +120,7 @@ pub fn greet_stamped(alloc: Global, given: &[u8]) -> Result<Stamped, Error>
         (λ served. served.session.link.state.given
         ≡ Some (take served.session.link.state.bytes_in given.now)) }
     ensures agrees { IfOk result
-        (λ served. Agrees stamped_greeting (terms_of None) new_mem_state.state
+        (λ served. Agrees stamped_greeting (terms_of None false) new_mem_state.state
         served.session.link.state (entries served)) }
     ensures stamped { IfOk result
         (λ served. All (λ exchange. IfSome exchange.sent_head

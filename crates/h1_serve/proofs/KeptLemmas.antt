@@ -5,6 +5,7 @@ use Rattle.std.specs.List.{All, AllByRecursion}
 use Rattle.h1_transcript.specs.Begun.{AreBegun, Terms}
 use Rattle.h1_transcript.specs.Entry.{Entry}
 use Rattle.h1_transcript.specs.declared.history.History.TheVariants.{Kept}
+use Rattle.h1_transcript.specs.declared.history.Holding.{Holding}
 use Rattle.h1_words.specs.declared.command.Command.{Command}
 use Rattle.h1_words.specs.declared.command.Command.TheVariants as command
 use Rattle.h1_app.specs.View.{entries}
@@ -15,24 +16,24 @@ use Rattle.h1_serve.proofs.LineLemmas.{Goes, lines_last}
 
 -- each of these exchanges is kept
 abbrev AreKept : List Entry → Type 0
-AreKept exchanges = AllByRecursion (λ e. e.history ≡ Kept) exchanges
+AreKept exchanges = AllByRecursion (λ e. e.holding.history ≡ Kept) exchanges
 
 -- the connection keeps its exchanges
 record Keeps (s : State) : Type 0 where
-  pub terms : s.terms.history ≡ Kept
+  pub terms : s.terms.holding.history ≡ Kept
   pub all : AreKept (transcript s)
 
 begun_kept : (terms : Terms) (i : ℕ) (pipelining : Bool) (exchanges : List Entry)
-    → terms.history ≡ Kept → AreBegun terms i pipelining exchanges → AreKept exchanges
+    → terms.holding.history ≡ Kept → AreBegun terms i pipelining exchanges → AreKept exchanges
 begun_kept terms i pipelining [] kept begun = tt
 begun_kept terms i pipelining (e ∷ more) kept begun =
-    (begun.0.history ∙ kept, begun_kept terms (i + 1) e.left.pipelining more kept begun.1)
+    (ap (λ (h : Holding). h.history) begun.0.holding ∙ kept, begun_kept terms (i + 1) e.left.pipelining more kept begun.1)
 
 -- where the exchanges stay
 keeps_still : (s t next : State) → t ≡ next → next.terms ≡ s.terms → transcript next ≡ transcript s
     → Keeps s → Keeps t
 keeps_still s t next is terms same keeps = subst Keeps (sym is) (record {
-  terms = ap (λ (x : Terms). x.history) terms ∙ keeps.terms;
+  terms = ap (λ (x : Terms). x.holding.history) terms ∙ keeps.terms;
   all = subst AreKept (sym same) keeps.all;
 })
 
@@ -49,7 +50,7 @@ keeps_once s (command.Limit count) text t h keeps = keeps_still s t _ h.1 refl r
 keeps_once s (command.Mark number) text t h keeps = keeps_still s t _ h.1 refl refl keeps
 keeps_once s (command.Refuse number) text t h keeps = keeps_still s t _ h.1 refl refl keeps
 keeps_once s (command.Poll moment) text t h keeps =
-    let terms = ap (λ (x : Terms). x.history) h.2.terms ∙ keeps.terms in
+    let terms = ap (λ (x : Terms). x.holding.history) h.2.terms ∙ keeps.terms in
     record { terms = terms; all = begun_kept t.terms 0 false (transcript t) terms h.2.agrees.begun }
 
 keeps_lines : (s : State) (asked : List Command) (text : List ℕ) (t : State) → Lines s asked text t
@@ -67,14 +68,14 @@ keeps_last all scripted n text goes past =
 -- so it does after the last command
 pub history_last : (all : List Command) (scripted : Scripted) (n : ℕ) (text : List ℕ)
     → Goes all (drop n all) scripted text → length all ≤ n
-    → scripted.connection.terms.history ≡ Kept
+    → scripted.connection.terms.holding.history ≡ Kept
 history_last all scripted n text goes past = (keeps_last all scripted n text goes past).terms
 
 -- and each exchange is kept
 pub kept_last : (all : List Command) (scripted : Scripted) (n : ℕ) (text : List ℕ)
     (exchanges : List Entry)
     → Goes all (drop n all) scripted text → length all ≤ n
-    → exchanges ≡ entries scripted.connection → All (λ e. e.history ≡ Kept) exchanges
+    → exchanges ≡ entries scripted.connection → All (λ e. e.holding.history ≡ Kept) exchanges
 kept_last all scripted n text exchanges goes past is =
     All-from_recursion _ exchanges
     (subst AreKept (sym is) (keeps_last all scripted n text goes past).all)

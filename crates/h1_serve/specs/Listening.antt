@@ -13,7 +13,7 @@ use Rattle.h1_transcript.specs.Agrees.{Agrees}
 use Rattle.h1_transcript.specs.Begun.{Terms}
 use Rattle.h1_transcript.specs.declared.history.History.TheVariants.{Forgotten}
 use Rattle.h1_echo.specs.Echo.{EchoGives}
-use Rattle.h1_app.specs.View.{entries}
+use Rattle.h1_app.specs.View.{entries, unlimited}
 use Rattle.h1_serving.specs.Served.{EchoedView, IsUnpolled, AnswersFor}
 use Rattle.h1_serving.specs.declared.serving.TheConstants.{MOST_POLLS}
 use Rattle.h1_serve.specs.declared.listening.TheConstants.{REQUEST_LIMIT}
@@ -33,7 +33,7 @@ listen_lines number (answer ∷ more) = listen_line number answer ++ listen_line
 
 -- so many requests may follow the first, and no exchange is kept
 abbrev pub listen_terms : Terms
-listen_terms = record { limit = Some REQUEST_LIMIT; history = Forgotten }
+listen_terms = record { limit = Some REQUEST_LIMIT; holding = unlimited Forgotten true }
 
 -- A connection of the echo application over a link, which was not polled before, was served by one
 -- call, and this is its answer, which has its cause. What was read and replied to agrees with what

@@ -1,5 +1,5 @@
 -- What a script's connection is between two lines of the script.
-use Rattle.std.specs.Prelude.{ℕ, List, [], ◌++◌, Bool, false, Option, None, is_some, option_to_list}
+use Rattle.std.specs.Prelude.{ℕ, List, [], ◌++◌, Bool, false, Option, None, is_some, option_to_list, true}
 use Rattle.h1_error.specs.declared.progress.End.{End}
 use Rattle.h1_link.specs.LinkState.{LinkState}
 use Rattle.h1_link.specs.Gate.{gate_from}
@@ -15,7 +15,7 @@ use Rattle.h1_echo.specs.declared.echo.EchoJob.{EchoJob}
 use Rattle.h1_marking.specs.Marking.{marking_rules}
 use Rattle.h1_marking.specs.declared.builder.MarkingBuilder.{MarkingBuilder}
 use Rattle.h1_transcript.specs.Rules.{Rules}
-use Rattle.h1_app.specs.View.{Served, View, work_of}
+use Rattle.h1_app.specs.View.{Served, View, work_of, unlimited}
 use Rattle.h1_app.specs.Work.{Work, reads_head}
 use Rattle.h1_serve.specs.declared.scripted.Scripted.{Scripted}
 
@@ -65,7 +65,7 @@ start_with limit modules = record {
   flush_waits = 0;
   work = reads_head None;
   modules = modules;
-  terms = record { limit = limit; history = Kept };
+  terms = record { limit = limit; holding = unlimited Kept true };
   shut = false;
   end = None;
 }

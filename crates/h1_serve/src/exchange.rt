@@ -15,7 +15,7 @@ use std::alloc::Global;
 
 /// All exchanges of a connection that keeps them.
 pub(crate) fn all_exchanges(transcript: &Transcript) -> &[Entry]
-    requires { transcript.now.history ≡ Kept }
+    requires { transcript.now.holding.history ≡ Kept }
     ensures { result.now ≡ transcript_entries transcript.now }
 {
     match transcript.all() {
@@ -30,7 +30,7 @@ pub(crate) fn push_exchanges(
     exchanges: &[Entry],
     text: &mut Text,
 ) -> Result<(), Error>
-    requires { All (λ e. e.history ≡ Kept) exchanges.now }
+    requires { All (λ e. e.holding.history ≡ Kept) exchanges.now }
     ensures { OnOk result (text.new ≡ text.old ++ exchanges_lines exchanges.now) }
 {
     for entry in exchanges {
@@ -59,7 +59,7 @@ fn wrote_line(alloc: Global, written: &[u8]) -> Result<Text, Error>
 }
 
 fn exchange_lines(alloc: Global, entry: &Entry) -> Result<Text, Error>
-    requires { entry.now.history ≡ Kept }
+    requires { entry.now.holding.history ≡ Kept }
     ensures { IfOk result (λ text. text ≡ exchange_lines entry.now) }
 {
     let Some(head) = entry.head() else {
@@ -68,7 +68,10 @@ fn exchange_lines(alloc: Global, entry: &Entry) -> Result<Text, Error>
     let mut text = request_line(alloc, head)?;
     let fields = field_lines(alloc, head.fields())?;
     text.push(fields.as_slice())?;
-    let body = body_line(alloc, entry.body())?;
+    let Some(payload) = entry.body() else {
+        unreachable!()
+    };
+    let body = body_line(alloc, payload)?;
     text.push(body.as_slice())?;
     Ok(text)
 }

@@ -1,10 +1,10 @@
 //! A script as it runs over a connection in memory.
-ghost use Rattle.std.specs.Prelude.{◌≡◌, ◌≤◌, ◌<◌, ◌^◌, length, ◌++◌, ◌∷◌, [], ℕ, List, OnOk, IfOk, Some};
+ghost use Rattle.std.specs.Prelude.{◌≡◌, ◌≤◌, ◌<◌, ◌^◌, length, ◌++◌, ◌∷◌, [], ℕ, List, OnOk, IfOk, Some, true};
 ghost use Rattle.h1_words.specs.declared.command.Command.TheVariants as command;
 ghost use Rattle.h1_words.specs.declared.place.Place.{Place};
 ghost use Rattle.h1_words.specs.Script.{place_after};
 ghost use Rattle.h1_transcript.specs.declared.history.History.TheVariants.{Kept};
-ghost use Rattle.h1_app.specs.View.{history_of, limit_of, terms_of};
+ghost use Rattle.h1_app.specs.View.{holding_of, limit_of, terms_of, unlimited};
 ghost use Rattle.h1_serve.specs.State.{state_of, start_with};
 ghost use Rattle.h1_serve.specs.PollLine.{IsAnswered, poll_line};
 ghost use Rattle.h1_serve.specs.Report.{IsTextOf, limit_in, marking_of, modules_in};
@@ -71,7 +71,7 @@ fn limit_in(commands: &[Command]) -> Option<u32>
 }
 
 fn connect(alloc: Global, server: HttpServer<EchoApp, MarkingBuilder>) -> Result<Scripted, Error>
-    requires { history_of server.server_options ≡ Kept }
+    requires { holding_of server.server_options true ≡ unlimited Kept true }
     ensures state { IfOk result (λ made. state_of made
         ≡ start_with (limit_of server.server_options) server.modules) }
     ensures running { IfOk result (λ made. IsRunning first_place made.connection) }
@@ -91,7 +91,8 @@ fn server_for(
 ) -> Result<HttpServer<EchoApp, MarkingBuilder>, Error>
     requires { length commands.now < 2 ^ 32 }
     ensures limit { IfOk result (λ server. limit_of server.server_options ≡ limit_in commands.now) }
-    ensures history { IfOk result (λ server. history_of server.server_options ≡ Kept) }
+    ensures holding { IfOk result
+        (λ server. holding_of server.server_options true ≡ unlimited Kept true) }
     ensures modules { IfOk result (λ server. server.modules ≡ modules_in commands.now) }
 {
     let mut server = HttpServer::new_app(alloc, EchoApp);
@@ -119,12 +120,13 @@ fn marking_of(command: &Command) -> Option<Marking>
 
 /// What is set on a server with this request limit, if there is one.
 pub(crate) fn options_of(limit: Option<u32>, history: History) -> Option<HttpServerOptions>
-    ensures { terms_of result ≡ record { limit = limit; history = history } }
+    ensures { terms_of result true
+        ≡ record { limit = limit; holding = unlimited history true } }
 {
     Some(HttpServerOptions {
         keepalive_request_limit: limit,
-        allow_connect_method_proxying: false,
         history,
+        ..HttpServerOptions::default()
     })
 }
 

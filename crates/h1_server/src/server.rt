@@ -1,5 +1,8 @@
 //! The session: one exchange at a time over a link, call by call.
-ghost use Rattle.std.specs.Prelude.{◌≡◌, ◌↔◌, [], IsTrue, IsSome, IfSome, None, Some, true, false, is_some, unwrap_or, MatchOption, IsOkAnd};
+ghost use Rattle.std.specs.Prelude.{◌≡◌, ◌↔◌, [], IsTrue, IsSome, IfSome, None, Some, true, false, is_some, length, ◌≤◌, MatchOption, IsOkAnd};
+ghost use Rattle.std.specs.Option.{option_copied};
+ghost use Rattle.h1_body.specs.Payload.{no_payload};
+ghost use Rattle.h1_transfer.specs.Decoding.{held_of, noted_of};
 ghost use Rattle.h1_link.specs.Steps.{after_shutdown};
 ghost use Rattle.h1_link.specs.Later.{KeepsBytes};
 ghost use Rattle.std.specs.Fn.{FnOnceTakesAtMut, FnOnceReturnsAtMut};
@@ -8,7 +11,7 @@ ghost use Rattle.h1_server.specs.Keepalive.{keepalive_set, keepalive_timeout};
 use crate::persistence::is_at_end;
 use crate::request_state::RequestState;
 use crate::{Request, Settings, Step};
-use h1_body::BodyBytes;
+use h1_body::{Gathering, Payload};
 use h1_error::Error;
 use h1_head::{CacheableDate, RequestHeader, Room};
 use h1_link::Link;
@@ -180,24 +183,54 @@ impl<L: Link + Drop, C: Drop> HttpSession<L, C> {
         self.transfer.budget()
     }
 
-    /// From here on all payload that is read is kept after these bytes, and a body whose reading
-    /// was out of memory has failed.
-    pub fn keep_payload(&mut self, kept: BodyBytes)
+    /// From here on all payload that is read is noted in this, and a body whose reading was out of
+    /// memory, or that goes on past its limit, has failed.
+    #[inline(always)]
+    pub fn keep_payload(&mut self, kept: Payload)
         ensures { self.new ≡ record self.old { body = record self.old.body { kept = Some kept } } }
     {
         self.transfer.keep_payload(kept);
     }
 
-    /// The payload that is kept so far.
+    /// The same with payload of which nothing was read yet.
     #[inline(always)]
-    pub fn kept_payload(&self) -> &[u8]
-        ensures { result.now ≡ unwrap_or self.now.body.kept [] }
+    pub fn begin_payload(&mut self, gathering: Gathering)
+        ensures { self.new
+            ≡ record self.old
+            { body = record self.old.body { kept = Some (no_payload gathering) } } }
     {
-        self.transfer.kept_payload()
+        self.transfer.begin_payload(gathering);
     }
 
-    /// Hands out the payload that was kept, and keeps none from here on.
-    pub fn take_payload(&mut self) -> Option<BodyBytes>
+    /// Notes no payload from here on, and drops what was noted.
+    #[inline(always)]
+    pub fn drop_payload(&mut self)
+        ensures { self.new ≡ record self.old { body = record self.old.body { kept = None } } }
+    {
+        self.transfer.drop_payload();
+    }
+
+    /// All payload that was noted, where it is held. Otherwise it was handed out in pieces alone.
+    #[inline(always)]
+    pub fn held_payload(&self) -> Option<&[u8]>
+        ensures { option_copied result ≡ held_of self.now.body.kept }
+    {
+        self.transfer.held_payload()
+    }
+
+    /// How many bytes of payload were noted: never more than its limit.
+    #[inline(always)]
+    pub fn payload_len(&self) -> u64
+        ensures value { result ≡ length (noted_of self.now.body.kept) }
+        ensures within { IfSome self.now.body.kept
+            (λ kept. length kept.bytes ≤ kept.gathering.limit) }
+    {
+        self.transfer.payload_len()
+    }
+
+    /// Hands out the payload that was noted, and notes none from here on.
+    #[inline(always)]
+    pub fn take_payload(&mut self) -> Option<Payload>
         ensures taken { result ≡ self.old.body.kept }
         ensures rest { self.new ≡ record self.old { body = record self.old.body { kept = None } } }
     {

@@ -137,6 +137,7 @@ fails_in_call : (before a b c : LinkState) (done : List Entry) (last : Option En
 fails_in_call before a b c done last error (kind.InvalidHTTPHeader fault) later h = h
 fails_in_call before a b c done last error kind.ConnectionClosed later h = h
 fails_in_call before a b c done last error kind.InvalidBody later h = h
+fails_in_call before a b c done last error kind.ContentTooLarge later h = h
 fails_in_call before a b c done last error kind.ReadError later (inl h) =
     inl (h.0, (let rose = h.1 in omega (arith, rose, later.counts.read_faults)), h.2)
 fails_in_call before a b c done None error kind.ReadError later (inr h) = absurd h

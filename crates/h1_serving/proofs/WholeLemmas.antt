@@ -28,7 +28,7 @@ use Rattle.h1_transcript.proofs.BehindLemmas.{read_map}
 use Rattle.h1_echo.specs.Echo.{EchoGives}
 use Rattle.h1_app.specs.Accounted.{Accounted, ReadSo}
 use Rattle.h1_app.specs.Leaves.{ShutBy}
-use Rattle.h1_app.specs.View.{Served, View, entries, IsNewConnection, terms_of}
+use Rattle.h1_app.specs.View.{Served, View, entries, IsNewConnection, terms_of, unlimited}
 use Rattle.h1_app.specs.declared.options.HttpServerOptions.{HttpServerOptions}
 use Rattle.h1_echo.specs.declared.echo.EchoApp.{EchoApp}
 use Rattle.h1_modules.specs.declared.no_modules.NoModules.{NoModules}
@@ -177,7 +177,8 @@ over count first last view answer c =
         reads = λ rose. omega (arith, rose, never.reads);
         writes = λ rose. omega (arith, rose, never.writes);
       };
-      history = Forgotten;
+      holding = unlimited Forgotten true;
+      roomy = omega arith;
       agrees = c.agrees;
       kept = all_kept first last view.session.link.state (entries view) never.read_faults never.reads c.served;
       behind = read_map view.done new_mem_state.state.given view.session.link.state.given
@@ -323,12 +324,12 @@ if_err (Err e) P Q goes h = goes e h
 -- before the first poll
 pub ready_of : (count : ℕ) (server : Served EchoApp NoModules) (options : Option HttpServerOptions)
     (link : MemState) (made : EchoedView MemState)
-    → terms_of options ≡ gen_terms
+    → terms_of options true ≡ gen_terms
     → link ≡ record new_mem_state {
       put = generated count;
       end_at = Some (length (generated count));
     }
-    → IsNewConnection server options link made
+    → IsNewConnection server options true link made
     → Accounted link_state link.state made.session made.done made.last → IsReady count made
 ready_of count server options link made plain is new accounted =
     let linked : made.session.link ≡ record new_mem_state {

@@ -15,7 +15,7 @@ use Rattle.h1_transcript.specs.Complete.{AreServed}
 use Rattle.h1_transcript.specs.Ends.{AreAllDone}
 use Rattle.h1_echo.specs.Echo.{EchoGives}
 use Rattle.h1_app.specs.Accounted.{Accounted}
-use Rattle.h1_app.specs.View.{View, entries}
+use Rattle.h1_app.specs.View.{View, entries, unlimited}
 use Rattle.h1_generator.specs.Generated.{generated}
 use Rattle.h1_generator.specs.Messages.{messages}
 use Rattle.h1_serving.specs.Served.{IsUnpolled}
@@ -40,7 +40,7 @@ pub record IsFed (bytes : List ℕ) (link : MemState) : Type 0 where
 
 -- as many requests as come, and no exchange is kept
 abbrev pub gen_terms : Terms
-gen_terms = record { limit = None; history = Forgotten }
+gen_terms = record { limit = None; holding = unlimited Forgotten true }
 
 -- a connection before its first poll, over a link that these requests are ahead on
 pub record IsReady {C A J : Type 0} (count : ℕ) (made : View MemState C A J) : Type 0 where

@@ -38,9 +38,8 @@ fn connect(alloc: Global, count: u32) -> Result<Echoed<MemLink>, Error>
     link.end();
     let mut server = HttpServer::new_app(alloc, EchoApp);
     server.server_options = Some(HttpServerOptions {
-        keepalive_request_limit: None,
-        allow_connect_method_proxying: false,
         history: History::Forgotten,
+        ..HttpServerOptions::default()
     });
     let server = Arc::new(alloc, server)?;
     Connection::new(alloc, server, link)

@@ -1,10 +1,12 @@
 -- Bytes that are whole requests alone: what is read of them, and what is left.
 use Rattle.std.proofs.Common.{◌≡◌, ℕ, ◌<◌, ◌≤◌, List, [], ◌∷◌, ◌++◌, length, drop, Bool, true, Option, Some, refl, sym, ◌∙◌, ap, subst, append-nil, length-append, arith}
-use Rattle.h1_transcript.specs.Words.{AllByRecursion, HeadFault, LinkState, RequestView, HeadAt, RefusedAt, wish, Body, whole, unfinished, broken, payload_of, framing, body, Entry}
+use Rattle.h1_transcript.specs.Words.{AllByRecursion, HeadFault, LinkState, RequestView, HeadAt, RefusedAt, wish, Body, whole, unfinished, broken, payload_of, framing, body, Entry, GrowsTo}
 use Rattle.std.proofs.lemmas.List.{append_cancel_left, drop-append-le}
 use Rattle.h1_head.proofs.RequestHeadLemmas.{HeadAt-append, HeadAt-unique, HeadAt-not_refused, HeadAt-not_begun, RefusedAt-append, RefusedAt-some}
 use Rattle.h1_transcript.proofs.Words.{AreOf, ReadBehind, LastStands, AreServed, IfTold, Message, Begins, EndsAs, Parses, empty, begun}
-use Rattle.h1_transcript.specs.Complete.{IsWished}
+use Rattle.h1_body.proofs.LawLemmas.{bodies_grow}
+use Rattle.h1_transcript.specs.Complete.{Fits, IsWished}
+use Rattle.h1_transcript.specs.Ends.{LastGoesPast}
 use Rattle.h1_transcript.proofs.BehindLemmas.{broken_stays, whole_within, whole_stays}
 use Rattle.h1_transcript.specs.Stream.{BehindBody, stuck}
 
@@ -114,14 +116,16 @@ pub left_of : (done : List Entry) (since behind rest : List ℕ) (requests : Lis
     → ReadBehind since done behind → Parses (since ++ rest) requests empty
     → (left : List Message) × Parses (behind ++ rest) left empty
     × (left ≡ [] → AreServed done requests)
+    × ((P : Message → Type 0) → AllByRecursion P requests → AllByRecursion P left)
 left_of [] since behind rest requests h p =
-    (requests, subst (λ xs. Parses (xs ++ rest) requests empty) h p, none_served requests)
+    (requests, subst (λ xs. Parses (xs ++ rest) requests empty) h p, none_served requests, λ P all. all)
 left_of (e ∷ later) since behind rest requests h p =
     let f = next_of since rest h.0 e.head e.both e.body h.2 requests h.1 h.3 p in
     let next = left_of later (drop h.2 (drop h.0 since)) behind rest f.more h.6 f.parses in (
       next.0,
       next.1,
       λ none. subst (AreServed (e ∷ later)) (sym f.requests_is) (f.head_is, f.both_is, f.payload_is, next.2 none),
+      λ P all. next.3 P (rw f.requests_is at all).1,
     )
 
 -- no bytes are no requests
@@ -156,6 +160,25 @@ not_cut behind left e p x =
     absurd cc
 
 -- and no body of a front of them is broken
+-- payload only grows as more bytes come
+pub payload_within : (some all : Body) → GrowsTo some all
+    → length (payload_of some) ≤ length (payload_of all)
+payload_within (whole payload n) all h = let same = ap payload_of h in omega (arith, ap length same)
+payload_within (unfinished payload) all h = omega (arith, ap length h.1, length-append payload h.0)
+payload_within (broken payload) all h = let same = ap payload_of h in omega (arith, ap length same)
+
+-- no body is too large where all fit
+pub not_past : (behind rest : List ℕ) (left : List Message) (e : Entry)
+    → Parses (behind ++ rest) left empty → LastGoesPast behind e
+    → AllByRecursion (Fits e.holding.limit) left → ⊥
+not_past behind rest left e p x fits =
+    let f = first_of behind rest x.n e.head e.both left x.head p in
+    let grown = payload_within (body (framing e.head) (drop x.n behind)) (body (framing e.head) (drop x.n behind ++ rest))
+    (bodies_grow (framing e.head) (drop x.n behind) rest) in
+    let all = ap (λ b. length (payload_of b)) (f.body_at ∙ sym f.body_is) in
+    let fit = (rw f.requests_is at fits).0 in
+    omega (arith, x.body, grown, all, fit)
+
 pub not_broken : (behind rest : List ℕ) (left : List Message) (e : Entry)
     → Parses (behind ++ rest) left empty → LastStands behind e (broken e.body) → ⊥
 not_broken behind rest left e p x =

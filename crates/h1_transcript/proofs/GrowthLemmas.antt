@@ -58,7 +58,7 @@ grows_same now before behind e = record {
   sent_body = stays_itself e.sent_body;
   written = omega arith;
   began = refl;
-  history = refl;
+  holding = refl;
 }
 
 stays_on : {T : Type 0} (a b c : Option T) → Stays a b → Stays b c → Stays a c
@@ -143,7 +143,7 @@ module _ (now : ℕ) (shutdown : Bool) (first second third : LinkState)
     sent_body = stays_on _ _ _ x.sent_body y.sent_body;
     written = omega arith;
     began = y.began ∙ x.began;
-    history = y.history ∙ x.history;
+    holding = y.holding ∙ x.holding;
   }
 
   -- an exchange that began goes on

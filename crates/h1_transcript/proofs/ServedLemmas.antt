@@ -1,6 +1,6 @@
 -- Every end of a connection with valid input is that of one that served it all, or being out of memory.
 use Rattle.std.proofs.Common.{◌≡◌, ◌≢◌, ℕ, ◌+◌, ◌-◌, ◌<◌, ◌⊎◌, inl, inr, List, [], ◌∷◌, ◌++◌, length, option_to_list, Bool, true, false, not, ◌&&◌, Option, Some, None, IfSome, Ok, refl, sym, ◌∙◌, ap, subst, append-nil, arith}
-use Rattle.h1_transcript.specs.Words.{AllByRecursion, Error, ErrorType, End, LinkState, ResponseView, wish, unfinished, broken, has_reuses, Reply, Entry, Whole}
+use Rattle.h1_transcript.specs.Words.{AllByRecursion, Error, ErrorType, End, LinkState, ResponseView, wish, unfinished, broken, has_reuses, Holding, Reply, Entry, Whole}
 use Rattle.std.proofs.lemmas.Bool.{false≢true, true≢false}
 use Rattle.h1_transfer.specs.Deadline.{is_timeout}
 use Rattle.h1_error.specs.declared.error.ErrorType.TheVariants as kind
@@ -11,11 +11,11 @@ use Rattle.h1_transcript.specs.Agrees.{Agrees}
 use Rattle.h1_transcript.specs.Rules.{Rules}
 use Rattle.h1_transcript.specs.Lawful.{IsLawful}
 use Rattle.h1_transcript.specs.Begun.{AreBegun, Terms, reuses_at}
-use Rattle.h1_transcript.specs.Ends.{EndCause, FailureCause, AreAllDone, StopsLast, OfLast, LastAfter, ReadAll}
-use Rattle.h1_transcript.specs.Complete.{IsValid, GaveOf, AreWithin, NoFault, IsInTime, KeepsOn, ServesAll}
+use Rattle.h1_transcript.specs.Ends.{EndCause, FailureCause, AreAllDone, StopsLast, OfLast, LastAfter, LastGoesPast, ReadAll}
+use Rattle.h1_transcript.specs.Complete.{Fits, IsValid, GaveOf, AreWithin, NoFault, IsInTime, KeepsOn, ServesAll}
 use Rattle.h1_transcript.specs.Exchange.{IsAllowed, IsDated, may_keep}
 use Rattle.h1_transcript.specs.Stream.{refused}
-use Rattle.h1_transcript.proofs.CompleteLemmas.{told_of, left_of, none_left, not_refused, not_begun, not_cut, not_broken, last_wished}
+use Rattle.h1_transcript.proofs.CompleteLemmas.{told_of, left_of, none_left, not_refused, not_begun, not_cut, not_broken, not_past, last_wished}
 
 all_last : (P : Entry → Type 0) (done : List Entry) (e : Entry) → AllByRecursion P (done ++ e ∷ [])
     → P e
@@ -32,6 +32,12 @@ begun_last terms i pipelining [] e h =
 begun_last terms i pipelining (d ∷ later) e h =
     let same : i + 1 + length later ≡ i + length (d ∷ later) = omega arith in
     begun_last terms (i + 1) d.left.pipelining later e h.1 ∙ ap (reuses_at terms.limit) same
+
+-- what is held of the last exchange
+pub held_last : (terms : Terms) (i : ℕ) (pipelining : Bool) (done : List Entry) (e : Entry)
+    → AreBegun terms i pipelining (done ++ e ∷ []) → e.holding ≡ terms.holding
+held_last terms i pipelining [] e h = h.0.holding
+held_last terms i pipelining (d ∷ later) e h = held_last terms (i + 1) d.left.pipelining later e h.1
 
 some_left : (limit : Option ℕ) (i count : ℕ) → AreWithin limit count → i < count
     → has_reuses (reuses_at limit i) ≡ true
@@ -66,6 +72,7 @@ module _ (rules : Rules) (terms : Terms) (before old now : LinkState)
     valid : IsValid input requests
     gave : GaveOf input before now
     within : AreWithin terms.limit (length requests)
+    fits : AllByRecursion (Fits terms.holding.limit) requests
     faultless : NoFault old now
     agrees : Agrees rules terms before now (done ++ option_to_list last)
     keeps : AllByRecursion KeepsOn (done ++ option_to_list last)
@@ -105,6 +112,7 @@ module _ (rules : Rules) (terms : Terms) (before old now : LinkState)
     left : List Message
     parses : Parses (behind ++ rest) left empty
     served : left ≡ [] → AreServed done requests
+    fits : AllByRecursion (Fits terms.holding.limit) left
 
   rest_of : (last : Option Entry) (P : List ℕ → Type 0) (s : Serving last)
       → IfTold before.given now.given (AfterRead done P) → Rest s.gave.rest P
@@ -112,7 +120,7 @@ module _ (rules : Rules) (terms : Terms) (before old now : LinkState)
       let after = told_of before.given now.given s.gave.front s.gave.since (AfterRead done P)
       s.gave.before_is s.gave.now_is h in
       let left = left_of done s.gave.since after.0 s.gave.rest requests after.1 (parses_since last s) in
-      record { behind = after.0; holds = after.2; left = left.0; parses = left.1; served = left.2 }
+      record { behind = after.0; holds = after.2; left = left.0; parses = left.1; served = left.2; fits = left.3 (Fits terms.holding.limit) s.fits }
 
   -- where the link ended nothing else comes
   all_given : (rest : List ℕ) (P : List ℕ → Type 0) (r : Rest rest P) → rest ≡ []
@@ -186,6 +194,12 @@ module _ (rules : Rules) (terms : Terms) (before old now : LinkState)
   failed (Some e) error kind.InvalidBody s in_time is cause =
       let r = rest_of (Some e) (λ rest. LastStands rest e (broken e.body)) s cause.1 in
       absurd (not_broken r.behind s.gave.rest r.left e r.parses r.holds)
+  failed None error kind.ContentTooLarge s in_time is cause = absurd cause
+  failed (Some e) error kind.ContentTooLarge s in_time is cause =
+      let r = rest_of (Some e) (λ rest. LastGoesPast rest e) s cause.1 in
+      let limit = ap (λ (h : Holding). h.limit) (held_last terms 0 false done e s.agrees.begun) in
+      absurd (not_past r.behind s.gave.rest r.left e r.parses r.holds
+      (subst (λ n. AllByRecursion (Fits n) r.left) (sym limit) r.fits))
   failed last error kind.ReadError s in_time is cause = absurd (never_faulty last error s is cause)
   failed last error kind.WriteError s in_time is cause = absurd (s.faultless.writes cause)
   failed None error kind.PrematureBodyEnd s in_time is cause = absurd cause
@@ -206,10 +220,10 @@ module _ (rules : Rules) (terms : Terms) (before old now : LinkState)
 
   pub served : (last : Option Entry) (reason : End)
       → IsValid input requests → GaveOf input before now → AreWithin terms.limit (length requests)
-      → NoFault old now → IsInTime now reason → Agrees rules terms before now (done ++ option_to_list last)
+      → AllByRecursion (Fits terms.holding.limit) requests → NoFault old now → IsInTime now reason → Agrees rules terms before now (done ++ option_to_list last)
       → AllByRecursion KeepsOn (done ++ option_to_list last)
       → EndCause before old now done last reason → ServesAll before now requests done last reason
-  served last reason valid gave within faultless in_time agrees keeps cause =
+  served last reason valid gave within fits faultless in_time agrees keeps cause =
       served_so last reason
-      (record { valid = valid; gave = gave; within = within; faultless = faultless; agrees = agrees; keeps = keeps })
+      (record { valid = valid; gave = gave; within = within; fits = fits; faultless = faultless; agrees = agrees; keeps = keeps })
       in_time cause

@@ -1,6 +1,7 @@
 -- The transcript, the bytes given and the bytes written agree.
 use Rattle.std.specs.Prelude.{◌≡◌, ℕ, ◌+◌, ◌-◌, ◌^◌, List, [], ◌∷◌, ◌++◌, length, min, true, false, IfSome}
 use Rattle.h1_transcript.specs.Words.{AllByRecursion, LinkState, ErrorType, Body, whole, unfinished, broken, payload_of, Entry, SaysOfBody}
+use Rattle.h1_transcript.specs.Ends.{IsTooLarge}
 use Rattle.h1_transcript.specs.Rules.{Rules}
 use Rattle.h1_transcript.specs.Begun.{AreBegun, Terms}
 use Rattle.h1_transcript.specs.Behind.{StoodAs, IsDoneAt, FlushedBy}
@@ -12,7 +13,7 @@ use Rattle.h1_transcript.specs.Stream.{Message, Begins}
 abbrev pub RefusalOf : LinkState → Entry → Body → ErrorType → Type 0
 RefusalOf now e body kind = SaysOfBody (body ≡ broken e.body)
     ((body ≡ unfinished e.body) × (now.ended ≡ true)) (body ≡ unfinished e.body)
-    (body ≡ unfinished e.body) kind
+    (body ≡ unfinished e.body) (IsTooLarge e body) kind
 
 -- the body's error, which isn't for a retry, and how the body stood when the application replied
 pub record IsReadAs (now : LinkState) (e : Entry) (body : Body) : Type 0 where

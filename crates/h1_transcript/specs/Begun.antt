@@ -2,7 +2,7 @@
 use Rattle.std.specs.Prelude.{◌≡◌, ℕ, ◌+◌, ◌-◌, List, [], ◌∷◌, length, Bool, true, false, Option, Some, None}
 use Rattle.h1_server.specs.Keepalive.{keepalive_timeout}
 use Rattle.h1_server.specs.Times.{new_times}
-use Rattle.h1_transcript.specs.Words.{KEEPALIVE_SECONDS, History, Settings, Entry}
+use Rattle.h1_transcript.specs.Words.{KEEPALIVE_SECONDS, Holding, Settings, Entry}
 
 -- the time for a head in seconds, or none where the connection shuts down
 abbrev pub head_time : Bool → Option ℕ
@@ -20,10 +20,10 @@ pipelining_behind first [] = first
 pipelining_behind first (e ∷ more) = pipelining_behind e.left.pipelining more
 
 -- what a connection is made with: how many requests more than the first it may serve, where none is
--- no limit, and whether it keeps its exchanges
+-- no limit, and what it holds of its exchanges
 pub record Terms : Type 0 where
   pub limit : Option ℕ
-  pub history : History
+  pub holding : Holding
 
 -- what is set where the exchange with this index is next, but for keep-alive
 pub record IsSetFor (limit : Option ℕ) (i : ℕ) (pipelining : Bool)
@@ -37,11 +37,11 @@ pub record IsSetFor (limit : Option ℕ) (i : ℕ) (pipelining : Bool)
 abbrev pub HasHeadTime : Settings → Type 0
 HasHeadTime settings = keepalive_timeout settings ≡ head_time settings.keep_off
 
--- what the exchange with this index begins with, and whether it is kept
+-- what the exchange with this index begins with, and what is held of it
 pub record IsBegunFor (terms : Terms) (i : ℕ) (pipelining : Bool) (e : Entry) : Type 0 where
   pub set : IsSetFor terms.limit i pipelining e.began
   pub keepalive : HasHeadTime e.began
-  pub history : e.history ≡ terms.history
+  pub holding : e.holding ≡ terms.holding
 
 -- each exchange, counted from this index, began so; pipelining is what the one before left
 abbrev pub AreBegun : Terms → ℕ → Bool → List Entry → Type 0
@@ -54,10 +54,10 @@ abbrev pub IsNextSet : Terms → List Entry → Settings → Type 0
 IsNextSet terms done settings =
     IsSetFor terms.limit (length done) (pipelining_behind false done) settings
 
--- an exchange that begins is kept as the connection keeps its exchanges
-abbrev pub BeginsIn : History → Option Entry → Option Entry → Type 0
-BeginsIn history None (Some e) = e.history ≡ history
-BeginsIn history _ _ = Unit {0}
+-- as much is held of an exchange that begins as the connection holds of its exchanges
+abbrev pub BeginsIn : Holding → Option Entry → Option Entry → Type 0
+BeginsIn holding None (Some e) = e.holding ≡ holding
+BeginsIn holding _ _ = Unit {0}
 
 -- what an exchange takes from what was set before it
 pub record IsSetAlike (old new : Settings) : Type 0 where

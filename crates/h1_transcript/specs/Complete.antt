@@ -1,5 +1,5 @@
 -- Valid input, and what a connection makes of it (RFC 9112, section 9.3.2).
-use Rattle.std.specs.Prelude.{◌≡◌, ◌≢◌, ℕ, ◌≤◌, List, [], ◌∷◌, ◌++◌, true, false, Option, Some, None, IfSome}
+use Rattle.std.specs.Prelude.{◌≡◌, ◌≢◌, ℕ, ◌≤◌, List, [], ◌∷◌, ◌++◌, length, true, false, Option, Some, None, IfSome}
 use Rattle.h1_transcript.specs.Words.{AllByRecursion, ReadError, End, Rose, LinkState, wish, payload_of, Entry, Whole}
 use Rattle.h1_error.specs.declared.error.ErrorType.TheVariants.{NoMemory}
 use Rattle.h1_error.specs.declared.progress.End.TheVariants as end
@@ -36,6 +36,10 @@ pub record KeepsOn (e : Entry) : Type 0 where
   pub long : is_short e ≡ false
   pub closes : is_until_close e ≡ false
   pub unfailed : IfSome e.body_error (λ error. error.kind ≢ ReadError)
+
+-- the payload is within its limit
+abbrev pub Fits : ℕ → Message → Type 0
+Fits limit m = length (payload_of m.body) ≤ limit
 
 -- so many requests are within the limit
 abbrev pub AreWithin : Option ℕ → ℕ → Type 0

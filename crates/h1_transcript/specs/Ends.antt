@@ -1,6 +1,6 @@
 -- When a connection ends, and how its exchanges stand then (RFC 9112, section 9.3).
 use Rattle.std.specs.Prelude.{◌≡◌, ◌≢◌, ℕ, ◌+◌, ◌<◌, ◌⊎◌, List, [], ◌∷◌, ◌++◌, length, drop, true, false, Option, Some, None}
-use Rattle.h1_transcript.specs.Words.{Error, ErrorType, End, LinkState, Rose, HeadAt, Body, unfinished, broken, body, framing, Entry}
+use Rattle.h1_transcript.specs.Words.{Error, ErrorType, End, LinkState, Rose, HeadAt, Body, unfinished, broken, payload_of, body, framing, Entry}
 use Rattle.h1_error.specs.declared.error.ErrorType.TheVariants as kind
 use Rattle.h1_error.specs.declared.progress.End.TheVariants as end
 use Rattle.h1_transcript.specs.Stream.{Tail, empty, begun, refused, EndsAs}
@@ -17,6 +17,16 @@ pub record LastStands (since : List ℕ) (e : Entry) (stands : Body) : Type 0 wh
   pub n : ℕ
   pub head : HeadAt since n e.head e.both
   pub body : body (framing e.head) (drop n since) ≡ stands
+
+-- a body is longer than its exchange's payload may be
+abbrev pub IsTooLarge : Entry → Body → Type 0
+IsTooLarge e body = e.holding.limit < length (payload_of body)
+
+-- the last request's body is longer than its payload may be, as far as it came
+pub record LastGoesPast (since : List ℕ) (e : Entry) : Type 0 where
+  pub n : ℕ
+  pub head : HeadAt since n e.head e.both
+  pub body : IsTooLarge e (body (framing e.head) (drop n since))
 
 -- the same after the exchanges that ended
 abbrev pub LastAfter : List ℕ → List Entry → Entry → Body → Type 0
@@ -90,6 +100,9 @@ FailureCause before old now done last error kind.ConnectionClosed = (now.ended �
 FailureCause before old now done last error kind.InvalidBody =
     OfLast last (λ e. StopsLast before now done e error (Unit {0})
     × IfTold before.given now.given (λ since. LastAfter since done e (broken e.body)))
+FailureCause before old now done last error kind.ContentTooLarge =
+    OfLast last (λ e. StopsLast before now done e error (Unit {0})
+    × IfTold before.given now.given (AfterRead done (λ rest. LastGoesPast rest e)))
 FailureCause before old now done last error kind.ReadError =
     ((last ≡ None) × Rose old.read_faults now.read_faults × LacksSo before now done None)
     ⊎ OfLast last (λ e. StopsLast before now done e error (Rose old.read_faults now.read_faults)

@@ -1,12 +1,12 @@
 -- The exchanges of a transcript, and how many of them have a reply.
 use Rattle.std.specs.Prelude.{◌≡◌, ◌≤◌, ℕ, List, [], ◌++◌, option_to_list, Option, Some, None, ◌+◌, ◌∷◌, Bool, false, replicate, map, take, length, IsSome}
 use Rattle.std.specs.List.{flat_map}
-use Rattle.h1_transcript.specs.Words.{Entry, History, Open, Reply, RequestView, Settings}
+use Rattle.h1_transcript.specs.Words.{Entry, History, Holding, Open, Reply, RequestView, Settings}
 use Rattle.h1_transcript.specs.declared.history.History.TheVariants as history
 
--- whether exchanges are kept, those that ended, and the one that goes on
+-- what is held of exchanges, those that ended, and the one that goes on
 pub record TranscriptView : Type 0 where
-  pub history : History
+  pub holding : Holding
   pub done : List Entry
   pub last : Option Entry
 
@@ -37,10 +37,10 @@ abbrev pub with_last : TranscriptView → Entry → TranscriptView
 with_last transcript e = record transcript { last = Some e }
 
 -- an exchange of which nothing was read after its head
-abbrev pub new_entry : History → Settings → Bool → RequestView → Entry
-new_entry history settings both head =
+abbrev pub new_entry : Holding → Settings → Bool → RequestView → Entry
+new_entry holding settings both head =
     record {
-      history = history;
+      holding = holding;
       head = head;
       filtered = Some head;
       body = [];
@@ -62,8 +62,8 @@ new_entry history settings both head =
     }
 
 -- one whose head is still to be put in its places
-pub record BeginsAs (history : History) (settings : Settings) (both : Bool) (e : Entry) : Type 0 where
-  pub entry : e ≡ record (new_entry history settings both e.head) { filtered = e.filtered }
+pub record BeginsAs (holding : Holding) (settings : Settings) (both : Bool) (e : Entry) : Type 0 where
+  pub entry : e ≡ record (new_entry holding settings both e.head) { filtered = e.filtered }
   pub filtered : IsSome e.filtered
 
 -- how many of these exchanges have a reply

@@ -1,16 +1,19 @@
 -- What contracts see of one exchange.
-use Rattle.std.specs.Prelude.{ℕ, List, Bool, Option, None}
+use Rattle.std.specs.Prelude.{ℕ, List, Bool, true, Option, None}
 use Rattle.h1_error.specs.declared.error.Error.{Error}
 use Rattle.h1_head.specs.Views.{RequestView, ResponseView}
 use Rattle.h1_server.specs.declared.settings.Settings.{Settings}
 use Rattle.h1_transcript.specs.declared.entry.How.{How}
 use Rattle.h1_transcript.specs.declared.history.History.{History}
+use Rattle.h1_transcript.specs.declared.history.Holding.{Holding}
+use Rattle.h1_body.specs.Payload.{Payload, held_in}
+use Rattle.h1_body.specs.declared.payload.Gathering.{Gathering}
 use Rattle.h1_transcript.specs.declared.reply.Reply.{Reply}
 use Rattle.h1_transcript.specs.declared.history.History.TheVariants as history
 
 pub record Entry : Type 0 where
-  -- whether it is kept in memory
-  pub history : History
+  -- what is held of it
+  pub holding : Holding
   -- the head as it was read
   pub head : RequestView
   -- the head after the request filters
@@ -52,3 +55,18 @@ pub record Entry : Type 0 where
 abbrev pub kept_in : {T : Type 0} → History → Option T → Option T
 kept_in history.Kept found = found
 kept_in history.Forgotten found = None
+
+-- payload is held where exchanges are kept, or where the application uses the whole of it
+abbrev pub holds_payload : History → Bool → Bool
+holds_payload history.Kept gathers = true
+holds_payload history.Forgotten gathers = gathers
+
+abbrev pub gathering_of : Holding → Gathering
+gathering_of holding = record {
+  holds = holds_payload holding.history holding.gathers;
+  limit = holding.limit;
+}
+
+-- the payload of an exchange
+abbrev pub payload_in : Entry → Payload
+payload_in e = record { bytes = e.body; gathering = gathering_of e.holding }

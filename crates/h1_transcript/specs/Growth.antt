@@ -56,7 +56,7 @@ pub record Grows (now : ℕ) (before behind : LinkState) (old new : Entry) : Typ
   pub sent_body : Stays old.sent_body new.sent_body
   pub written : old.written ≤ new.written
   pub began : new.began ≡ old.began
-  pub history : new.history ≡ old.history
+  pub holding : new.holding ≡ old.holding
 
 -- An exchange that began at this moment, with these states of the link around: keep-alive is off
 -- where the connection shuts down.

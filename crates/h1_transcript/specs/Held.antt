@@ -2,6 +2,8 @@
 use Rattle.std.specs.Prelude.{Bool, true, false, Option, Some, None}
 use Rattle.h1_transcript.specs.declared.held.Held.{Held}
 use Rattle.h1_transcript.specs.declared.held.Held.TheVariants as held
+use Rattle.h1_transcript.specs.declared.history.History.{History}
+use Rattle.h1_transcript.specs.declared.history.History.TheVariants as history
 
 -- what was seen
 abbrev pub value_of : {T : Type 0} → Held T → T
@@ -13,10 +15,12 @@ abbrev pub copy_of : {T : Type 0} → Held T → Option T
 copy_of (held.Copy value) = Some value
 copy_of (held.Seen seen) = None
 
--- memory has a copy
-abbrev pub IsCopy : {T : Type 0} → Held T → Type 0
-IsCopy (held.Copy value) = Unit {0}
-IsCopy (held.Seen seen) = ⊥
+-- memory has a copy where exchanges are kept, and none where they are forgotten
+abbrev pub HoldsBy : {T : Type 0} → History → Held T → Type 0
+HoldsBy history.Kept (held.Copy value) = Unit {0}
+HoldsBy history.Kept (held.Seen seen) = ⊥
+HoldsBy history.Forgotten (held.Copy value) = ⊥
+HoldsBy history.Forgotten (held.Seen seen) = Unit {0}
 
 -- what stands in a place, where it counts
 abbrev pub shown_if : {T : Type 0} → Bool → Option T → Option T

@@ -22,6 +22,7 @@ pub use Rattle.h1_transcript.specs.Entry.{Entry}
 pub use Rattle.h1_transcript.specs.declared.entry.How.{How}
 pub use Rattle.h1_transcript.specs.declared.entry.How.TheVariants.{Failed, Open, Whole}
 pub use Rattle.h1_transcript.specs.declared.history.History.{History}
+pub use Rattle.h1_transcript.specs.declared.history.Holding.{Holding}
 pub use Rattle.h1_transcript.specs.declared.transcript.TheConstants.{KEEPALIVE_SECONDS}
 pub use Rattle.h1_transfer.specs.BodyErrors.{SaysOfBody}
 pub use Rattle.std.specs.List.{AllByRecursion}

@@ -1,13 +1,12 @@
 //! One exchange: what was read of a request, what the application replied and what was sent.
-ghost use Rattle.std.specs.Prelude.{◌≡◌, [], Some, None, IsSome, OnOk, IfOk, IfErr, IfSome, unwrap_or, true, false};
+ghost use Rattle.std.specs.Prelude.{◌≡◌, [], Some, None, IsSome, OnOk, IfOk, IfErr, IfSome, true, false};
 ghost use Rattle.h1_error.specs.Memory.{no_memory};
-ghost use Rattle.std.specs.Option.{option_copied};
-ghost use Rattle.h1_transcript.specs.declared.history.History.TheVariants.{Kept};
+ghost use Rattle.h1_transcript.specs.Entry.{gathering_of, payload_in};
 
-use crate::held::{Held, see_in};
-use crate::{History, Reply};
+use crate::held::{Held, drop_copy, see_in};
+use crate::{History, Holding, Reply};
 use bytes::Bytes;
-use h1_body::BodyBytes;
+use h1_body::Payload;
 use h1_error::Error;
 use h1_head::{RequestHeader, ResponseHeader};
 use h1_server::Settings;
@@ -15,6 +14,8 @@ use std::alloc::Global;
 use std::marker::Model;
 use std::mem;
 use std::snapshot::Snapshot;
+
+mod getters;
 
 /// How a request's body stood when its reply was made.
 #[derive(Clone, Copy, Debug, PartialEq, Eq)]
@@ -29,10 +30,10 @@ pub enum How {
 /// copy of the heads and of what was sent.
 #[derive(Drop)]
 pub struct Entry {
-    history: History,
+    holding: Holding,
     head: Held<RequestHeader>,
     filtered: Option<Held<RequestHeader>>,
-    body: BodyBytes,
+    payload: Payload,
     handed: u64,
     body_error: Option<Error>,
     read_limit: Option<u64>,
@@ -54,17 +55,16 @@ pub struct Entry {
 
 impl Model for Entry {
     ghost use Rattle.std.specs.Prelude.{◌≡◌, option_map, IfSome};
-    ghost use Rattle.h1_transcript.specs.declared.history.History.TheVariants.{Kept};
-    ghost use Rattle.h1_transcript.specs.Entry.{Entry};
-    ghost use Rattle.h1_transcript.specs.Held.{IsCopy, shown_if, value_of};
+    ghost use Rattle.h1_transcript.specs.Entry.{Entry, gathering_of};
+    ghost use Rattle.h1_transcript.specs.Held.{HoldsBy, shown_if, value_of};
 
     ghost Value = { Entry };
 
     ghost view = { λ e. record {
-      history = e.history;
+      holding = e.holding;
       head = value_of e.head;
       filtered = option_map value_of e.filtered;
-      body = e.body;
+      body = e.payload.bytes;
       handed = e.handed;
       body_error = e.body_error;
       read_limit = e.read_limit;
@@ -82,26 +82,67 @@ impl Model for Entry {
       owed = e.owed;
     } };
 
-    // What is kept is in memory.
-    ghost invariant = { λ e. e.history ≡ Kept → IsCopy e.head × IfSome e.filtered IsCopy
-        × IfSome e.sent_head IsCopy × IfSome e.sent_body IsCopy };
+    // What is kept is in memory, and what is forgotten isn't.
+    ghost invariant = { λ e. HoldsBy e.holding.history e.head
+        × IfSome e.filtered (HoldsBy e.holding.history)
+        × IfSome e.sent_head (HoldsBy e.holding.history)
+        × IfSome e.sent_body (HoldsBy e.holding.history)
+        × (e.payload.gathering ≡ gathering_of e.holding) };
 }
 
 impl Entry {
     ghost use Rattle.h1_transcript.specs.Entries.{BeginsAs, new_entry};
-    ghost use Rattle.h1_transcript.specs.declared.history.History.TheVariants.{Forgotten};
-    ghost use Rattle.h1_transcript.specs.Held.{IsCopy, value_of};
+    ghost use Rattle.h1_transcript.specs.Held.{HoldsBy, value_of};
+    ghost use Rattle.h1_transcript.specs.declared.history.History.TheVariants.{Forgotten, Kept};
 
     /// An exchange that is forgotten, of which nothing was read after this head.
     #[inline(always)]
-    pub(crate) fn new(alloc: Global, settings: Settings, both: bool, head: &RequestHeader) -> Self
-        ensures { result ≡ new_entry Forgotten settings both head.now }
+    pub(crate) fn new(
+        alloc: Global,
+        holding: Holding,
+        settings: Settings,
+        both: bool,
+        head: &RequestHeader,
+    ) -> Self
+        requires { holding.history ≡ Forgotten }
+        ensures { result ≡ new_entry holding settings both head.now }
+    {
+        let filtered = Held::Seen(Snapshot::of(head));
+        let head = Held::Seen(Snapshot::of(head));
+        Entry::begun(alloc, holding, settings, both, head, filtered)
+    }
+
+    /// One that is kept, whose head is still to be put in its places.
+    #[inline(always)]
+    pub(crate) fn new_kept(alloc: Global, holding: Holding, settings: Settings, both: bool) -> Self
+        requires { holding.history ≡ Kept }
+        ensures { BeginsAs holding settings both result }
+    {
+        let head = Held::Copy(RequestHeader::new(alloc));
+        let filtered = Held::Copy(RequestHeader::new(alloc));
+        Entry::begun(alloc, holding, settings, both, head, filtered)
+    }
+
+    /// One with these heads, of which nothing was read after them.
+    #[inline(always)]
+    fn begun(
+        alloc: Global,
+        holding: Holding,
+        settings: Settings,
+        both: bool,
+        head: Held<RequestHeader>,
+        filtered: Held<RequestHeader>,
+    ) -> Self
+        requires head { HoldsBy holding.history head }
+        requires filtered { HoldsBy holding.history filtered }
+        ensures { result ≡ record (new_entry holding settings both (value_of head))
+            { filtered = Some (value_of filtered) } }
     {
         Entry {
-            history: History::Forgotten,
-            head: Held::Seen(Snapshot::of(head)),
-            filtered: Some(Held::Seen(Snapshot::of(head))),
-            body: BodyBytes::new(alloc),
+            holding,
+            head,
+            filtered: Some(filtered),
+            payload: Payload::new(alloc, holding.gathering()),
             handed: 0,
             body_error: None,
             read_limit: None,
@@ -122,17 +163,23 @@ impl Entry {
         }
     }
 
-    /// The same in the place of one that ended.
+    /// One that is forgotten, in the place of one that ended.
     #[inline(always)]
-    pub(crate) fn start_over(&mut self, settings: Settings, both: bool, head: &RequestHeader)
-        ensures { self.new ≡ new_entry Forgotten settings both head.now }
+    pub(crate) fn start_over(
+        &mut self,
+        alloc: Global,
+        holding: Holding,
+        settings: Settings,
+        both: bool,
+        head: &RequestHeader,
+    )
+        requires { holding.history ≡ Forgotten }
+        ensures { self.new ≡ new_entry holding settings both head.now }
     {
-        self.history = History::Forgotten;
+        self.holding = holding;
+        self.payload.start_over(alloc, holding.gathering());
         self.head.see(head);
         see_in(&mut self.filtered, head);
-        if !self.body.is_empty() {
-            self.body.clear();
-        }
         self.handed = 0;
         self.body_error = None;
         self.read_limit = None;
@@ -143,7 +190,9 @@ impl Entry {
             self.reply = None;
         }
         self.headed = false;
+        drop_copy(&mut self.sent_head);
         self.bodied = false;
+        drop_copy(&mut self.sent_body);
         self.written = 0;
         self.date = 0;
         self.date_text = [0; 29];
@@ -152,46 +201,13 @@ impl Entry {
         self.owed = false;
     }
 
-    /// Gives the memory of the payload and of the reply back. What the exchange is has no meaning
-    /// then.
+    /// Lets the payload and the reply go.
     #[inline(always)]
     pub(crate) fn release(&mut self)
-        ensures { self.new.history ≡ self.old.history }
+        ensures { self.new ≡ record self.old { body = []; reply = None } }
     {
-        if !self.body.is_empty() {
-            self.body.clear();
-        }
+        self.payload.clear();
         self.reply = None;
-    }
-
-    /// One that is kept, whose head is still to be put in its places.
-    #[inline(always)]
-    pub(crate) fn new_kept(alloc: Global, settings: Settings, both: bool) -> Self
-        ensures { BeginsAs Kept settings both result }
-    {
-        Entry {
-            history: History::Kept,
-            head: Held::Copy(RequestHeader::new(alloc)),
-            filtered: Some(Held::Copy(RequestHeader::new(alloc))),
-            body: BodyBytes::new(alloc),
-            handed: 0,
-            body_error: None,
-            read_limit: None,
-            how: How::Open,
-            began: settings,
-            left: settings,
-            reply: None,
-            headed: false,
-            sent_head: None,
-            bodied: false,
-            sent_body: None,
-            written: 0,
-            date: 0,
-            date_text: [0; 29],
-            both,
-            keep: false,
-            owed: false,
-        }
     }
 
     /// Puts the head in its places. With an error what stands there has no meaning.
@@ -243,19 +259,21 @@ impl Entry {
 
     /// Lends the payload that was read. None is there until it is given back.
     #[inline(always)]
-    pub fn take_body(&mut self, alloc: Global) -> BodyBytes
-        ensures taken { result ≡ self.old.body }
+    pub fn lend_payload(&mut self, alloc: Global) -> Payload
+        ensures taken { result ≡ payload_in self.old }
         ensures rest { self.new ≡ record self.old { body = [] } }
     {
-        mem::replace(&mut self.body, BodyBytes::new(alloc))
+        let stand_in = Payload::new(alloc, self.holding.gathering());
+        mem::replace(&mut self.payload, stand_in)
     }
 
     /// Gives the payload back.
     #[inline(always)]
-    pub fn put_body(&mut self, body: BodyBytes)
-        ensures { self.new ≡ record self.old { body = body } }
+    pub fn put_payload(&mut self, payload: Payload)
+        requires { payload.gathering ≡ gathering_of self.old.holding }
+        ensures { self.new ≡ record self.old { body = payload.bytes } }
     {
-        self.body = body;
+        self.payload = payload;
     }
 
     /// Notes how the body stands, and what is set, behind a call of the application that was handed
@@ -311,7 +329,7 @@ impl Entry {
           written = written;
         } }
     {
-        match self.history {
+        match self.holding.history {
             History::Kept => self.sent_head = Some(Held::Copy(header)),
             History::Forgotten => see_in(&mut self.sent_head, &header),
         }
@@ -323,7 +341,7 @@ impl Entry {
     #[inline(always)]
     pub fn note_own_header(&mut self, second: u64, date_text: [u8; 29], keep: bool, written: u64)
         requires reply { IsSome self.old.reply }
-        requires forgotten { self.old.history ≡ Forgotten }
+        requires forgotten { self.old.holding.history ≡ Forgotten }
         ensures { IfSome self.old.reply (λ reply. self.new ≡ record self.old {
           sent_head = Some reply.header;
           date = second;
@@ -365,7 +383,7 @@ impl Entry {
             × (self.new ≡ record self.old { sent_body = Some sent })) }
         ensures err { IfErr result (λ error. (error ≡ no_memory) × (self.new ≡ self.old)) }
     {
-        match self.history {
+        match self.holding.history {
             History::Kept => self.sent_body = Some(Held::Copy(sent.clone()?)),
             History::Forgotten => see_in(&mut self.sent_body, &sent),
         }
@@ -401,152 +419,5 @@ impl Entry {
             Some(reply) => reply.body.share(),
             None => unreachable!(),
         }
-    }
-
-    /// Whether the exchange is kept in memory.
-    #[inline(always)]
-    pub fn history(&self) -> History
-        ensures { result ≡ self.now.history }
-    {
-        self.history
-    }
-
-    /// The head as it was read, where exchanges are kept.
-    pub fn head(&self) -> Option<&RequestHeader>
-        ensures value { IfSome result (λ head. head.now ≡ self.now.head) }
-        ensures kept { self.now.history ≡ Kept → IsSome result }
-    {
-        self.head.get()
-    }
-
-    /// The head after the request filters, where exchanges are kept. None where one refused.
-    pub fn filtered(&self) -> Option<&RequestHeader>
-        ensures value { IfSome result (λ head. Some head.now ≡ self.now.filtered) }
-        ensures kept { self.now.history ≡ Kept → option_copied result ≡ self.now.filtered }
-    {
-        self.filtered.as_ref()?.get()
-    }
-
-    /// All payload that was read.
-    pub fn body(&self) -> &[u8]
-        ensures { result.now ≡ self.now.body }
-    {
-        self.body.as_slice()
-    }
-
-    /// How many bytes of the payload the application was handed.
-    pub fn handed(&self) -> u64
-        ensures { result ≡ self.now.handed }
-    {
-        self.handed
-    }
-
-    /// Why the body couldn't be read on.
-    pub fn body_error(&self) -> Option<Error>
-        ensures { result ≡ self.now.body_error }
-    {
-        self.body_error
-    }
-
-    /// How long the read of the body that waited too long might wait, in milliseconds.
-    pub fn read_limit(&self) -> Option<u64>
-        ensures { result ≡ self.now.read_limit }
-    {
-        self.read_limit
-    }
-
-    /// How the request's body stood when the reply was made.
-    pub fn how(&self) -> How
-        ensures { result ≡ self.now.how }
-    {
-        self.how
-    }
-
-    /// What was set as the exchange began.
-    pub fn began(&self) -> Settings
-        ensures { result ≡ self.now.began }
-    {
-        self.began
-    }
-
-    /// What the application left set.
-    pub fn left(&self) -> Settings
-        ensures { result ≡ self.now.left }
-    {
-        self.left
-    }
-
-    /// What the application replied.
-    #[inline(always)]
-    pub fn reply(&self) -> Option<&Reply>
-        ensures { option_copied result ≡ self.now.reply }
-    {
-        self.reply.as_ref()
-    }
-
-    /// The reply's header after the response filters, where exchanges are kept.
-    pub fn sent_head(&self) -> Option<&ResponseHeader>
-        ensures value { IfSome result (λ header. Some header.now ≡ self.now.sent_head) }
-        ensures kept { self.now.history ≡ Kept → option_copied result ≡ self.now.sent_head }
-    {
-        if self.headed {
-            self.sent_head.as_ref()?.get()
-        } else {
-            None
-        }
-    }
-
-    /// The reply's body after the response filters, where exchanges are kept.
-    pub fn sent_body(&self) -> Option<&Bytes>
-        ensures value { IfSome result (λ body. Some body.now ≡ self.now.sent_body) }
-        ensures kept { self.now.history ≡ Kept → option_copied result ≡ self.now.sent_body }
-    {
-        if self.bodied {
-            self.sent_body.as_ref()?.get()
-        } else {
-            None
-        }
-    }
-
-    /// How many bytes of the reply were written.
-    pub fn written(&self) -> u64
-        ensures { result ≡ self.now.written }
-    {
-        self.written
-    }
-
-    /// The second of the reply's Date since the epoch.
-    pub fn date(&self) -> u64
-        ensures { result ≡ self.now.date }
-    {
-        self.date
-    }
-
-    /// The reply's Date, as it is written.
-    pub fn date_text(&self) -> [u8; 29]
-        ensures { result ≡ self.now.date_text }
-    {
-        self.date_text
-    }
-
-    /// Whether Content-Length stood beside Transfer-Encoding and was dropped (RFC 9112, section 6.1).
-    pub fn both(&self) -> bool
-        ensures { result ≡ self.now.both }
-    {
-        self.both
-    }
-
-    /// Whether the reply said that the connection is kept.
-    pub fn keep(&self) -> bool
-        ensures { result ≡ self.now.keep }
-    {
-        self.keep
-    }
-
-    /// Whether the reply was taken up and is not flushed yet.
-    pub fn owed(&self) -> bool
-        ensures { result ≡ self.now.owed }
-    {
-        self.owed
     }
 }

@@ -1,8 +1,10 @@
 //! Values that contracts see whether memory has them or not.
-ghost use Rattle.std.specs.Prelude.{◌≡◌, IfErr, OnOk, Some, option_map};
+ghost use Rattle.std.specs.Prelude.{◌≡◌, IfErr, IfSome, OnOk, Some, option_map};
 ghost use Rattle.std.specs.Option.{option_copied};
 ghost use Rattle.h1_error.specs.Memory.{no_memory};
-ghost use Rattle.h1_transcript.specs.Held.{IsCopy, copy_of, value_of};
+ghost use Rattle.h1_transcript.specs.Held.{HoldsBy, copy_of, value_of};
+ghost use Rattle.h1_transcript.specs.declared.history.History.{History};
+ghost use Rattle.h1_transcript.specs.declared.history.History.TheVariants.{Forgotten};
 
 use h1_error::Error;
 use h1_head::RequestHeader;
@@ -19,7 +21,8 @@ impl<T: Drop> Held<T> {
     /// This value was seen.
     #[inline(always)]
     pub(crate) fn see(&mut self, value: &T)
-        ensures { value_of self.new ≡ value.now }
+        ensures value { value_of self.new ≡ value.now }
+        ensures seen { HoldsBy Forgotten self.new }
     {
         match self {
             Held::Seen(seen) => *seen = Snapshot::of(value),
@@ -44,7 +47,7 @@ impl Held<RequestHeader> {
     #[inline(always)]
     pub(crate) fn put(&mut self, head: &RequestHeader) -> Result<(), Error>
         ensures ok { OnOk result (value_of self.new ≡ head.now) }
-        ensures kept { IsCopy self.old → IsCopy self.new }
+        ensures held { (history : History) → HoldsBy history self.old → HoldsBy history self.new }
         ensures err { IfErr result (λ error. error ≡ no_memory) }
     {
         match self {
@@ -60,10 +63,21 @@ impl Held<RequestHeader> {
 /// This value was seen in its place.
 #[inline(always)]
 pub(crate) fn see_in<T: Drop>(place: &mut Option<Held<T>>, value: &T)
-    ensures { option_map value_of place.new ≡ Some value.now }
+    ensures value { option_map value_of place.new ≡ Some value.now }
+    ensures seen { IfSome place.new (HoldsBy Forgotten) }
 {
     match place {
         Some(held) => held.see(value),
         None => *place = Some(Held::Seen(Snapshot::of(value))),
+    }
+}
+
+/// What memory has a copy of is given back.
+#[inline(always)]
+pub(crate) fn drop_copy<T: Drop>(place: &mut Option<Held<T>>)
+    ensures { IfSome place.new (HoldsBy Forgotten) }
+{
+    if let Some(Held::Copy(_)) = place {
+        *place = None;
     }
 }

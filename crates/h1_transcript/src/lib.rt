@@ -13,7 +13,7 @@ mod reply;
 mod transcript;
 
 pub use entry::{Entry, How};
-pub use history::History;
+pub use history::{History, Holding};
 pub use laws::the_last_exchange_is_replied_to;
 pub use reply::Reply;
 pub use transcript::{KEEPALIVE_SECONDS, Transcript};

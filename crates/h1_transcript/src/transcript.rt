@@ -5,7 +5,7 @@ ghost use Rattle.std.specs.Borrow.{sem};
 ghost use Rattle.std.specs.Option.{option_copied};
 ghost use Rattle.h1_transcript.specs.declared.history.History.TheVariants.{Forgotten, Kept};
 
-use crate::{Entry, History};
+use crate::{Entry, History, Holding};
 use h1_error::Error;
 use h1_head::RequestHeader;
 use h1_server::Settings;
@@ -20,7 +20,7 @@ pub const KEEPALIVE_SECONDS: u64 = 60;
 /// that goes on as `last`; where they are forgotten, memory has the last alone.
 #[derive(Drop)]
 pub struct Transcript {
-    history: History,
+    holding: Holding,
     /// Those that were forgotten. It takes no memory.
     past: Log<Entry, ()>,
     /// How many those are, up to the last number of 64 bits.
@@ -40,8 +40,8 @@ impl Model for Transcript {
     ghost Value = { TranscriptView };
 
     ghost view = { λ t. record {
-      history = t.history;
-      done = ended_entries t.history (exchanges_of t.past.items) t.ended t.entries.items;
+      holding = t.holding;
+      done = ended_entries t.holding.history (exchanges_of t.past.items) t.ended t.entries.items;
       last = slice_get t.entries.items t.ended;
     } };
 
@@ -49,9 +49,9 @@ impl Model for Transcript {
     ghost invariant = { λ t. (t.ended ≤ length t.entries.items)
         × (length t.entries.items ≤ t.ended + 1)
         × (t.forgotten ≡ min (length (exchanges_of t.past.items)) (2 ^ 64 - 1))
-        × KeepsBy t.history (exchanges_of t.past.items) t.entries.items
+        × KeepsBy t.holding.history (exchanges_of t.past.items) t.entries.items
         × (t.payload ≡ min (length (bodies
-        (ended_entries t.history (exchanges_of t.past.items) t.ended t.entries.items)))
+        (ended_entries t.holding.history (exchanges_of t.past.items) t.ended t.entries.items)))
         (2 ^ 64 - 1)) };
 }
 
@@ -63,13 +63,13 @@ impl Transcript {
     ghost use Rattle.std.specs.Prelude.{◌^◌, ◌-◌};
 
     /// No exchange yet.
-    pub fn new(alloc: Global, history: History) -> Self
-        ensures history { result.history ≡ history }
+    pub fn new(alloc: Global, holding: Holding) -> Self
+        ensures holding { result.holding ≡ holding }
         ensures done { result.done ≡ [] }
         ensures last { result.last ≡ None }
     {
         Transcript {
-            history,
+            holding,
             past: Log::new(),
             forgotten: 0,
             entries: Vec::new(alloc),
@@ -90,19 +90,19 @@ impl Transcript {
     ) -> Result<(), Error>
         requires { self.old.last ≡ None }
         ensures ok { OnOk result
-            (self.new ≡ with_last self.old (new_entry self.old.history settings both head.now)) }
+            (self.new ≡ with_last self.old (new_entry self.old.holding settings both head.now)) }
         ensures err { OnErr result (self.new ≡ self.old) }
         ensures memory { IfErr result (λ error. error ≡ no_memory) }
     {
-        match self.history {
+        match self.holding.history {
             History::Kept => self.begin_kept(alloc, settings, both, head),
             History::Forgotten => {
                 if self.entries.is_empty() {
                     self.entries.reserve(1)?;
                     self.entries
-                        .push_reserved(Entry::new(alloc, settings, both, head));
+                        .push_reserved(Entry::new(alloc, self.holding, settings, both, head));
                 } else {
-                    self.entries[0].start_over(settings, both, head);
+                    self.entries[0].start_over(alloc, self.holding, settings, both, head);
                     self.ended = 0;
                 }
                 Ok(())
@@ -117,10 +117,10 @@ impl Transcript {
         both: bool,
         head: &RequestHeader,
     ) -> Result<(), Error>
-        requires kept { self.old.history ≡ Kept }
+        requires kept { self.old.holding.history ≡ Kept }
         requires none { self.old.last ≡ None }
         ensures ok { OnOk result
-            (self.new ≡ with_last self.old (new_entry self.old.history settings both head.now)) }
+            (self.new ≡ with_last self.old (new_entry self.old.holding settings both head.now)) }
         ensures err { OnErr result (self.new ≡ self.old) }
         ensures memory { IfErr result (λ error. error ≡ no_memory) }
     {
@@ -136,16 +136,16 @@ impl Transcript {
     /// An exchange begins that is kept, whose head is still to be put in its places.
     #[inline(always)]
     fn push_kept(&mut self, alloc: Global, settings: Settings, both: bool) -> Result<(), Error>
-        requires kept { self.old.history ≡ Kept }
+        requires kept { self.old.holding.history ≡ Kept }
         requires none { self.old.last ≡ None }
         ensures ok { OnOk result
-            ((e : Entry) × BeginsAs Kept settings both e × (self.new ≡ with_last self.old e)) }
+            ((e : Entry) × BeginsAs self.old.holding settings both e × (self.new ≡ with_last self.old e)) }
         ensures err { OnErr result (self.new ≡ self.old) }
         ensures memory { IfErr result (λ error. error ≡ no_memory) }
     {
         self.entries.reserve(1)?;
         self.entries
-            .push_reserved(Entry::new_kept(alloc, settings, both));
+            .push_reserved(Entry::new_kept(alloc, self.holding, settings, both));
         Ok(())
     }
 
@@ -153,7 +153,7 @@ impl Transcript {
     #[cold]
     #[inline(never)]
     fn drop_last(&mut self)
-        requires kept { self.old.history ≡ Kept }
+        requires kept { self.old.holding.history ≡ Kept }
         requires last { IsSome self.old.last }
         ensures { self.new ≡ record self.old { last = None } }
     {
@@ -181,11 +181,11 @@ impl Transcript {
     #[inline(always)]
     pub fn end_last(&mut self)
         requires { IsSome self.old.last }
-        ensures history { self.new.history ≡ self.old.history }
+        ensures holding { self.new.holding ≡ self.old.holding }
         ensures done { self.new.done ≡ self.old.done ++ option_to_list self.old.last }
         ensures last { self.new.last ≡ None }
     {
-        match self.history {
+        match self.holding.history {
             History::Kept => self.end_kept(),
             History::Forgotten => self.end_forgotten(),
         }
@@ -193,13 +193,13 @@ impl Transcript {
 
     #[inline(always)]
     fn end_kept(&mut self)
-        requires kept { self.old.history ≡ Kept }
+        requires kept { self.old.holding.history ≡ Kept }
         requires last { IsSome self.old.last }
-        ensures history { self.new.history ≡ self.old.history }
+        ensures holding { self.new.holding ≡ self.old.holding }
         ensures done { self.new.done ≡ self.old.done ++ option_to_list self.old.last }
         ensures last { self.new.last ≡ None }
     {
-        let read = self.entries[self.ended].body().len() as u64;
+        let read = self.entries[self.ended].body_len();
         self.payload = self.payload.saturating_add(read);
         self.ended += 1;
     }
@@ -207,13 +207,13 @@ impl Transcript {
     /// It is noted in contracts alone, and its memory is given back.
     #[inline(always)]
     fn end_forgotten(&mut self)
-        requires forgotten { self.old.history ≡ Forgotten }
+        requires forgotten { self.old.holding.history ≡ Forgotten }
         requires last { IsSome self.old.last }
-        ensures history { self.new.history ≡ self.old.history }
+        ensures holding { self.new.holding ≡ self.old.holding }
         ensures done { self.new.done ≡ self.old.done ++ option_to_list self.old.last }
         ensures last { self.new.last ≡ None }
     {
-        let read = self.entries[self.ended].body().len() as u64;
+        let read = self.entries[self.ended].body_len();
         self.payload = self.payload.saturating_add(read);
         self.past = self.past.and(&self.entries[self.ended], &());
         self.forgotten = self.forgotten.saturating_add(1);
@@ -223,9 +223,9 @@ impl Transcript {
 
     /// Whether exchanges are kept.
     pub fn history(&self) -> History
-        ensures { result ≡ self.now.history }
+        ensures { result ≡ self.now.holding.history }
     {
-        self.history
+        self.holding.history
     }
 
     /// How many exchanges there are, those that were forgotten among them, up to the last number of
@@ -233,7 +233,7 @@ impl Transcript {
     pub fn len(&self) -> usize
         ensures { result ≡ min (length (transcript_entries self.now)) (2 ^ 64 - 1) }
     {
-        let kept = match self.history {
+        let kept = match self.holding.history {
             History::Kept => self.entries.len(),
             History::Forgotten => self.entries.len() - self.ended,
         };
@@ -245,7 +245,7 @@ impl Transcript {
         ensures { result ≡ min (length (bodies (transcript_entries self.now))) (2 ^ 64 - 1) }
     {
         match self.last() {
-            Some(entry) => self.payload.saturating_add(entry.body().len() as u64),
+            Some(entry) => self.payload.saturating_add(entry.body_len()),
             None => self.payload,
         }
     }
@@ -253,9 +253,9 @@ impl Transcript {
     /// The exchange with this index, counted from 0, where exchanges are kept.
     pub fn get(&self, i: usize) -> Option<&Entry>
         ensures { option_copied result
-            ≡ kept_in self.now.history (slice_get (transcript_entries self.now) i) }
+            ≡ kept_in self.now.holding.history (slice_get (transcript_entries self.now) i) }
     {
-        match self.history {
+        match self.holding.history {
             History::Kept => self.entries.get(i),
             History::Forgotten => None,
         }
@@ -264,9 +264,9 @@ impl Transcript {
     /// All exchanges, where they are kept.
     pub fn all(&self) -> Option<&[Entry]>
         ensures { option_copied result
-            ≡ kept_in self.now.history (Some (transcript_entries self.now)) }
+            ≡ kept_in self.now.holding.history (Some (transcript_entries self.now)) }
     {
-        match self.history {
+        match self.holding.history {
             History::Kept => Some(self.entries.as_slice()),
             History::Forgotten => None,
         }

@@ -1,6 +1,6 @@
 -- Lemmas on reads of a part of a body, one after the other.
 use Rattle.std.proofs.Common.{◌≡◌, ℕ, ◌+◌, ◌*◌, ◌<◌, ◌≤◌, inl, inr, List, [], ◌∷◌, ◌++◌, length, Option, Some, None, option_map, refl, sym, ap, ◌∙◌, append-nil, append_assoc, length-append, arith, Ok}
-use Rattle.h1_transfer.specs.Words.{LinkState, Body, whole, unfinished, broken, ahead, stop_of, FeedState, reads, BodyReader, Filled, TakeStep}
+use Rattle.h1_transfer.specs.Words.{LinkState, Body, whole, unfinished, broken, ahead, stop_of, FeedState, reads, BodyReader, Filled, TakeStep, Payload, grown}
 use Rattle.std.proofs.lemmas.Bool.{cases_lt}
 use Rattle.std.proofs.Math.Seq.{take-nil}
 use Rattle.h1_body.specs.Body.{payload_of}
@@ -8,6 +8,7 @@ use Rattle.h1_body.specs.Chunks.{state_of}
 use Rattle.h1_body.specs.declared.fed.FeedState.TheVariants.{More, Done, Broken}
 use Rattle.h1_body.specs.declared.reader.Reading.{Reading}
 use Rattle.h1_body.specs.declared.reader.Reading.TheVariants as reading
+use Rattle.h1_body.proofs.PayloadLemmas.{payload_ahead}
 use Rattle.h1_body.proofs.CountedLemmas.{counted_has, counted_lacks}
 use Rattle.h1_body.specs.Reader.{read_as}
 use Rattle.h1_body.proofs.RunLemmas.{ahead-ahead, ahead_none}
@@ -32,12 +33,12 @@ decoded_on {r} {s} {t} {first} {second} {front} {later} before behind = record {
   ) refl;
 }
 
-kept_none : (kept : Option (List ℕ)) → kept ≡ option_map (λ front. front ++ []) kept
+pub kept_none : (kept : Option Payload) → kept ≡ option_map (grown []) kept
 kept_none None = refl
-kept_none (Some front) = ap Some (sym (append-nil front))
+kept_none (Some front) = ap (λ bytes. Some (record front { bytes = bytes })) (sym (append-nil front.bytes))
 
 -- where nothing is used, nothing changes
-pub uses_nothing : (old : List ℕ) (reader : BodyReader) (kept : Option (List ℕ))
+pub uses_nothing : (old : List ℕ) (reader : BodyReader) (kept : Option Payload)
     → Uses old old reader reader kept kept []
 uses_nothing old reader kept = record {
   used = [];
@@ -46,15 +47,16 @@ uses_nothing old reader kept = record {
   keeps_payload = kept_none kept;
 }
 
-kept_on : (a b c : Option (List ℕ)) (front later : List ℕ) → b ≡ option_map (λ bytes. bytes ++ front) a
-    → c ≡ option_map (λ bytes. bytes ++ later) b → c ≡ option_map (λ bytes. bytes ++ (front ++ later)) a
+pub kept_on : (a b c : Option Payload) (front later : List ℕ) → b ≡ option_map (grown front) a
+    → c ≡ option_map (grown later) b → c ≡ option_map (grown (front ++ later)) a
 kept_on a b c front later first second = rw (second, first) (kept_both a) where
-  kept_both : (a : Option (List ℕ)) → option_map (λ bytes. bytes ++ later) (option_map (λ bytes. bytes ++ front) a)
-      ≡ option_map (λ bytes. bytes ++ (front ++ later)) a
+  kept_both : (a : Option Payload) → option_map (grown later) (option_map (grown front) a)
+      ≡ option_map (grown (front ++ later)) a
   kept_both None = refl
-  kept_both (Some bytes) = ap Some (append_assoc bytes front later)
+  kept_both (Some kept) =
+      ap (λ bytes. Some (record kept { bytes = bytes })) (append_assoc kept.bytes front later)
 
-pub reads_body_itself : (s : LinkState) (received : List ℕ) (reader : BodyReader) (kept : Option (List ℕ)) (budget : ℕ)
+pub reads_body_itself : (s : LinkState) (received : List ℕ) (reader : BodyReader) (kept : Option Payload) (budget : ℕ)
     → ReadsBody s s received received reader reader kept kept budget budget []
 reads_body_itself s received reader kept budget = record {
   used = [];
@@ -65,7 +67,7 @@ reads_body_itself s received reader kept budget = record {
 
 -- nothing but received bytes is used next
 pub body_took : {a b : LinkState} {x y z : List ℕ} {r s t : BodyReader}
-    {k l m : Option (List ℕ)} {budget left : ℕ} {taken which : TakeStep}
+    {k l m : Option Payload} {budget left : ℕ} {taken which : TakeStep}
     → ReadsBody a b x y r s k l budget left [] → taken ≡ which → TakesBody y z s t l m (Ok taken)
     → ReadsBody a b x z r t k m budget left (taken_payload which)
 body_took {z = z} {k = k} {l = l} {m = m} {which = which} before is takes =
@@ -79,7 +81,7 @@ body_took {z = z} {k = k} {l = l} {m = m} {which = which} before is takes =
 
 -- then the link is read once, where all that was received is used
 pub body_filled : {a b c : LinkState} {x y z w : List ℕ} {r s t : BodyReader}
-    {k l m : Option (List ℕ)} {budget between left : ℕ} {filled : Filled} {taken : TakeStep}
+    {k l m : Option Payload} {budget between left : ℕ} {filled : Filled} {taken : TakeStep}
     → ReadsBody a b x y r s k l budget between [] → taken ≡ step.Lacks → TakesBody y z s t l m (Ok taken)
     → FillsBy b c z w filled → cost filled + left ≡ between → ReadsBody a c x w r t k m budget left []
 body_filled before is takes fills spends =
@@ -92,14 +94,14 @@ body_filled before is takes fills spends =
     }
 
 -- where nothing was read yet and all that was received is used, it was a part of a body
-pub parsed_first : {a b : LinkState} {x y : List ℕ} {r t : BodyReader} {k l : Option (List ℕ)} {budget left : ℕ}
+pub parsed_first : {a b : LinkState} {x y : List ℕ} {r t : BodyReader} {k l : Option Payload} {budget left : ℕ}
     → ReadsBody a b x y r t k l budget left [] → budget ≤ left → Lacks t y → reads r x ≡ unfinished []
 parsed_first {r = r} read none lacks =
     read_nothing _ _ _ _ _ _ (λ bytes. reads r bytes ≡ unfinished []) read.received none
     (rw lacks.0 (read.decoded.reads [] ∙ ap (ahead [] (length read.used)) lacks.1))
 
 -- payload that was read and more after it is a part of a body, where the rest is
-parsed_later : {a b : LinkState} {x y : List ℕ} {r t : BodyReader} {k l : Option (List ℕ)}
+parsed_later : {a b : LinkState} {x y : List ℕ} {r t : BodyReader} {k l : Option Payload}
     {budget left : ℕ} {payload : List ℕ}
     → ReadsBody a b x y r t k l budget left payload → budget ≤ left → IsUnfinished (reads t y)
     → IsUnfinished (reads r x)
@@ -113,7 +115,7 @@ parsed_later {y = y} {r = r} {t = t} {payload = payload} read none rest =
     goes_on front n (broken payload) rest = rest
 
 -- what was received was a part of a body where a reading, or one after it, read more
-pub parsed_behind : {a b : LinkState} {x y : List ℕ} {r s : BodyReader} {k l : Option (List ℕ)}
+pub parsed_behind : {a b : LinkState} {x y : List ℕ} {r s : BodyReader} {k l : Option Payload}
     {budget between left : ℕ} {payload : List ℕ}
     → ReadsBody a b x y r s k l budget between payload → (between < budget → IsUnfinished (reads r x))
     → (left < between → reads s y ≡ unfinished []) → left < budget → IsUnfinished (reads r x)
@@ -124,7 +126,7 @@ parsed_behind {budget = budget} {between = between} read before after less = eli
 
 -- one reading after another
 pub reads_body_on : {a b c : LinkState} {x y z : List ℕ} {r s t : BodyReader}
-    {k l m : Option (List ℕ)} {budget between left : ℕ} {payload later : List ℕ}
+    {k l m : Option Payload} {budget between left : ℕ} {payload later : List ℕ}
     → ReadsBody a b x y r s k l budget between payload → ReadsBody b c y z s t l m between left later
     → ReadsBody a c x z r t k m budget left (payload ++ later)
 reads_body_on {z = z} {k = k} {l = l} {m = m} {payload = payload} {later = later} first second = record {
@@ -134,11 +136,6 @@ reads_body_on {z = z} {k = k} {l = l} {m = m} {payload = payload} {later = later
   decoded = decoded_on first.decoded second.decoded;
   keeps_payload = kept_on k l m payload later first.keeps_payload second.keeps_payload;
 }
-
-pub payload_ahead : (front : List ℕ) (used : ℕ) (b : Body) → payload_of (ahead front used b) ≡ front ++ payload_of b
-payload_ahead front used (whole payload n) = refl
-payload_ahead front used (unfinished payload) = refl
-payload_ahead front used (broken payload) = refl
 
 -- a reader makes no payload of no bytes
 pub nothing_read : (reading : Reading) → payload_of (read_as reading []) ≡ []
@@ -163,7 +160,7 @@ uses_some r s [] payload d some =
 uses_some r s (b ∷ used) payload d some = omega arith
 
 -- a read that gave payload spent budget, or used what was received
-pub drains_less : {a b : LinkState} {x y : List ℕ} {r s : BodyReader} {k l : Option (List ℕ)}
+pub drains_less : {a b : LinkState} {x y : List ℕ} {r s : BodyReader} {k l : Option Payload}
     {budget left : ℕ} {payload : List ℕ}
     → ReadsBody a b x y r s k l budget left payload → 0 < length payload → length y < 9223372036854775808
     → left * 9223372036854775808 + length y < budget * 9223372036854775808 + length x

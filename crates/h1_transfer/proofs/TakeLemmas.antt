@@ -1,14 +1,18 @@
 -- Lemmas on payload that is taken out of received bytes.
-use Rattle.std.proofs.Common.{◌≡◌, ℕ, ◌<◌, List, [], ◌∷◌, ◌++◌, length, take, drop, slice_range, Option, Some, None, option_map, Ok, refl, sym, ap, ◌∙◌, subst, take-append-drop, arith, inl, inr, length-take, length-drop}
+use Rattle.std.proofs.Common.{◌≡◌, ℕ, ◌<◌, List, [], ◌∷◌, ◌++◌, length, take, drop, slice_range, Option, Some, None, option_map, Ok, Err, ◌≢◌, refl, sym, ap, ◌∙◌, subst, take-append-drop, arith, inl, inr, length-take, length-drop}
 use Rattle.std.proofs.lemmas.List.{length-take-le, drop_all}
-use Rattle.h1_transfer.specs.Words.{stop_of, reads, Feeds, BodyReader, TakeStep}
+use Rattle.h1_error.specs.Memory.{no_memory}
+use Rattle.h1_error.specs.declared.error.ErrorType.TheVariants as kind
+use Rattle.h1_transfer.specs.Decoding.{GoesPast}
+use Rattle.h1_transfer.proofs.BodyLemmas.{uses_nothing}
+use Rattle.h1_transfer.specs.Words.{Body, Error, stop_of, reads, Feeds, BodyReader, TakeStep, Payload, grown}
 use Rattle.h1_body.specs.Feeds.{IsEnd}
 use Rattle.h1_body.specs.Takes.{Takes, payload_bytes, some_bytes}
 use Rattle.h1_body.specs.declared.fed.Fed.{Fed}
 use Rattle.h1_body.specs.declared.fed.Taken.{Taken}
 use Rattle.h1_body.specs.declared.fed.FeedState.TheVariants as s
 use Rattle.h1_transfer.proofs.Words.{Uses}
-use Rattle.h1_transfer.specs.Taking.{IsJudged, TakesBody}
+use Rattle.h1_transfer.specs.Taking.{FaultOf, IsJudged, TakesBody, TakesPayload}
 use Rattle.h1_transfer.specs.declared.taking.TakeStep.TheVariants as t
 
 -- where no payload came and the body goes on, all bytes are used
@@ -45,9 +49,9 @@ payload_is : {old new : List ℕ} {reader behind : BodyReader} {taken : Taken} (
 payload_is takes = sym (ap payload_bytes takes.payload ∙ bytes_are _)
 
 -- what was taken is used
-uses_taken : {old new : List ℕ} {reader behind : BodyReader} {taken : Taken} (kept keeps : Option (List ℕ))
+uses_taken : {old new : List ℕ} {reader behind : BodyReader} {taken : Taken} (kept keeps : Option Payload)
     → Takes reader behind old new taken
-    → keeps ≡ option_map (λ front. front ++ payload_bytes taken.payload) kept
+    → keeps ≡ option_map (grown (payload_bytes taken.payload)) kept
     → Uses old new reader behind kept keeps (payload_bytes taken.payload)
 uses_taken {old} {behind = behind} kept keeps takes keeps_so = record {
   used = take takes.fed.used old;
@@ -61,9 +65,9 @@ uses_taken {old} {behind = behind} kept keeps takes keeps_so = record {
 
 -- what was taken is used, and the step tells what it was
 pub takes_taken : (old new : List ℕ) (reader behind : BodyReader) (taken : Taken)
-    (kept keeps : Option (List ℕ)) (step : TakeStep)
+    (kept keeps : Option Payload) (step : TakeStep)
     → Takes reader behind old new taken
-    → keeps ≡ option_map (λ front. front ++ payload_bytes taken.payload) kept
+    → keeps ≡ option_map (grown (payload_bytes taken.payload)) kept
     → IsJudged taken.state taken.payload step
     → TakesBody old new reader behind kept keeps (Ok step)
 takes_taken old new reader behind taken kept keeps (t.Piece bytes) takes keeps_so judged =
@@ -85,3 +89,41 @@ takes_taken old new reader behind taken kept keeps t.Lacks takes keeps_so judged
         sym takes.feeds.state ∙ ap stop_of more,
       ),
     )
+takes_taken old new reader behind taken kept keeps t.TooLarge takes keeps_so judged = absurd judged
+
+not_large : (error : Error) → error ≡ no_memory → error.kind ≡ kind.ContentTooLarge → ⊥
+not_large error starved large = never (sym (ap (λ (e : Error). e.kind) starved) ∙ large) where
+  never : kind.NoMemory ≡ kind.ContentTooLarge → ⊥
+  never same = cc
+
+-- a body of which no more was taken, though there was memory, goes on past its limit
+past_for : (kept : Option Payload) (body : Body) (error : Error) → FaultOf kept body error
+    → error.kind ≡ kind.ContentTooLarge → GoesPast kept body
+past_for None body error starved large = absurd (not_large error starved large)
+past_for (Some kept) body error fault large = elim fault [
+  | inl starved ↦ absurd (not_large error starved large)
+  | inr past ↦ past.1
+]
+
+-- one with another answer was out of memory
+starved_for : (kept : Option Payload) (body : Body) (error : Error) → FaultOf kept body error
+    → error.kind ≢ kind.ContentTooLarge → error ≡ no_memory
+starved_for None body error starved other = starved
+starved_for (Some kept) body error fault other = elim fault [
+  | inl starved ↦ starved
+  | inr past ↦ absurd (other (ap (λ (e : Error). e.kind) past.0))
+]
+
+pub takes_past : (old new : List ℕ) (reader behind : BodyReader) (kept keeps : Option Payload)
+    (error : Error) → TakesPayload old new reader behind kept keeps (Err error)
+    → error.kind ≡ kind.ContentTooLarge
+    → TakesBody old new reader behind kept keeps (Ok t.TooLarge)
+takes_past old new reader behind kept keeps error h large =
+    rw (h.1, h.2, h.3) (uses_nothing old reader kept, past_for kept (reads reader old) error h.0 large)
+
+pub takes_none : (old new : List ℕ) (reader behind : BodyReader) (kept keeps : Option Payload)
+    (error : Error) → TakesPayload old new reader behind kept keeps (Err error)
+    → error.kind ≢ kind.ContentTooLarge
+    → TakesBody old new reader behind kept keeps (Err error)
+takes_none old new reader behind kept keeps error h other =
+    (starved_for kept (reads reader old) error h.0 other, h.1, h.2, h.3)

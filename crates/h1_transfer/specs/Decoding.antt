@@ -1,6 +1,7 @@
 -- Reading a part of a body (RFC 9112, sections 6 and 8).
-use Rattle.std.specs.Prelude.{◌≡◌, ℕ, ◌<◌, List, [], ◌++◌, length, true, Option, option_map}
-use Rattle.h1_transfer.specs.Words.{LinkState, Rose, Body, whole, unfinished, broken, ahead, reads, BodyReader, BodyRead, BodyStop}
+use Rattle.std.specs.Prelude.{◌≡◌, ℕ, ◌<◌, List, [], ◌++◌, length, true, Option, Some, None, option_map}
+use Rattle.h1_transfer.specs.Words.{LinkState, Rose, Body, whole, unfinished, broken, ahead, reads, BodyReader, BodyRead, BodyStop, IsPast, Payload, grown}
+use Rattle.h1_body.specs.Payload.{held_in}
 use Rattle.h1_transfer.specs.Moved.{Received}
 use Rattle.h1_transfer.specs.declared.reading_body.BodyRead.TheVariants as b
 use Rattle.h1_transfer.specs.declared.reading_body.BodyStop.TheVariants as s
@@ -20,37 +21,56 @@ IsUnfinished (whole payload n) = ⊥
 IsUnfinished (unfinished payload) = Unit {0}
 IsUnfinished (broken payload) = ⊥
 
+-- the bytes that were noted of a body, where payload is kept
+abbrev pub noted_of : Option Payload → List ℕ
+noted_of None = []
+noted_of (Some kept) = kept.bytes
+
+-- those that memory holds
+abbrev pub held_of : Option Payload → Option (List ℕ)
+held_of None = None
+held_of (Some kept) = held_in kept
+
+-- a body goes on past the limit of the payload that is kept of it
+abbrev pub GoesPast : Option Payload → Body → Type 0
+GoesPast None body = ⊥
+GoesPast (Some kept) body = IsPast kept.gathering.limit kept.bytes body
+
 -- when the reading of a body stops, with the bytes that are received and not used then
-abbrev pub StopCause : LinkState → LinkState → BodyReader → List ℕ → ℕ → BodyStop → Type 0
-StopCause before now reader received left s.Done =
+abbrev pub StopCause : LinkState → LinkState → Option Payload → BodyReader → List ℕ → ℕ → BodyStop
+    → Type 0
+StopCause before now kept reader received left s.Done =
     (reads reader [] ≡ whole [] 0) × (now.read_waits ≡ before.read_waits)
-StopCause before now reader received left s.Broken =
+StopCause before now kept reader received left s.Broken =
     (reads reader [] ≡ broken []) × (now.read_waits ≡ before.read_waits)
-StopCause before now reader received left s.Cut =
+StopCause before now kept reader received left s.Cut =
     (now.ended ≡ true) × Lacks reader received × (now.read_waits ≡ before.read_waits)
-StopCause before now reader received left s.NotReady =
+StopCause before now kept reader received left s.NotReady =
     Rose before.read_waits now.read_waits × Lacks reader received
-StopCause before now reader received left s.Spent = (left ≡ 0) × Lacks reader received
-StopCause before now reader received left s.Failed =
+StopCause before now kept reader received left s.Spent = (left ≡ 0) × Lacks reader received
+StopCause before now kept reader received left s.Failed =
     Rose before.read_faults now.read_faults × Lacks reader received
     × (now.read_waits ≡ before.read_waits)
-StopCause before now reader received left s.NoMemory = now.read_waits ≡ before.read_waits
+StopCause before now kept reader received left s.TooLarge =
+    GoesPast kept (reads reader received) × (now.read_waits ≡ before.read_waits)
+StopCause before now kept reader received left s.NoMemory = now.read_waits ≡ before.read_waits
 
 -- when each answer of a body read comes
-abbrev pub BodyCause : LinkState → LinkState → BodyReader → List ℕ → ℕ → BodyRead → Type 0
-BodyCause before now reader received left (b.Piece bytes) =
+abbrev pub BodyCause : LinkState → LinkState → Option Payload → BodyReader → List ℕ → ℕ → BodyRead
+    → Type 0
+BodyCause before now kept reader received left (b.Piece bytes) =
     (0 < length bytes) × (now.read_waits ≡ before.read_waits)
-BodyCause before now reader received left (b.Stopped stop) =
-    StopCause before now reader received left stop
+BodyCause before now kept reader received left (b.Stopped stop) =
+    StopCause before now kept reader received left stop
 
 -- One read of a part of a body: what is used leaves the front of all bytes that came.
 pub record ReadsBody
     (before now : LinkState) (old new : List ℕ) (reader behind : BodyReader)
-    (kept keeps : Option (List ℕ)) (budget left : ℕ) (payload : List ℕ) : Type 0 where
+    (kept keeps : Option Payload) (budget left : ℕ) (payload : List ℕ) : Type 0 where
   pub used : List ℕ
   pub received : Received before now old (used ++ new) budget left
   pub decoded : Decoded reader behind used payload
-  pub keeps_payload : keeps ≡ option_map (λ front. front ++ payload) kept
+  pub keeps_payload : keeps ≡ option_map (grown payload) kept
 
 -- the payload that an answer hands out
 abbrev pub payload_of : BodyRead → List ℕ

@@ -15,7 +15,7 @@ pub use Rattle.h1_transfer.specs.BodyAnswers.{refused_for_good, refused_behind}
 abbrev pub BodyRefusal : {L : Type 0} → (L → LinkState) → TransferView L → TransferView L
     → ErrorType → Type 0
 BodyRefusal state old new kind =
-    RefusesBody (state old.link) (state new.link) new.body.reader new.received kind
+    RefusesBody (state old.link) (state new.link) new.body.kept new.body.reader new.received kind
 
 -- when each answer of a read of a part of the body comes
 abbrev pub PayloadAnswer : {L : Type 0} → (L → LinkState) → TransferView L → TransferView L → List ℕ

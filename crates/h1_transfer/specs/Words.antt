@@ -3,6 +3,7 @@ pub use Rattle.futures.specs.declared.task.Poll.{Poll}
 pub use Rattle.futures.specs.declared.task.Poll.TheVariants.{Pending, Ready}
 pub use Rattle.h1_body.specs.Body.{Body, ahead, broken, stop_of, unfinished, whole}
 pub use Rattle.h1_body.specs.Feeds.{Feeds}
+pub use Rattle.h1_body.specs.Payload.{IsPast, Payload, grown}
 pub use Rattle.h1_body.specs.Reader.{reads}
 pub use Rattle.h1_body.specs.Writer.{after_piece, end_bytes, is_short, piece_bytes}
 pub use Rattle.h1_body.specs.declared.fed.FeedState.{FeedState}

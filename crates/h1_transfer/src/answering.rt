@@ -40,7 +40,7 @@ pub(crate) fn part(
     ensures notes { (body.new.reader ≡ body.old.reader) × (body.new.kept ≡ body.old.kept)
         × (body.new.since ≡ part_behind (went_with read) deadline moved body.old.since) }
     ensures answer { (before now : LinkState) (received : List ℕ) (left : ℕ)
-        → BodyCause before now body.old.reader received left read
+        → BodyCause before now body.old.kept body.old.reader received left read
         → PartAnswer before now body.old.waits body.new received (payload_of read) left result
         × IsTimed (noted_part (Rose before.read_waits now.read_waits) deadline moved body.old.since
         body.new.since) left result }
@@ -66,6 +66,7 @@ pub(crate) fn part(
             Poll::Pending
         }
         BodyStop::Failed => refuse(&mut body.refused, ErrorType::ReadError),
+        BodyStop::TooLarge => refuse(&mut body.refused, ErrorType::ContentTooLarge),
         BodyStop::NoMemory => {
             let error = Error::from(ErrorType::NoMemory);
             if body.kept.is_some() {
@@ -90,7 +91,7 @@ pub(crate) fn rest(
       since = rest_behind (went_until stop) limits moved body.old.since;
     } }
     ensures answer { (before now : LinkState) (received : List ℕ) (left : ℕ)
-        → StopCause before now body.old.reader received left stop
+        → StopCause before now body.old.kept body.old.reader received left stop
         → RestAnswer before now body.new received left result
         × IsTimed (noted_rest (Rose before.read_waits now.read_waits) limits moved body.old.since
         body.new.since) left result }
@@ -106,6 +107,7 @@ pub(crate) fn rest(
         BodyStop::NotReady if late => refuse(&mut body.refused, ErrorType::ReadTimedout),
         BodyStop::NotReady | BodyStop::Spent => Poll::Pending,
         BodyStop::Failed => refuse(&mut body.refused, ErrorType::ReadError),
+        BodyStop::TooLarge => refuse(&mut body.refused, ErrorType::ContentTooLarge),
         BodyStop::NoMemory => Poll::Ready(Err(Error::from(ErrorType::NoMemory))),
     }
 }

@@ -2,15 +2,15 @@
 ghost use Rattle.h1_transfer.specs.Fresh.{IsNoBody};
 
 use crate::Since;
-use h1_body::{BodyBytes, BodyReader, Framing};
+use h1_body::{BodyReader, Framing, Payload};
 use h1_error::Error;
 
 /// Where the reading of a body stands.
 #[derive(Drop)]
 pub struct BodyState {
     pub reader: BodyReader,
-    /// All payload that was read since it was handed in, where a caller keeps it.
-    pub kept: Option<BodyBytes>,
+    /// What was read since it was handed in, where a caller keeps it.
+    pub kept: Option<Payload>,
     /// The refusal that each later read of the body answers.
     pub refused: Option<Error>,
     /// A read was pending since this was last asked.

@@ -8,7 +8,7 @@ ghost use Rattle.h1_transfer.specs.Calls.{Called, is_part, is_done, fault_of_rea
 use crate::receiving::{Filled, fill_on};
 use crate::taking::{TakeStep, take};
 use bytes::{Bytes, BytesMut};
-use h1_body::{BodyBytes, BodyReader, FeedState};
+use h1_body::{BodyReader, FeedState, Payload};
 use h1_head::Room;
 use h1_link::Link;
 
@@ -25,6 +25,8 @@ pub enum BodyStop {
     /// No further link call may move bytes.
     Spent,
     Failed,
+    /// The body goes on past the limit of the payload that is kept of it.
+    TooLarge,
     NoMemory,
 }
 
@@ -45,7 +47,7 @@ pub fn read_body<L: Link>(
     link: &mut L,
     received: &mut BytesMut,
     reader: &mut BodyReader,
-    kept: &mut Option<BodyBytes>,
+    kept: &mut Option<Payload>,
     room: &mut Room,
     came: &mut usize,
     budget: &mut u32,
@@ -53,8 +55,8 @@ pub fn read_body<L: Link>(
     ensures reads { ReadsBody (L.state link.old)
         (L.state link.new) received.old.items received.new.items reader.old reader.new kept.old
         kept.new budget.old budget.new (payload_of result) }
-    ensures cause { BodyCause (L.state link.old) (L.state link.new) reader.new received.new.items
-        budget.new result }
+    ensures cause { BodyCause (L.state link.old) (L.state link.new) kept.new reader.new
+        received.new.items budget.new result }
     ensures few { (L.state link.new).read_waits ≤ (L.state link.old).read_waits + 1 }
     ensures parsed { budget.new < budget.old → reads reader.old received.old.items ≡ unfinished [] }
     ensures calls { Called (L.state link.old) (L.state link.new) (is_part result)
@@ -66,6 +68,7 @@ pub fn read_body<L: Link>(
             Ok(TakeStep::Piece(bytes)) => return BodyRead::Piece(bytes),
             Ok(TakeStep::Done) => return BodyRead::Stopped(BodyStop::Done),
             Ok(TakeStep::Broken) => return BodyRead::Stopped(BodyStop::Broken),
+            Ok(TakeStep::TooLarge) => return BodyRead::Stopped(BodyStop::TooLarge),
             Ok(TakeStep::Lacks) => {}
             Err(_) => return BodyRead::Stopped(BodyStop::NoMemory),
         }
@@ -91,7 +94,7 @@ pub fn drain_body<L: Link>(
     link: &mut L,
     received: &mut BytesMut,
     reader: &mut BodyReader,
-    kept: &mut Option<BodyBytes>,
+    kept: &mut Option<Payload>,
     room: &mut Room,
     came: &mut usize,
     budget: &mut u32,
@@ -100,8 +103,8 @@ pub fn drain_body<L: Link>(
         × ReadsBody (L.state link.old)
         (L.state link.new) received.old.items received.new.items reader.old reader.new kept.old
         kept.new budget.old budget.new payload }
-    ensures cause { StopCause (L.state link.old) (L.state link.new) reader.new received.new.items
-        budget.new result }
+    ensures cause { StopCause (L.state link.old) (L.state link.new) kept.new reader.new
+        received.new.items budget.new result }
     ensures few { (L.state link.new).read_waits ≤ (L.state link.old).read_waits + 1 }
     ensures parsed { budget.new < budget.old → IsUnfinished (reads reader.old received.old.items) }
     ensures calls { Called (L.state link.old) (L.state link.new) (is_done result)
@@ -123,7 +126,7 @@ fn drain_rest<L: Link>(
     link: &mut L,
     received: &mut BytesMut,
     reader: &mut BodyReader,
-    kept: &mut Option<BodyBytes>,
+    kept: &mut Option<Payload>,
     room: &mut Room,
     came: &mut usize,
     budget: &mut u32,
@@ -132,8 +135,8 @@ fn drain_rest<L: Link>(
         × ReadsBody (L.state link.old)
         (L.state link.new) received.old.items received.new.items reader.old reader.new kept.old
         kept.new budget.old budget.new payload }
-    ensures cause { StopCause (L.state link.old) (L.state link.new) reader.new received.new.items
-        budget.new result }
+    ensures cause { StopCause (L.state link.old) (L.state link.new) kept.new reader.new
+        received.new.items budget.new result }
     ensures few { (L.state link.new).read_waits ≤ (L.state link.old).read_waits + 1 }
     ensures parsed { budget.new < budget.old → IsUnfinished (reads reader.old received.old.items) }
     ensures calls { Called (L.state link.old) (L.state link.new) (is_done result)

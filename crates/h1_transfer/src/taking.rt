@@ -3,15 +3,15 @@ ghost use Rattle.std.specs.Prelude.{None};
 ghost use Rattle.h1_transfer.specs.Taking.{TakesBody, TakesPayload, IsJudged};
 
 use bytes::{Bytes, BytesMut};
-use h1_body::{BodyBytes, BodyReader, FeedState, Taken};
-use h1_error::Error;
+use h1_body::{BodyReader, FeedState, Payload, Taken};
+use h1_error::{Error, ErrorType};
 use h1_head::Room;
 
 /// What the bytes that are received give of a body.
 #[derive(Drop)]
 pub enum TakeStep {
-    /// Payload, which is not empty. It keeps the block alive that it was received in, unless other
-    /// payload is kept already: then it is a copy.
+    /// Payload, which is not empty. It keeps the block alive that it was received in, unless it is
+    /// short and the first that is held: then it is a copy.
     Piece(Bytes),
     /// The body is at its end.
     Done,
@@ -19,6 +19,8 @@ pub enum TakeStep {
     Broken,
     /// All received bytes are used, and the body goes on.
     Lacks,
+    /// The body goes on past the limit of the payload that is kept of it. No byte is used.
+    TooLarge,
 }
 
 /// Uses received bytes up to the end of a run of payload, the end of the body or the end of the
@@ -28,7 +30,7 @@ pub enum TakeStep {
 pub fn take(
     received: &mut BytesMut,
     reader: &mut BodyReader,
-    kept: &mut Option<BodyBytes>,
+    kept: &mut Option<Payload>,
     room: &mut Room,
 ) -> Result<TakeStep, Error>
     ensures { TakesBody received.old.items received.new.items reader.old reader.new kept.old
@@ -40,8 +42,13 @@ pub fn take(
         FeedState::Done => return Ok(TakeStep::Done),
         FeedState::Broken => return Ok(TakeStep::Broken),
     }
-    let taken = take_payload(received, reader, kept, room)?;
-    Ok(judge(taken))
+    match take_payload(received, reader, kept, room) {
+        Ok(taken) => Ok(judge(taken)),
+        Err(error) => match error.kind {
+            ErrorType::ContentTooLarge => Ok(TakeStep::TooLarge),
+            _ => Err(error),
+        },
+    }
 }
 
 /// Takes payload, and keeps it after what is kept, where payload is kept.
@@ -49,7 +56,7 @@ pub fn take(
 fn take_payload(
     received: &mut BytesMut,
     reader: &mut BodyReader,
-    kept: &mut Option<BodyBytes>,
+    kept: &mut Option<Payload>,
     room: &mut Room,
 ) -> Result<Taken, Error>
     ensures { TakesPayload received.old.items received.new.items reader.old reader.new kept.old

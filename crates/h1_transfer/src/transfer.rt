@@ -1,13 +1,14 @@
 //! The bytes of one message each way over a link: a session's link with what is received, the body
 //! that is read and the message that is written.
-ghost use Rattle.std.specs.Prelude.{◌≡◌, ◌≤◌, ℕ, List, [], length, drop, unwrap_or, Some, None, false};
+ghost use Rattle.std.specs.Prelude.{◌≡◌, ◌≤◌, ℕ, List, [], length, drop, IfSome, Some, None, false};
+ghost use Rattle.std.specs.Option.{option_copied};
 ghost use Rattle.std.specs.Fn.{FnOnceTakesAtMut, FnOnceReturnsAtMut};
 ghost use Rattle.h1_link.specs.Steps.{after_shutdown};
 ghost use Rattle.h1_link.specs.Later.{KeepsBytes};
 
 use crate::{BodyState, Outgoing};
 use bytes::BytesMut;
-use h1_body::{BodyBytes, BodyReader, Framing};
+use h1_body::{BodyReader, Framing, Gathering, Payload};
 use h1_head::Room;
 use h1_link::Link;
 use std::alloc::Global;
@@ -50,6 +51,8 @@ impl<L: Link + Drop> Model for Transfer<L> {
 
 impl<L: Link + Drop> Transfer<L> {
     ghost use Rattle.h1_body.specs.Reader.{body, reads};
+    ghost use Rattle.h1_body.specs.Payload.{no_payload};
+    ghost use Rattle.h1_transfer.specs.Decoding.{held_of, noted_of};
     ghost use Rattle.h1_transfer.specs.TransferView.{IsNewTransfer, StartsOver};
 
     /// A transfer over a link, before the first message.
@@ -157,27 +160,62 @@ impl<L: Link + Drop> Transfer<L> {
         self.came = 0;
     }
 
-    /// From here on all payload that is read is kept after these bytes, and a body whose reading
-    /// was out of memory has failed.
-    pub fn keep_payload(&mut self, kept: BodyBytes)
+    /// From here on all payload that is read is noted in this, and a body whose reading was out of
+    /// memory, or that goes on past its limit, has failed.
+    #[inline(always)]
+    pub fn keep_payload(&mut self, kept: Payload)
         ensures { self.new ≡ record self.old { body = record self.old.body { kept = Some kept } } }
     {
         self.body.kept = Some(kept);
     }
 
-    /// The payload that is kept so far.
+    /// The same with payload of which nothing was read yet.
     #[inline(always)]
-    pub fn kept_payload(&self) -> &[u8]
-        ensures { result.now ≡ unwrap_or self.now.body.kept [] }
+    pub fn begin_payload(&mut self, gathering: Gathering)
+        ensures { self.new
+            ≡ record self.old
+            { body = record self.old.body { kept = Some (no_payload gathering) } } }
     {
-        match &self.body.kept {
-            Some(kept) => kept.as_slice(),
-            None => b"",
+        self.body.kept = Some(Payload::new(self.alloc, gathering));
+    }
+
+    /// Notes no payload from here on, and drops what was noted.
+    #[inline(always)]
+    pub fn drop_payload(&mut self)
+        ensures { self.new ≡ record self.old { body = record self.old.body { kept = None } } }
+    {
+        if self.body.kept.is_some() {
+            self.body.kept = None;
         }
     }
 
-    /// Hands out the payload that was kept, and keeps none from here on.
-    pub fn take_payload(&mut self) -> Option<BodyBytes>
+    /// The payload that was noted, where it is held.
+    #[inline(always)]
+    pub fn held_payload(&self) -> Option<&[u8]>
+        ensures { option_copied result ≡ held_of self.now.body.kept }
+    {
+        match &self.body.kept {
+            Some(kept) => kept.held(),
+            None => None,
+        }
+    }
+
+    /// How many bytes of payload were noted: never more than its limit.
+    #[inline(always)]
+    pub fn payload_len(&self) -> u64
+        ensures value { result ≡ length (noted_of self.now.body.kept) }
+        ensures within { IfSome self.now.body.kept
+            (λ kept. length kept.bytes ≤ kept.gathering.limit) }
+    {
+        match &self.body.kept {
+            Some(kept) => kept.len(),
+            None => 0,
+        }
+    }
+
+    /// Hands out the payload that was noted, and notes none from here on.
+    #[inline(always)]
+    pub fn take_payload(&mut self) -> Option<Payload>
         ensures taken { result ≡ self.old.body.kept }
         ensures rest { self.new ≡ record self.old { body = record self.old.body { kept = None } } }
     {

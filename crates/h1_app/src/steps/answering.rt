@@ -1,17 +1,20 @@
 //! The application runs, until it has replied.
-ghost use Rattle.std.specs.Prelude.{◌≡◌, ◌+◌, ◌<◌, ◌≤◌, IsSome, None, Some, false};
+ghost use Rattle.std.specs.Prelude.{◌≡◌, [], ◌<◌, ◌≤◌, IfSome, IsSome, None, Some, true, false};
 ghost use Rattle.h1_error.specs.declared.moment.TheConstants.{YEAR_10000};
-ghost use Rattle.h1_transcript.specs.Entry.{Entry};
+ghost use Rattle.h1_transcript.specs.Entry.{Entry, gathering_of};
 ghost use Rattle.h1_head.specs.Views.{RequestView};
 ghost use Rattle.h1_server.specs.declared.settings.Settings.{Settings};
 ghost use Rattle.h1_application.specs.Application.{how_of, IsAskedFor, ReadsInTime};
 ghost use Rattle.h1_transcript.specs.Exchange.{given_to};
 ghost use Rattle.h1_app.specs.Beginning.{IsAnswerStage};
-ghost use Rattle.h1_app.specs.Asking.{AsksAs, RunsOn, GivesAsked, PendsAsked, IsAskedOf, noted};
+ghost use Rattle.h1_app.specs.Asking.{GathersLast, HearsOf, NotesAnswer, noted, outcome_after, stage_after, told_of};
+ghost use Rattle.h1_app.specs.Heard.{Heard};
+ghost use Rattle.h1_app.specs.declared.exchange.Stage.TheVariants as at;
 ghost use Rattle.h1_app.specs.Turn.{LeavesBy};
 ghost use Rattle.h1_app.specs.Filtering.{FiltersStay};
 ghost use Rattle.h1_app.specs.Step.{StepReady, SteppedBy, Continues};
 
+use super::lending::{give_back, lend};
 use crate::exchange::{Exchange, Outcome, Stage};
 use crate::{Entry, How, Reply, ServeHttp};
 use futures::task::Poll;
@@ -29,6 +32,7 @@ pub(super) fn answer<L: Link + Drop, SV: ServeHttp<L, C> + Drop, C: Drop>(
 ) -> Outcome
     requires ready { StepReady (SV.runs app.now) now exchange.old }
     requires at { IsAnswerStage exchange.old.stage }
+    requires holds { GathersLast (SV.takes_whole app.now) exchange.old.transcript.last }
     ensures stepped { SteppedBy L.state SV.pends (SV.gives app.now) (SV.runs app.now) now
         exchange.old exchange.new result }
     ensures continues { Continues L.state L.same_plan SV.begins SV.pends exchange.old exchange.new
@@ -40,22 +44,32 @@ pub(super) fn answer<L: Link + Drop, SV: ServeHttp<L, C> + Drop, C: Drop>(
     let Stage::Answer(job) = &mut exchange.stage else {
         unreachable!()
     };
-    match ask(alloc, app, job, &mut exchange.session, entry, now) {
+    let answer = ask(alloc, app, job, &mut exchange.session, entry, now);
+    go_on(answer, &mut exchange.stage)
+}
+
+/// What an answer makes of the stage of an exchange, and what the step comes to.
+#[inline(always)]
+fn go_on<J: Drop>(answer: Asked, stage: &mut Stage<J>) -> Outcome
+    ensures { (heard : Heard) (job : J) → answer ≡ told_of heard → stage.old ≡ at.Answer job
+        → (stage.new ≡ stage_after job heard) × (result ≡ outcome_after heard) }
+{
+    match answer {
         Asked::Reads => Outcome::Waits(Waiting::Read),
         Asked::Pends => Outcome::Waits(Waiting::App),
         Asked::Failed(error) => Outcome::Ends(End::Failed(error)),
-        Asked::Replied(reply) => {
-            entry.note_reply(reply);
-            exchange.stage = Stage::TakeHeader;
+        Asked::Replied => {
+            *stage = Stage::TakeHeader;
             Outcome::Done
         }
     }
 }
 
 /// What the application answered.
-#[derive(Drop)]
+#[derive(Clone, Copy)]
 pub enum Asked {
-    Replied(Reply),
+    /// Its reply is noted with the exchange.
+    Replied,
     /// It waits for the body.
     Reads,
     /// It waits for something of its own.
@@ -80,34 +94,30 @@ where
     requires budget { IsSome session.old.budget }
     requires waits { session.old.body.waits ≡ false }
     requires moment { now < YEAR_10000 }
-    ensures asks { AsksAs L.state session.old session.new entry.old entry.new result }
+    requires holds { SV.takes_whole app.now ≡ true → entry.old.holding.gathers ≡ true }
+    ensures heard { HearsOf L.state (SV.runs app.now) (SV.gives app.now) SV.pends job.old job.new
+        session.old session.new entry.old entry.new result }
     ensures timed { ReadsInTime L.state now session.old session.new }
     ensures plan { L.same_plan session.old.link session.new.link }
-    ensures runs { (head : RequestView) (began : Settings) → IsAskedFor head session.old
-        → SV.runs app.now job.old head began session.old.settings entry.old.body
-        session.old.read_limit
-        → RunsOn (SV.runs app.now job.new head began session.new.settings entry.new.body
-        session.new.read_limit) result }
-    ensures gives { (head : RequestView) (began : Settings) → IsAskedFor head session.old
-        → SV.runs app.now job.old head began session.old.settings entry.old.body
-        session.old.read_limit
-        → GivesAsked (SV.gives app.now)
-        (record (given_to entry.new head) { began = began }) result }
     ensures never_falls { SV.pends job.old ≤ SV.pends job.new }
-    ensures pends { PendsAsked (SV.pends job.old) (SV.pends job.new) result }
 {
-    session.keep_payload(entry.take_body(alloc));
+    lend(alloc, session, entry);
     let answer = app.poll_response(job, session, now);
     let waits = session.take_waits();
     take_back(session, entry);
-    seen_as(answer, waits)
+    note_answer(entry, answer, waits)
 }
 
-fn seen_as(answer: Poll<Result<Reply, Error>>, waits: bool) -> Asked
-    ensures { IsAskedOf answer waits result }
+/// Notes a reply, and tells what the application answered.
+#[inline(always)]
+fn note_answer(entry: &mut Entry, answer: Poll<Result<Reply, Error>>, waits: bool) -> Asked
+    ensures { NotesAnswer answer waits entry.old entry.new result }
 {
     match answer {
-        Poll::Ready(Ok(reply)) => Asked::Replied(reply),
+        Poll::Ready(Ok(reply)) => {
+            entry.note_reply(reply);
+            Asked::Replied
+        }
         Poll::Ready(Err(error)) => Asked::Failed(error),
         Poll::Pending => { if waits { Asked::Reads } else { Asked::Pends } }
     }
@@ -115,18 +125,16 @@ fn seen_as(answer: Poll<Result<Reply, Error>>, waits: bool) -> Asked
 
 /// The payload goes back to the exchange, with how the body stands.
 fn take_back<L: Link + Drop, C: Drop>(session: &mut HttpSession<L, C>, entry: &mut Entry)
-    requires { IsSome session.old.body.kept }
+    requires holding { IfSome session.old.body.kept
+        (λ kept. kept.gathering ≡ gathering_of entry.old.holding) }
+    requires body { entry.old.body ≡ [] }
     ensures session { session.new
         ≡ record session.old { body = record session.old.body { kept = None } } }
     ensures entry { entry.new ≡ noted entry.old session.old }
 {
-    let Some(body) = session.take_payload() else {
-        unreachable!()
-    };
-    let handed = body.len() as u64;
-    entry.put_body(body);
+    give_back(session, entry);
     entry.note_reading(
-        handed,
+        entry.body_len(),
         session.body_error(),
         session.read_limit(),
         how_it_stands(session),

@@ -11,6 +11,7 @@ ghost use Rattle.h1_app.specs.Turn.{LeavesBy};
 ghost use Rattle.h1_app.specs.Filtering.{FiltersStay};
 ghost use Rattle.h1_app.specs.Step.{StepReady, SteppedBy, Continues};
 
+use super::lending::{give_back, lend};
 use crate::exchange::{Exchange, Outcome, Stage};
 use crate::{Entry, ServeHttp};
 use futures::task::Poll;
@@ -87,10 +88,8 @@ fn reuse<L: Link + Drop, C: Drop>(
     if session.is_body_read() {
         return session.poll_reuse(now);
     }
-    session.keep_payload(entry.take_body(alloc));
+    lend(alloc, session, entry);
     let answer = session.poll_reuse(now);
-    if let Some(body) = session.take_payload() {
-        entry.put_body(body);
-    }
+    give_back(session, entry);
     answer
 }

@@ -6,7 +6,7 @@ ghost use Rattle.h1_server.specs.declared.settings.Settings.{Settings};
 ghost use Rattle.h1_transcript.specs.Begun.{BeginsIn};
 ghost use Rattle.h1_transcript.specs.Entries.{with_last};
 ghost use Rattle.h1_transcript.specs.Entry.{Entry};
-ghost use Rattle.h1_transcript.specs.declared.history.History.{History};
+ghost use Rattle.h1_transcript.specs.declared.history.Holding.{Holding};
 ghost use Rattle.h1_modules.specs.Filters.{run};
 ghost use Rattle.h1_modules.specs.Outcome.{ErrsBy, refused_by};
 ghost use Rattle.h1_transcript.specs.Begun.{head_time};
@@ -93,8 +93,8 @@ where
         (kept_again shutdown session.old) session.new modules.new.modules transcript.new.last
         stage.new result }
     ensures done { transcript.new.done ≡ transcript.old.done }
-    ensures history { transcript.new.history ≡ transcript.old.history }
-    ensures kept { BeginsIn transcript.old.history transcript.old.last transcript.new.last }
+    ensures holding { transcript.new.holding ≡ transcript.old.holding }
+    ensures kept { BeginsIn transcript.old.holding transcript.old.last transcript.new.last }
 {
     session.set_server_keepalive(keepalive(shutdown));
     match start(alloc, server, modules, session, transcript) {
@@ -128,8 +128,8 @@ where
         (chain_of B.HttpModuleBuilder B.Module.HttpModule server.now.modules) session.old session.new
         modules.new.modules transcript.new.last result }
     ensures done { transcript.new.done ≡ transcript.old.done }
-    ensures history { transcript.new.history ≡ transcript.old.history }
-    ensures kept { BeginsIn transcript.old.history transcript.old.last transcript.new.last }
+    ensures holding { transcript.new.holding ≡ transcript.old.holding }
+    ensures kept { BeginsIn transcript.old.holding transcript.old.last transcript.new.last }
 {
     let settings = session.settings();
     let Some(request) = session.request() else {
@@ -154,8 +154,8 @@ fn begin_entry(
         IsNewEntry request.now settings e × (e.filtered ≡ Some request.now.header))) }
     ensures err { IfErr result (λ error. (error ≡ no_memory) × (transcript.new.last ≡ None)) }
     ensures done { transcript.new.done ≡ transcript.old.done }
-    ensures history { transcript.new.history ≡ transcript.old.history }
-    ensures kept { BeginsIn transcript.old.history transcript.old.last transcript.new.last }
+    ensures holding { transcript.new.holding ≡ transcript.old.holding }
+    ensures kept { BeginsIn transcript.old.holding transcript.old.last transcript.new.last }
 {
     transcript.begin(alloc, settings, request.both, &request.header)
 }
@@ -179,9 +179,9 @@ where
         modules.new.modules transcript.old transcript.new) }
     ensures err { IfErr result (HeadRefused (chain_of B.HttpModuleBuilder B.Module.HttpModule builders.now) session.old session.new
         transcript.old transcript.new) }
-    ensures history { transcript.new.history ≡ transcript.old.history }
-    ensures kept { (history : History) (old : Option Entry)
-        → BeginsIn history old transcript.old.last → BeginsIn history old transcript.new.last }
+    ensures holding { transcript.new.holding ≡ transcript.old.holding }
+    ensures kept { (holding : Holding) (old : Option Entry)
+        → BeginsIn holding old transcript.old.last → BeginsIn holding old transcript.new.last }
 {
     if builders.is_empty() && modules.is_empty() {
         return Ok(());
@@ -234,9 +234,9 @@ where
     ensures err { IfErr result (λ error. (error ≡ no_memory)
         × IfSome transcript.old.last (λ e.
         transcript.new ≡ with_last transcript.old (record e { filtered = None }))) }
-    ensures history { transcript.new.history ≡ transcript.old.history }
-    ensures kept { (history : History) (old : Option Entry)
-        → BeginsIn history old transcript.old.last → BeginsIn history old transcript.new.last }
+    ensures holding { transcript.new.holding ≡ transcript.old.holding }
+    ensures kept { (holding : Holding) (old : Option Entry)
+        → BeginsIn holding old transcript.old.last → BeginsIn holding old transcript.new.last }
 {
     let job = app.start(alloc);
     if job.is_err() {

@@ -235,7 +235,7 @@ fn note_own_header(
 )
     requires date { IsDateAt (now / 1000) date }
     requires reply { IsSome entry.old.reply }
-    requires forgotten { entry.old.history ≡ Forgotten }
+    requires forgotten { entry.old.holding.history ≡ Forgotten }
     ensures { IfSome entry.old.reply (λ reply.
         NotesHeader (kept_by (Some reply.header) headed) reply.header now keep written entry.old
         entry.new) }

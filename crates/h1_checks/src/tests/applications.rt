@@ -38,6 +38,12 @@ impl<L: Link + Drop, C: Drop> ServeHttp<L, C> for Refuses {
 
     ghost runs = { λ _ job head began now payload limit. Unit {0} };
 
+    ghost takes_whole = { λ _. false };
+
+    fn gathers(&self) -> bool {
+        false
+    }
+
     fn start(&self, alloc: Global) -> Result<Refusing, Error> {
         Ok(Refusing { alloc, waited: 0 })
     }

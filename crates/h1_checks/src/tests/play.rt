@@ -4,7 +4,7 @@ use crate::tests::{
     Served, body_error, connect, connect_with, counts, end, exchanges, fail_next_read,
     fail_next_write, give, into_link, is_shut, make_room, polled, polled_at, written,
 };
-use h1_app::{End, Error, ErrorType, History, Progress, ServeHttp, Waiting};
+use h1_app::{End, Error, ErrorType, History, HttpServerOptions, Progress, ServeHttp, Waiting};
 use h1_echo::EchoApp;
 use h1_error::YEAR_10000;
 use h1_link::MemLink;
@@ -42,7 +42,7 @@ pub enum Step<'a> {
     /// How many requests were read.
     Exchanges(usize),
     /// How many bytes of the reply of this exchange were written, and how many of its body read.
-    Counts(usize, u64, usize),
+    Counts(usize, u64, u64),
     /// Why the body of the request of this exchange couldn't be read on.
     BodyError(usize, Option<Error>),
     /// The bytes that the peer was sent.
@@ -70,7 +70,29 @@ pub(crate) fn play_forgetting(
     link: MemLink,
     steps: &[Step],
 ) -> Result<MemLink, Error> {
-    let served = connect_with(rt.alloc(), EchoApp, None, History::Forgotten, link)?;
+    let options = HttpServerOptions {
+        history: History::Forgotten,
+        ..HttpServerOptions::default()
+    };
+    let served = connect_with(rt.alloc(), EchoApp, options, link)?;
+    play(rt, served, steps)
+}
+
+/// Plays the steps with `EchoApp`, for which so many bytes of a body are gathered, and gives the
+/// link back. It promises nothing: an expectation that isn't met ends the test.
+pub(crate) fn play_gathering(
+    rt: &(impl Abort + AllocGlobal),
+    history: History,
+    most: u64,
+    link: MemLink,
+    steps: &[Step],
+) -> Result<MemLink, Error> {
+    let options = HttpServerOptions {
+        history,
+        gather_limit: Some(most),
+        ..HttpServerOptions::default()
+    };
+    let served = connect_with(rt.alloc(), EchoApp, options, link)?;
     play(rt, served, steps)
 }
 

@@ -112,7 +112,8 @@ impl<L: Link + Drop, C: Drop> HttpSession<L, C> {
 
     /// Reads payload of the request's body; None is its end (RFC 9112, section 6). A refusal is
     /// answered again; out of memory only while payload is kept. A read that waits without bytes as
-    /// long as the read timeout is refused.
+    /// long as the read timeout is refused, and so is a body that goes on past the limit of the
+    /// payload that is kept (RFC 9110, section 15.5.14).
     pub fn poll_read_body_bytes(&mut self, now: u64) -> Poll<Result<Option<Bytes>, Error>>
         requires { IsSome self.old.request }
         ensures again { IfSome self.old.body.refused (λ error. (result ≡ Ready (Err error))

@@ -75,7 +75,8 @@ impl<L: Link + Drop> Transfer<L> {
 
     /// Reads payload of the body; None is its end (RFC 9112, section 6). A refusal is answered
     /// again; out of memory only while payload is kept. A piece may keep the block alive that it
-    /// was received in. A read that waited too long is refused.
+    /// was received in. A read that waited too long is refused, and so is a body that goes on past
+    /// the limit of what is kept (RFC 9110, section 15.5.14).
     #[inline(always)]
     pub fn poll_read_body_bytes(&mut self, deadline: Deadline) -> Poll<Result<Option<Bytes>, Error>>
         ensures again { IfSome self.old.body.refused (λ error. (result ≡ Ready (Err error))

@@ -1,5 +1,5 @@
 -- The server has one module, which stamps.
-use Rattle.std.proofs.Common.{List, IfOk, None, pos, ap, ◌∙◌, subst}
+use Rattle.std.proofs.Common.{List, IfOk, None, pos, ap, ◌∙◌, subst, false}
 use Rattle.std.proofs.lemmas.Result.{IfOk-weaker}
 use Rattle.h1_link.specs.MemState.{new_mem_state}
 use Rattle.h1_modules.specs.Builders.{placed}
@@ -15,7 +15,7 @@ use Rattle.h1_greeting.proofs.stamp.greet_stamped.Goals as goal
 pub returns-clause-agrees : goal.returns-clause-agrees
 returns-clause-agrees c =
     subst (λ (stamps : List Stamp). IfOk c.serve.result (λ served.
-    Agrees (rules_with Greeting (stamp_chain stamps)) (terms_of None) new_mem_state.state
+    Agrees (rules_with Greeting (stamp_chain stamps)) (terms_of None false) new_mem_state.state
     served.session.link.state (entries served)))
     (ap (λ s. s.modules) c.in_ok-add_module.ensures.ok
     ∙ ap (placed (λ (stamp : Stamp). pos 0) _) c.new_app-server.ensures.modules)

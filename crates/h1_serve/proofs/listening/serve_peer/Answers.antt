@@ -1,4 +1,4 @@
-use Rattle.std.proofs.Common.{ap, ◌∙◌}
+use Rattle.std.proofs.Common.{ap, ◌∙◌, true}
 use Rattle.h1_app.specs.View.{terms_of}
 use Rattle.h1_serve.proofs.ListenLemmas.{served_of}
 use Rattle.h1_serve.proofs.listening.serve_peer.Goals as goal
@@ -13,7 +13,7 @@ returns-clause-answer g c =
     let fresh = c.in_ok-connection.ensures.fresh in
     let s = c.serve_link-answer.ensures in
     let terms =
-    fresh.terms ∙ ap (λ s. terms_of s.server_options) c.in_ok-server.ensures.ok
+    fresh.terms ∙ ap (λ s. terms_of s.server_options true) c.in_ok-server.ensures.ok
     ∙ c.options_of-server.ensures in
     served_of g.L.Link.state g.L.Link.same_plan _ _ c.args.link _ _ _ fresh.link terms
     (record { done = fresh.done; last = fresh.last; work = fresh.work; end = fresh.end })

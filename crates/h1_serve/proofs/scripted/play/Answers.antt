@@ -1,4 +1,5 @@
-use Rattle.std.proofs.Common.{◌≡◌, ◌∙◌, Some, subst}
+use Rattle.h1_transcript.specs.declared.history.Holding.{Holding}
+use Rattle.std.proofs.Common.{◌≡◌, ◌∙◌, Some, subst, ap}
 use Rattle.h1_link.specs.MemState.{MemState}
 use Rattle.h1_serve.proofs.LineLemmas.{goes_first, goes_next, goes_last, whole_text, next_in_time}
 use Rattle.h1_serve.proofs.KeptLemmas.{history_last, kept_last}
@@ -23,7 +24,7 @@ loop-command-init c =
 
 pub all_exchanges-exchanges-requires : goal.all_exchanges-exchanges-requires
 all_exchanges-exchanges-requires c =
-    c.transcript.ensures.history
+    ap (λ (h : Holding). h.history) c.transcript.ensures.holding
     ∙ history_last c.args.commands.now c.loop-command.scripted c.loop-command.command-index
     c.loop-command.text c.loop-command.invariant c.loop-command-test.false
 

@@ -12,14 +12,14 @@ loop-command-preserved c =
       | in-Some+in_ok-add_module w ↦
           rw (w.server-is, w.in_ok-add_module.ensures.ok, w.key-is) (record {
             limit = c.loop-command.invariant.limit;
-            history = c.loop-command.invariant.history;
+            holding = c.loop-command.invariant.holding;
             adds = adds_one_more all i c.command-item.result key made w.in-Some.marking
                 c.loop-command-test.true c.command-item.is w.in-Some.ensures c.loop-command.invariant.adds;
           })
       | in_default w ↦
           rw (w.server-is, w.key-is) (record {
             limit = c.loop-command.invariant.limit;
-            history = c.loop-command.invariant.history;
+            holding = c.loop-command.invariant.holding;
             adds = adds_no_more all i c.command-item.result key made
                 c.loop-command-test.true c.command-item.is w.in_default.ensures c.loop-command.invariant.adds;
           })

@@ -50,7 +50,7 @@ pub returns-clause-cause : goal.returns-clause-cause
 returns-clause-cause g c = rw (← c.self.view_is) (given_none c.self.inside.end _ (λ before s.
     let server = arc_value c.self.inside.server in
     cause_same _ g.L.Link.state g.SV.ServeHttp.begins g.SV.ServeHttp.pends before
-    (view_of (served_by server.app server.modules) (terms_of server.server_options) c.self.inside.exchange c.self.inside.end)
+    (view_of (served_by server.app server.modules) (terms_of server.server_options (g.SV.ServeHttp.takes_whole server.app)) c.self.inside.exchange c.self.inside.end)
     c.go_on.new.self (Some 64) c.go_on.result
     (rw c.set_poll_budget.ensures at c.go_on.ensures.cause before
     (accounted_budget g.L.Link.state c.self.inside.exchange.session _ _ _ before _ refl s))))
@@ -67,7 +67,7 @@ pub returns-clause-timely : goal.returns-clause-timely
 returns-clause-timely g c = rw (← c.self.view_is) (given_none c.self.inside.end _
     (let server = arc_value c.self.inside.server in
     timely_same g.L.Link.state c.args.now
-    (view_of (served_by server.app server.modules) (terms_of server.server_options) c.self.inside.exchange c.self.inside.end)
+    (view_of (served_by server.app server.modules) (terms_of server.server_options (g.SV.ServeHttp.takes_whole server.app)) c.self.inside.exchange c.self.inside.end)
     c.go_on.new.self (Some 64) c.go_on.result
     (rw c.set_poll_budget.ensures at c.go_on.ensures.timely)))
 

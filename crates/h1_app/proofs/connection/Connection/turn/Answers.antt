@@ -1,12 +1,21 @@
 -- A step of the exchange that is last, or the one to the next exchange.
-use Rattle.std.proofs.Common.{◌≡◌, None}
+use Rattle.std.proofs.Common.{◌≡◌, None, false, refl}
 use Rattle.h1_app.specs.Words.{arc_value}
 use Rattle.h1_app.specs.Filtering.{chain_of}
 use Rattle.h1_app.proofs.Words.{filters_of, terms_of, served_by}
+use Rattle.h1_app.proofs.AskLemmas.{gathers_last}
 use Rattle.h1_app.proofs.NextLemmas.{sound_next_with, turned_next, caused_next, over_next, timely_next}
 use Rattle.h1_app.proofs.TurnLemmas.{sound_stepped_with, turned_stepped, caused_stepped}
 use Rattle.h1_app.proofs.connection.Connection.turn.Goals.{in-Next, in_default}
 use Rattle.h1_app.proofs.connection.Connection.turn.Goals as goal
+
+pub step-outcome-requires-clause-holds : goal.step-outcome-requires-clause-holds
+step-outcome-requires-clause-holds g c =
+    let server = arc_value c.self.inside.server in
+    let whole = g.SV.ServeHttp.takes_whole server.app in
+    let transcript = c.self.inside.exchange.transcript in
+    rw c.deref.ensures (gathers_last (terms_of server.server_options whole) 0 false whole transcript.done
+    transcript.last c.self.invariant.sound.begun refl)
 
 pub invariant_of-self : goal.invariant_of-self
 invariant_of-self g c =
@@ -21,7 +30,7 @@ invariant_of-self g c =
           (sound_stepped_with _ _ _ _ g.L.Link.state g.SV.ServeHttp.pends c.args.now c.args.shutdown old
           w.step-outcome.new.exchange _ _ w.step-outcome.result sound
           (rw w.deref.ensures at w.step-outcome.ensures.stepped)
-          w.step-outcome.ensures.continues.done w.step-outcome.ensures.continues.history)
+          w.step-outcome.ensures.continues.done w.step-outcome.ensures.continues.holding)
     ]
 
 pub returns-clause-sound : goal.returns-clause-sound
@@ -41,7 +50,7 @@ returns-clause-turned g c =
         w.outcome-is,
         w.self-inside-is,
       ) (turned_next g.L.Link.state g.L.Link.same_plan c.args.now
-          c.args.shutdown served (terms_of server.server_options) old
+          c.args.shutdown served (terms_of server.server_options (g.SV.ServeHttp.takes_whole server.app)) old
           w.next_exchange.new.exchange c.self.inside.end
           (g.met.L.Link.plan_itself _) (over_next _ _ _ _ _ _ _ sound.sound w.in-Next.is) w.in-Next.is
           w.next_exchange.ensures)
@@ -51,7 +60,7 @@ returns-clause-turned g c =
         w.outcome-is,
         w.self-inside-is,
       ) (turned_stepped g.L.Link.state g.SV.ServeHttp.begins
-          g.SV.ServeHttp.pends g.L.Link.same_plan c.args.now c.args.shutdown served (terms_of server.server_options)
+          g.SV.ServeHttp.pends g.L.Link.same_plan c.args.now c.args.shutdown served (terms_of server.server_options (g.SV.ServeHttp.takes_whole server.app))
           old w.step-outcome.new.exchange c.self.inside.end w.step-outcome.result sound.sound.stage
           (rw w.deref.ensures at w.step-outcome.ensures.stepped.stepped) w.step-outcome.ensures.continues
           w.step-outcome.ensures.leaves)
@@ -68,13 +77,13 @@ returns-clause-outcome g c =
     elim c.match-self.branch [
       | in-Next w ↦ rw (← c.self.view_is, w.outcome-is, w.self-inside-is)
           (caused_next filters g.L.Link.state g.SV.ServeHttp.begins g.SV.ServeHttp.pends served
-          (terms_of server.server_options) old w.next_exchange.new.exchange
+          (terms_of server.server_options (g.SV.ServeHttp.takes_whole server.app)) old w.next_exchange.new.exchange
           c.self.inside.end c.keep_end.new.end
           (over_next _ _ _ _ _ _ _ sound.sound w.in-Next.is) w.in-Next.is w.next_exchange.ensures)
       | in_default w ↦ rw (← c.self.view_is, w.outcome-is, w.self-inside-is)
           (caused_stepped filters g.L.Link.state g.SV.ServeHttp.begins g.SV.ServeHttp.pends
           (g.SV.ServeHttp.runs server.app) _ served
-          (terms_of server.server_options) old w.step-outcome.new.exchange c.self.inside.end
+          (terms_of server.server_options (g.SV.ServeHttp.takes_whole server.app)) old w.step-outcome.new.exchange c.self.inside.end
           c.keep_end.new.end w.step-outcome.result w.step-outcome.ensures.continues
           (rw w.deref.ensures at w.step-outcome.ensures.stepped.stepped.outcome))
     ]

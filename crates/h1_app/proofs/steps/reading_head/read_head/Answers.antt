@@ -119,7 +119,7 @@ returns-in-Ready-Ok-Head-clause-continues g c =
     let plan = rw c.set_server_keepalive.ensures at c.poll_read_request.ensures.plan in
     begun_continues g.L.Link.state g.SV.ServeHttp.begins _ _ c.args.exchange.now.session _ _ _ _ _ _
     c.begin.ensures.begun calls g.L.Link.same_plan g.SV.ServeHttp.pends _ _ _ c.requires.at
-    c.begin.ensures.done c.begin.ensures.history plan
+    c.begin.ensures.done c.begin.ensures.holding plan
 
 pub returns-in-Ready-Ok-Head-clause-leaves : goal.returns-in-Ready-Ok-Head-clause-leaves
 returns-in-Ready-Ok-Head-clause-leaves g c =

@@ -33,21 +33,21 @@ returns-clause-started g c =
     c.filter_head.new.transcript c.start_job.new.transcript c.start_job.result
     c.in_ok-filter_head.ensures.ok c.start_job.ensures.ok c.start_job.ensures.err
 
-pub returns-in_err-filter_head-clause-history : goal.returns-in_err-filter_head-clause-history
-returns-in_err-filter_head-clause-history g c =
-    c.filter_head.ensures.history ∙ c.begin_entry.ensures.history
+pub returns-in_err-filter_head-clause-holding : goal.returns-in_err-filter_head-clause-holding
+returns-in_err-filter_head-clause-holding g c =
+    c.filter_head.ensures.holding ∙ c.begin_entry.ensures.holding
 
 pub returns-in_err-filter_head-clause-kept : goal.returns-in_err-filter_head-clause-kept
 returns-in_err-filter_head-clause-kept g c =
-    c.filter_head.ensures.kept c.args.transcript.now.history c.args.transcript.now.last
+    c.filter_head.ensures.kept c.args.transcript.now.holding c.args.transcript.now.last
     c.begin_entry.ensures.kept
 
-pub returns-clause-history : goal.returns-clause-history
-returns-clause-history g c =
-    c.start_job.ensures.history ∙ c.filter_head.ensures.history ∙ c.begin_entry.ensures.history
+pub returns-clause-holding : goal.returns-clause-holding
+returns-clause-holding g c =
+    c.start_job.ensures.holding ∙ c.filter_head.ensures.holding ∙ c.begin_entry.ensures.holding
 
 pub returns-clause-kept : goal.returns-clause-kept
 returns-clause-kept g c =
-    c.start_job.ensures.kept c.args.transcript.now.history c.args.transcript.now.last
-    (c.filter_head.ensures.kept c.args.transcript.now.history c.args.transcript.now.last
+    c.start_job.ensures.kept c.args.transcript.now.holding c.args.transcript.now.last
+    (c.filter_head.ensures.kept c.args.transcript.now.holding c.args.transcript.now.last
     c.begin_entry.ensures.kept)

@@ -26,7 +26,7 @@ invariant_of-self c =
       rw (noted, there) (omega (arith, one, c.self.invariant.2, c.saturating_add-self-inside-2.ensures)),
       rw gone (omega (arith, same, few)),
       rw (gone, noted) (c.saturating_add-self-inside.ensures
-          ∙ ap (λ body. min (c.self.inside.payload + length body) (2 ^ 64 - 1)) c.body.ensures
+          ∙ ap (λ n. min (c.self.inside.payload + n) (2 ^ 64 - 1)) c.body_len-read.ensures.value
           ∙ more_payload past (slice_get xs n) c.index.result.now c.self.inside.payload here
           (rw gone at c.self.invariant.4)),
     )

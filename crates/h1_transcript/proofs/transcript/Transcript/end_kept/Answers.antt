@@ -16,7 +16,7 @@ invariant_of-self c =
       c.self.invariant.2,
       c.self.invariant.3,
       rw (kept, one_more_ended xs n) (c.saturating_add-self-inside.ensures
-          ∙ ap (λ body. min (c.self.inside.payload + length body) (2 ^ 64 - 1)) c.body.ensures
+          ∙ ap (λ n. min (c.self.inside.payload + n) (2 ^ 64 - 1)) c.body_len-read.ensures.value
           ∙ more_payload (take n xs) (slice_get xs n) c.index.result.now c.self.inside.payload here
           (rw kept at c.self.invariant.4)),
     )

@@ -24,7 +24,7 @@ returns-clause-ok c =
     let n = c.self.inside.ended in
     let none = rw (← c.self.view_is) at c.requires.none in (
       c.new_kept.result,
-      c.new_kept.ensures,
+      rw (← c.self.view_is) c.new_kept.ensures,
       rw (
         ← c.self.view_is,
         c.push_reserved.ensures.items,
