@@ -1,5 +1,5 @@
 //! What the tests serve with, and over: an application that refuses, and a link that trickles.
-ghost use Rattle.std.specs.Prelude.{◌≡◌, ◌<◌, [], length, IfOk, IfErr};
+ghost use Rattle.std.specs.Prelude.{◌≡◌, ◌<◌, [], length, IfOk, IfErr, false};
 ghost use Rattle.h1_error.specs.Memory.{no_memory};
 ghost use Rattle.h1_link.specs.Steps.{FitsRead, FitsWrite, after_read, after_write};
 ghost use Rattle.h1_link.specs.Steps.{after_flush, after_shutdown};
