@@ -1,12 +1,10 @@
 -- Steps in which the application goes on.
 use Rattle.h1_app.specs.Waits.{OthersFew}
 use Rattle.h1_app.specs.Step.{JobFrom}
-use Rattle.std.proofs.Common.{◌≡◌, ℕ, ◌+◌, ◌-◌, ◌<◌, ◌≤◌, ◌⊎◌, inl, inr, List, [], ◌∷◌, ◌++◌, Bool, true, false, Option, Some, None, IfSome, option_map, unwrap_or, refl, sym, ◌∙◌, ap, subst, length, length-append, arith}
+use Rattle.std.proofs.Common.{◌≡◌, ℕ, ◌+◌, ◌-◌, ◌<◌, ◌≤◌, ◌⊎◌, inl, inr, List, [], ◌∷◌, ◌++◌, Bool, true, false, Option, Some, None, IfSome, option_map, refl, sym, ◌∙◌, ap, subst, length, length-append, arith}
 use Rattle.std.proofs.lemmas.Option.{IfSome_then, same_Some}
-use Rattle.h1_app.specs.Words.{Given, Rules, Error, ErrorType, no_memory, BodyRefusal, LinkState, Rose, RequestView, SessionView, Settings, Request, Reply, Entry, Exchange, Outcome, Stage, ReadsOnly, given_to, how_of, payload_of, LacksSo, IsAllowed, Grows, Stays, Payload, grown, payload_in}
+use Rattle.h1_app.specs.Words.{Given, Rules, Error, ErrorType, no_memory, BodyRefusal, LinkState, Rose, RequestView, SessionView, Settings, Request, Reply, Entry, Exchange, Stage, ReadsOnly, given_to, how_of, payload_of, LacksSo, IsAllowed, Grows, Stays, Payload, grown, payload_in}
 use Rattle.h1_error.specs.declared.error.ErrorType.TheVariants as kind
-use Rattle.h1_error.specs.declared.progress.End.TheVariants as end
-use Rattle.h1_app.specs.declared.exchange.Outcome.TheVariants as outcome
 use Rattle.h1_app.specs.declared.exchange.Stage.TheVariants as stage
 use Rattle.h1_app.specs.Heard.{Heard}
 use Rattle.h1_app.specs.Heard as asked
@@ -29,6 +27,7 @@ use Rattle.h1_app.proofs.StepLemmas.{grown_stepped}
 use Rattle.h1_app.proofs.StoodLemmas.{stood_so}
 use Rattle.h1_app.proofs.AccountedLemmas.{accounted_read, entry_on, stops_on}
 use Rattle.h1_transfer.specs.Decoding.{noted_of}
+use Rattle.h1_transfer.proofs.TakeLemmas.{past_body}
 
 -- the application's stage, taken apart
 pub at_answer : {L C J : Type 0} (runs : Runs J)
@@ -60,7 +59,8 @@ refusal_stops state old behind payload is kind.InvalidBody h = h
 refusal_stops state old behind payload is kind.ConnectionClosed h = h
 refusal_stops state old behind payload is kind.ReadError h = h.1
 refusal_stops state old behind payload is kind.ReadTimedout h = h.1
-refusal_stops state old behind payload is kind.ContentTooLarge h = rw is at h
+refusal_stops state old behind payload is kind.ContentTooLarge h =
+    past_body payload behind.body.reader behind.received (rw is at h)
 refusal_stops state old behind payload is kind.NoMemory h = tt
 refusal_stops state old behind payload is _ h = absurd h
 
@@ -210,6 +210,7 @@ allowed_asked {L} {C} state rules old new e e2 e3 answer like a h limit allowed 
       sent_head = rw a.sent_head tt;
       sent_body = rw a.sent_body tt;
       handed = omega arith;
+      bound = subst (λ (x : Entry). length x.body ≤ e.holding.limit) h.entry h.within;
       reuses = h.reads.reuses ∙ a.asked.reuses;
       owed = allowed.owed;
       limit = subst (λ (x : Entry). IsLimitOf x.body_error x.read_limit) (asked_is e3 like h) limit;

@@ -1,11 +1,11 @@
 -- Steps in which the application is asked.
-use Rattle.std.proofs.Common.{◌≡◌, ℕ, List, ◌++◌, length, Bool, true, false, Option, Some, None, IfSome, option_map, option_to_list, Result, Ok, Err, refl, sym, ◌∙◌, ap, subst, arith}
+use Rattle.std.proofs.Common.{◌≡◌, ◌≤◌, ℕ, List, ◌++◌, length, Bool, true, false, Option, Some, None, option_map, option_to_list, Result, Ok, Err, refl, sym, ◌∙◌, ap, subst, arith}
 use Rattle.std.proofs.lemmas.List.{take_all}
 use Rattle.h1_app.specs.Words.{Poll, Ready, Pending, Error, LinkState, SessionView, Reply, Entry, no_memory, ReadsOnly, given_by, payload_of, Given, given_to, RequestView, Settings, payload_in, Payload, grown, Holding, History, Terms, AreBegun}
 use Rattle.h1_app.specs.Heard.{Heard}
 use Rattle.h1_app.specs.Heard as asked
 use Rattle.h1_application.specs.Application.{GivesReply, HoldsPayload, ReadsInTime, IfPending, PendsBy}
-use Rattle.h1_body.specs.Payload.{held_so}
+use Rattle.std.specs.Bool.{then_some}
 use Rattle.h1_transcript.specs.Entry.{gathering_of, holds_payload}
 use Rattle.h1_transcript.specs.declared.history.History.TheVariants as histories
 use Rattle.h1_transcript.proofs.ServedLemmas.{held_last}
@@ -28,12 +28,14 @@ pub asked_as : {L C : Type 0} (state : L → LinkState) (old kept behind calm ne
     → calm ≡ record behind { body = record behind.body { waits = false } }
     → new ≡ record calm { body = record calm.body { kept = None } }
     → noted_e ≡ noted start calm → start ≡ record e { body = start.body }
+    → length noted_e.body ≤ start.holding.limit
     → IsAskedOf outcome waits answer → AsksAs state old new e noted_e answer
-asked_as {L} {C} state old kept behind calm new e start noted_e outcome waits answer k r w ca n ne st is = record {
+asked_as {L} {C} state old kept behind calm new e start noted_e outcome waits answer k r w ca n ne st within is = record {
   behind = behind;
   reads = subst (λ (x : SessionView L C). ReadsOnly state x behind) k r;
   session = n ∙ ap (λ (x : SessionView L C). record x { body = record x.body { kept = None } }) ca;
   entry = ne ∙ ap (noted start) ca ∙ ap (λ (x : Entry). noted x behind) st;
+  within = subst (λ (x : Entry). length noted_e.body ≤ x.holding.limit) st within;
   reading = (λ a. sym w ∙ (asked_waits outcome waits answer is).0 a);
   pending = (λ a. sym w ∙ (asked_waits outcome waits answer is).1 a);
 }
@@ -88,7 +90,7 @@ pub holds_lent : {L C : Type 0} (old kept : SessionView L C) (e : Entry) → kep
     → e.holding.gathers ≡ true → HoldsPayload kept
 holds_lent {L} {C} old kept e is gathers = rw is (by e.holding.history e.holding.gathers gathers) where
   by : (history : History) (gathers : Bool) → gathers ≡ true
-      → held_so (holds_payload history gathers) e.body ≡ Some e.body
+      → then_some (holds_payload history gathers) e.body ≡ Some e.body
   by histories.Kept gathers h = refl
   by histories.Forgotten gathers h = rw h refl
 

@@ -143,6 +143,7 @@ new_allowed rules request settings e is filtered = record {
   sent_head = rw is.sent_head tt;
   sent_body = rw is.sent_body tt;
   handed = rw (is.handed, is.body) (omega arith);
+  bound = rw is.body (omega arith);
   reuses = ap (λ (x : Settings). x.reuses) (is.left ∙ sym is.began);
   owed = λ owed. absurd (false≢true (sym is.owed ∙ owed));
   limit = rw (is.body_error, is.read_limit) refl;

@@ -1,9 +1,9 @@
 -- What a step that drains a request's body leaves, and why it waits or ends.
-use Rattle.std.proofs.Common.{◌≡◌, ℕ, ◌<◌, ◌⊎◌, inl, inr, List, [], ◌∷◌, ◌++◌, length, take, Bool, true, false, ◌&&◌, not, Option, Some, None, Ok, is_none, refl, sym, ◌∙◌, ap, subst, length-append, arith}
+use Rattle.std.proofs.Common.{◌≡◌, ◌≤◌, ℕ, ◌<◌, ◌⊎◌, inl, inr, List, [], ◌∷◌, ◌++◌, length, take, Bool, true, false, ◌&&◌, not, Option, Some, None, Ok, is_none, refl, sym, ◌∙◌, ap, subst, length-append, arith}
 use Rattle.std.proofs.lemmas.Bool.{false≢true, and_parts, not-true, not-false}
 use Rattle.std.proofs.lemmas.Option.{IfSome_then, same_Some}
 use Rattle.std.proofs.lemmas.List.{take-append-le}
-use Rattle.h1_app.specs.Words.{Rules, Ready, Error, ErrorType, LinkState, ResponseView, wish, whole, out, reads, end_bytes, Framing, Counted, Chunked, UntilClose, Lacks, BodyRefusal, has_reuses, keeps_alive, may_follow, SessionView, Outgoing, Settings, Reply, Stage, Entry, How, Open, Whole, Failed, IsLawful, AfterRead, is_until_close, FailureCause, IsComplete, LacksSo, IsAllowed, IsDated, given_to, is_short, may_keep, Grows, IfTold, payload_in}
+use Rattle.h1_app.specs.Words.{Rules, Ready, Error, ErrorType, LinkState, ResponseView, wish, whole, out, reads, end_bytes, Framing, Counted, Chunked, UntilClose, Lacks, has_reuses, keeps_alive, may_follow, SessionView, Outgoing, Settings, Reply, Stage, Entry, How, Open, Whole, Failed, IsLawful, AfterRead, is_until_close, FailureCause, IsComplete, LacksSo, IsAllowed, IsDated, given_to, is_short, may_keep, Grows, IfTold, payload_in}
 use Rattle.h1_application.specs.Application.{Runs}
 use Rattle.h1_error.specs.declared.error.ErrorType.TheVariants as kind
 use Rattle.h1_body.specs.Reader as reader
@@ -20,6 +20,7 @@ use Rattle.h1_app.proofs.EndReplies.{complete, stands_broken, stands_unfinished,
 use Rattle.h1_app.proofs.DrainLemmas.{Reused, HasMore, Answered, stood_on}
 use Rattle.h1_app.proofs.ReplyLemmas.{at_some}
 use Rattle.h1_transfer.specs.BodyAnswers.{RefusesBody}
+use Rattle.h1_transfer.proofs.TakeLemmas.{past_body}
 
 -- the drain's stage, taken apart
 pub at_drain : {L C J : Type 0} (runs : Runs J)
@@ -40,8 +41,9 @@ keep_same e payload = by_how e.how refl
 
 -- what the application was given stays before the payload
 allowed_more : (rules : Rules) (e : Entry) (payload : List ℕ) → IsAllowed rules e
+    → length (e.body ++ payload) ≤ e.holding.limit
     → IsAllowed rules (record e { body = e.body ++ payload })
-allowed_more rules e payload a =
+allowed_more rules e payload a within =
     let front : take e.handed (e.body ++ payload) ≡ take e.handed e.body =
     take-append-le e.handed e.body payload a.handed in
     record {
@@ -66,6 +68,7 @@ allowed_more rules e payload a =
       ));
       sent_body = a.sent_body;
       handed = let both = length-append e.body payload in omega (arith, a.handed, both);
+      bound = within;
       reuses = a.reuses;
       owed = a.owed;
       limit = a.limit;
@@ -212,9 +215,11 @@ module _ {L C : Type 0} (state : L → LinkState) (old new : SessionView L C) (e
   drain_kept =
       ap (λ (x : Entry). x.written) r.entry ∙ d.written ∙ sym (ap (λ (x : Outgoing). x.sent) r.reply)
 
-  pub drain_allowed : (rules : Rules) → IsAllowed rules e → IsAllowed rules f
-  drain_allowed rules a =
-      subst (λ (x : Entry). IsAllowed rules x) (sym r.entry) (allowed_more rules e r.payload a)
+  pub drain_allowed : (rules : Rules) → length f.body ≤ e.holding.limit → IsAllowed rules e
+      → IsAllowed rules f
+  drain_allowed rules within a = subst (λ (x : Entry). IsAllowed rules x) (sym r.entry)
+      (allowed_more rules e r.payload a
+      (subst (λ (x : Entry). length x.body ≤ e.holding.limit) r.entry within))
 
   -- the exchange may still be drained
   pub draining_on : new.body.refused ≡ None → IsDraining f new
@@ -310,8 +315,11 @@ module _ {L C : Type 0} (state : L → LinkState) (old new : SessionView L C) (e
     inr (drain_done before done alive s, unrefused_still, h.0),
     stands_unfinished state before done new f s h.1,
   )
-  drain_fails before done error kind.ContentTooLarge alive h s =
-      (inr (drain_done before done alive s, unrefused_still, tt), goes_past state before done new f s h)
+  drain_fails before done error kind.ContentTooLarge alive h s = (
+    inr (drain_done before done alive s, unrefused_still, tt),
+    goes_past state before done new f s
+        (past_body (payload_in f) new.body.reader new.received h),
+  )
   drain_fails before done error kind.NoMemory alive h s = tt
   drain_fails before done error _ alive h s = absurd h
 

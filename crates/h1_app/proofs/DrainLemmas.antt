@@ -1,6 +1,6 @@
 -- What the rest of a request's body comes to after its reply, and why a connection isn't kept.
-use Rattle.std.proofs.Common.{◌≡◌, ℕ, ◌+◌, ◌-◌, ◌<◌, ◌≤◌, ◌⊎◌, inl, inr, zero, suc, List, [], ◌∷◌, ◌++◌, length, Bool, true, false, Option, Some, None, IfSome, IsSome, Result, Ok, Err, option_map, unwrap_or, refl, sym, ◌∙◌, ap, subst, append-nil, arith, ◌&&◌}
-use Rattle.h1_app.specs.Words.{Poll, Ready, Pending, Error, LinkState, Rose, Body, whole, unfinished, broken, ahead, chunked, reads, read_as, Chunking, BodyReader, Reading, Decoded, Lacks, Moved, BodyRefusal, is_whole, ReusesBy, keeps_alive, may_go_on, is_replied, SessionView, allowance, BodyState, Entry, How, Open, Whole, Failed, payload_of, Payload, grown, payload_in}
+use Rattle.std.proofs.Common.{◌≡◌, ℕ, ◌+◌, ◌-◌, ◌<◌, ◌≤◌, ◌⊎◌, inl, inr, zero, suc, List, [], ◌∷◌, ◌++◌, length, Bool, true, false, Option, Some, None, IfSome, IsSome, Result, Ok, Err, option_map, refl, sym, ◌∙◌, ap, subst, append-nil, arith, ◌&&◌}
+use Rattle.h1_app.specs.Words.{Poll, Ready, Pending, Error, LinkState, Rose, Body, whole, unfinished, broken, ahead, chunked, reads, read_as, Chunking, BodyReader, Reading, Decoded, Lacks, Moved, is_whole, ReusesBy, keeps_alive, may_go_on, is_replied, SessionView, allowance, BodyState, Entry, How, Open, Whole, Failed, payload_of, Payload, grown, payload_in}
 use Rattle.std.proofs.lemmas.Bool.{false≢true}
 use Rattle.h1_link.specs.Steps.{after_shutdown}
 use Rattle.h1_link.proofs.Laters.{later_shutdown}
@@ -11,7 +11,9 @@ use Rattle.h1_body.proofs.RunLemmas.{ahead_none}
 use Rattle.h1_error.specs.declared.error.ErrorType.{ErrorType}
 use Rattle.h1_error.specs.declared.error.ErrorType.TheVariants as kind
 use Rattle.h1_transfer.specs.BodyAnswers.{RefusesBody}
-use Rattle.h1_transfer.specs.Decoding.{noted_of}
+use Rattle.h1_transfer.specs.Decoding.{StaysWithin, noted_of}
+use Rattle.h1_body.specs.Feeds.{fed_of}
+use Rattle.h1_body.specs.declared.fed.FeedState.TheVariants.{Done}
 use Rattle.h1_transcript.specs.Entry.{gathering_of}
 use Rattle.h1_server.specs.Payload.{DrainsBody, DrainAnswer}
 use Rattle.h1_server.specs.Persistence.{may_follow}
@@ -52,6 +54,32 @@ decoded_end old new used payload d h =
     parts (whole xs n) e = let front : payload ++ xs ≡ [] = cc in (nothing_in_front payload xs front, refl)
     parts (unfinished xs) e = absurd (cc)
     parts (broken xs) e = absurd (cc)
+
+-- where a body is at its end no run of payload comes next
+ended_within : (reader : BodyReader) (received : List ℕ) (payload : Payload)
+    → is_whole (reads reader []) ≡ true → length payload.bytes ≤ payload.gathering.limit
+    → StaysWithin (Some payload) reader received
+ended_within reader received payload ended bound =
+    let all : (more : List ℕ) → reads reader more ≡ whole [] 0 = λ more. reading_end reader.reading more ended in (
+      [],
+      record {
+        behind = reader;
+        fed = fed_of 0 0 Done;
+        feeds = record {
+          ordered = omega arith;
+          used_up = refl;
+          within = omega arith;
+          reads = λ more. all more ∙ sym (ap (ahead [] 0) (all more));
+          state = sym (all []);
+          moves = λ (open_so : reads reader [] ≡ unfinished []) some. absurd (let never = sym (all []) ∙ open_so in cc);
+          stays = inr refl;
+          rests = inr (inl tt);
+          first = λ less. absurd (omega (arith, less));
+        };
+        is = refl;
+      },
+      rw (append-nil payload.bytes) bound,
+    )
 
 -- how the body stood at the reply stays as the rest of it is read
 pub stood_on : (how : How) (e : Entry) (old new : BodyState) (used payload : List ℕ)
@@ -303,22 +331,25 @@ pub reuses_as : {L C : Type 0} (state : L → LinkState) (now : ℕ) (old asked 
     → is_replied old.reply ≡ true → asked ≡ lent old (payload_in e)
     → ReusesBy state now asked behind answer (may_go_on asked)
     → new ≡ record behind { body = record behind.body { kept = None } }
+    → length payload ≤ e.holding.limit
     → payload ≡ payload_of behind → ReusesAs state now old new e (record e { body = payload }) answer
-reuses_as {L} {C} state now old asked behind new e payload answer replied lent_is reuses session is = record {
+reuses_as {L} {C} state now old asked behind new e payload answer replied lent_is reuses session within is = record {
   behind = behind;
   reuses = subst (λ t. ReusesBy state now (lent old (payload_in e)) behind answer t)
       (alive_replied (keeps_alive old) (is_replied old.reply) replied)
       (subst (λ (x : SessionView L C). ReusesBy state now x behind answer (may_go_on x)) lent_is reuses);
   session = session;
   entry = ap (λ xs. record e { body = xs }) is;
+  within = within;
 }
 
 -- a call that reads the rest of a body does the same with a session that is lent a payload
 drains_lent : {L C : Type 0} (state : L → LinkState) (now : ℕ) (old drained : SessionView L C)
     (payload : Payload) (outcome : Poll (Result (Unit {0}) Error))
     → old.body.kept ≡ None → (d : DrainsBody state now old drained outcome)
+    → StaysWithin (Some (grown d.payload payload)) drained.body.reader drained.received
     → DrainsBody state now (lent old payload) (lent drained (grown d.payload payload)) outcome
-drains_lent {L} {C} state now old drained payload outcome none d = record {
+drains_lent {L} {C} state now old drained payload outcome none d within = record {
   payload = d.payload;
   left = d.left;
   parsed = d.parsed;
@@ -345,7 +376,7 @@ drains_lent {L} {C} state now old drained payload outcome none d = record {
     refused kind.ReadError h = h
     refused kind.ReadTimedout h = h
     refused kind.ContentTooLarge h = absurd h
-    refused kind.NoMemory h = h
+    refused kind.NoMemory h = inr within
     refused _ h = absurd h
 
     by_outcome : (o : Poll (Result (Unit {0}) Error)) → DrainAnswer state old drained d.left o
@@ -359,9 +390,10 @@ drains_lent {L} {C} state now old drained payload outcome none d = record {
 -- of a body that was read to its end nothing is read, so nothing has to be lent
 pub reuses_read : {L C : Type 0} (state : L → LinkState) (now : ℕ) (old new : SessionView L C) (e : Entry)
     (answer : Poll (Result Bool Error)) → is_replied old.reply ≡ true → old.body.kept ≡ None
+    → length e.body ≤ e.holding.limit
     → is_whole (reads old.body.reader []) ≡ true → ReusesBy state now old new answer (may_go_on old)
     → ReusesAs state now old new e e answer
-reuses_read {L} {C} state now old new e answer replied none read reuses =
+reuses_read {L} {C} state now old new e answer replied none bound read reuses =
     by_alive (keeps_alive old) refl (subst (λ t. ReusesBy state now old new answer t)
     (alive_replied (keeps_alive old) (is_replied old.reply) replied) reuses)
   where
@@ -388,7 +420,9 @@ reuses_read {L} {C} state now old new e answer replied none read reuses =
           reuses = subst (λ t. ReusesBy state now (lent old (payload_in e)) (lent new all) answer t) (sym is) (
             lent r.0 all,
             r.1,
-            drains_lent state now old r.0 (payload_in e) r.1 none r.2,
+            drains_lent state now old r.0 (payload_in e) r.1 none r.2
+                (ended_within r.0.body.reader r.0.received all ends.1
+                (rw (ends.0, append-nil e.body) bound)),
             ap (λ (s : SessionView L C). lent s all) r.3,
             asked all r.1 r.4,
           );
@@ -397,6 +431,7 @@ reuses_read {L} {C} state now old new e answer replied none read reuses =
               ∙ ap (option_map (grown r.2.payload)) none);
           entry = ap (λ xs. record e { body = xs })
               (sym (ap (λ xs. e.body ++ xs) ends.0 ∙ append-nil e.body));
+          within = bound;
         }
     by_alive false is r = record {
       behind = lent new (payload_in e);
@@ -404,6 +439,7 @@ reuses_read {L} {C} state now old new e answer replied none read reuses =
           (r.0, r.1, ap (λ (s : SessionView L C). lent s (payload_in e)) r.2);
       session = back old.body.kept (ap (λ (s : SessionView L C). s.body.kept) r.2) none;
       entry = refl;
+      within = bound;
     }
 
 -- the payload that was lent comes back as it is held

@@ -140,7 +140,7 @@ module _ {L C J : Type 0} (state : L → LinkState)
       (record { session = new; transcript = transcript; stage = to }) e f result was is
       (drain_moves state x.session new e f draining did)
       (drain_accounted state x.session new e f draining did)
-      (drain_allowed state x.session new e f draining did rules a)
+      (drain_allowed state x.session new e f draining did rules reuses.within a)
       (drain_kept state x.session new e f draining did)
       (drain_grows state x.session new e f draining did now) drained_few
       (body_grown now x.session.body.since.read new.body.since.read (state x.session.link)

@@ -188,6 +188,7 @@ module _ {L C : Type 0} (state : L → LinkState) (now : ℕ) (old new : Session
     );
     sent_body = a.sent_body;
     handed = a.handed;
+    bound = a.bound;
     reuses = a.reuses;
     owed = λ owed. refl;
     limit = a.limit;

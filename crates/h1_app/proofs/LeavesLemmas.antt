@@ -3,8 +3,8 @@ use Rattle.h1_app.specs.Turn.{outcome_end}
 use Rattle.h1_app.specs.Asking.{entry_after, outcome_after}
 use Rattle.h1_app.specs.Heard.{Heard}
 use Rattle.h1_app.specs.Heard as asked
-use Rattle.std.proofs.Common.{◌≡◌, ◌⊎◌, inl, inr, ℕ, List, Bool, Option, Some, None, IfNone, sym, ap, ◌∙◌, subst, refl, true, false, Result, arith}
-use Rattle.h1_app.specs.Words.{ErrorType, End, LinkState, Entry, ExtendsLast, SessionView, Error, Poll, Called, FaultsBy, ReusesBy, is_replied, keeps_alive, may_go_on, Payload, Reply}
+use Rattle.std.proofs.Common.{◌≡◌, ◌⊎◌, inl, inr, ℕ, Bool, Option, Some, None, IfNone, sym, ap, ◌∙◌, subst, refl, true, false, Result, arith}
+use Rattle.h1_app.specs.Words.{ErrorType, End, LinkState, Entry, ExtendsLast, SessionView, Error, Poll, Called, FaultsBy, ReusesBy, is_replied, keeps_alive, may_go_on, Payload}
 use Rattle.h1_error.specs.declared.error.ErrorType.TheVariants as kind
 use Rattle.h1_error.specs.declared.progress.End.TheVariants as end
 use Rattle.h1_app.proofs.Words.{View, AsksAs, failure_of, Leaves, LeavesOn, CalledForReuse, NotesFault, ReadsHeld, ReadsHeldBy, ShutBy, WritesHeld, WritesHeldBy}

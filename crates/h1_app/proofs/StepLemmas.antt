@@ -106,6 +106,7 @@ allowed_written rules e body owed written a sent still = record {
   sent_head = dated e.sent_head a.sent_head;
   sent_body = sent;
   handed = a.handed;
+  bound = a.bound;
   reuses = a.reuses;
   owed = λ is. a.owed (still is);
   limit = a.limit;

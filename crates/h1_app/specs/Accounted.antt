@@ -53,7 +53,8 @@ abbrev pub StopsBody : {L C : Type 0} → (L → LinkState) → SessionView L C 
 StopsBody state session payload kind = SaysOfBody (reads session.body.reader [] ≡ broken [])
     (((state session.link).ended ≡ true) × Lacks session.body.reader session.received)
     (Lacks session.body.reader session.received) (Lacks session.body.reader session.received)
-    (IsPast payload.gathering.limit payload.bytes (reads session.body.reader session.received)) kind
+    (IsPast payload.gathering.limit payload.bytes (reads session.body.reader session.received))
+    (Unit {0}) kind
 
 -- the error of the request's body has its cause, and isn't for a retry
 abbrev pub StopsWith : {L C : Type 0} → (L → LinkState) → SessionView L C → Payload → Error → Type 0

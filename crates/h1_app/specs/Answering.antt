@@ -1,5 +1,5 @@
 -- How a session and the exchange that is last stand to each other until the application replies.
-use Rattle.std.specs.Prelude.{◌≡◌, ℕ, ◌^◌, ◌<◌, List, [], length, false, Some, None}
+use Rattle.std.specs.Prelude.{◌≡◌, ◌^◌, ◌<◌, [], length, false, Some, None}
 use Rattle.h1_app.specs.Words.{is_head, wish, SessionView, Request, Outgoing, Entry}
 use Rattle.h1_body.specs.Payload.{Payload}
 use Rattle.h1_server.specs.Times.{new_times}

@@ -1,5 +1,5 @@
 -- What asking the application comes to.
-use Rattle.std.specs.Prelude.{◌≡◌, ℕ, length, Bool, true, false, Option, Some, None, IfSome, Result, Ok, Err}
+use Rattle.std.specs.Prelude.{◌≡◌, ◌≤◌, ℕ, length, Bool, true, false, Option, Some, None, IfSome, Result, Ok, Err}
 use Rattle.h1_app.specs.Words.{Poll, Ready, Pending, Error, no_memory, LinkState, raised, SessionView, Reply, Entry, Given, ReadsOnly, payload_of, how_of, payload_in, Stage, Outcome, given_to}
 use Rattle.h1_head.specs.Views.{RequestView}
 use Rattle.h1_server.specs.declared.settings.Settings.{Settings}
@@ -33,6 +33,7 @@ pub record AsksAs {L C : Type 0} (state : L → LinkState) (old new : SessionVie
   pub reads : ReadsOnly state (lent old (payload_in e)) behind
   pub session : new ≡ record behind { body = record behind.body { kept = None; waits = false } }
   pub entry : noted_e ≡ noted e behind
+  pub within : length noted_e.body ≤ e.holding.limit
   pub reading : answer ≡ asked.Reads → behind.body.waits ≡ true
   pub pending : answer ≡ asked.Pends → behind.body.waits ≡ false
 

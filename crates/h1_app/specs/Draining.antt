@@ -1,5 +1,5 @@
 -- Reading what is left of a request's body after its reply, and going on to the next request.
-use Rattle.std.specs.Prelude.{◌≡◌, ℕ, Bool, Option, None, Some, Result, Ok, Err, true, false}
+use Rattle.std.specs.Prelude.{◌≡◌, ◌≤◌, ℕ, length, Bool, Option, None, Some, Result, Ok, Err, true, false}
 use Rattle.h1_app.specs.Words.{Fault, FaultsBy, Poll, Ready, Pending, Error, LinkState, ReusesBy, keeps_alive, SessionView, Entry, Stage, Outcome, payload_of, payload_in}
 use Rattle.h1_error.specs.declared.progress.Waiting.TheVariants as waiting
 use Rattle.h1_error.specs.declared.progress.End.TheVariants as end
@@ -16,6 +16,7 @@ pub record ReusesAs {L C : Type 0} (state : L → LinkState) (now : ℕ) (old ne
   pub reuses : ReusesBy state now (lent old (payload_in e)) behind answer (keeps_alive old)
   pub session : new ≡ record behind { body = record behind.body { kept = None } }
   pub entry : noted ≡ record e { body = payload_of behind }
+  pub within : length noted.body ≤ e.holding.limit
 
 -- a link that isn't kept is shut, and no other
 abbrev pub ShutUnless : Bool → Bool → Bool → Type 0

@@ -33,5 +33,5 @@ pub record SoundWith {L C J M : Type 0} (gives : Given → Reply → Type 0)
       x.stage end
   -- until an end came the modules are as the filters left them that ran
   pub stand : IfNone end (ModulesStand chain x.transcript.last modules)
-  -- exchanges are kept, or not, as the connection was made
+  -- exchanges are held as the connection was made to hold them
   pub holding : x.transcript.holding ≡ terms.holding

@@ -69,7 +69,7 @@ pub record Stepped {L C J : Type 0} (state : L → LinkState) (pends : J → ℕ
   -- an exchange that began took what was set
   pub begins_with : BeginsWith old.session.settings new.session.settings
       old.transcript.last new.transcript.last
-  -- and is kept as the connection keeps its exchanges
+  -- and is held as the connection holds its exchanges
   pub begins_in : BeginsIn old.transcript.holding old.transcript.last new.transcript.last
   -- reads that were not ready
   pub reads_not_ready : FewReadsNotReady (state old.session.link) (state new.session.link)

@@ -42,7 +42,7 @@ view_of served terms x end =
       end = end;
     }
 
--- the limit that is set on a server
+-- how many requests a connection of a server serves at most
 abbrev pub limit_of : Option HttpServerOptions → Option ℕ
 limit_of None = None
 limit_of (Some options) = options.keepalive_request_limit
@@ -57,7 +57,7 @@ abbrev pub gather_limit_of : Option HttpServerOptions → Option ℕ
 gather_limit_of None = None
 gather_limit_of (Some options) = options.gather_limit
 
--- how much payload a request may have: what is not gathered has no limit that is reached
+-- how much payload a request may have: 2 ^ 64 - 1 bytes where it isn't gathered or no limit is set
 abbrev pub payload_limit : Bool → Option ℕ → ℕ
 payload_limit true (Some limit) = limit
 payload_limit _ _ = 2 ^ 64 - 1

@@ -10,7 +10,6 @@ mod answering;
 mod draining;
 mod filtering;
 mod joining;
-mod lending;
 mod reading_head;
 mod replying;
 
@@ -49,14 +48,14 @@ where
     ensures leaves { LeavesBy L.state exchange.old exchange.new result }
 {
     match exchange.stage {
-        Stage::Head => reading_head::read_head(alloc, server, modules, exchange, now, shutdown),
-        Stage::Answer(_) => answering::answer(alloc, &server.app, exchange, now),
+        Stage::Head => reading_head::read(alloc, server, modules, exchange, now, shutdown),
+        Stage::Answer(_) => answering::answer(&server.app, exchange, now),
         Stage::TakeHeader => replying::take_header(alloc, server, modules, exchange, now),
         Stage::Header => replying::write_header(&server.app, exchange, now),
         Stage::TakeBody => replying::take_body(alloc, server, modules, exchange, now),
         Stage::Body => replying::write_body(&server.app, exchange, now),
         Stage::Finish => replying::finish(&server.app, exchange, now),
-        Stage::Drain => draining::drain(alloc, &server.app, exchange, now),
+        Stage::Drain => draining::drain(&server.app, exchange, now),
         Stage::Next => unreachable!(),
     }
 }

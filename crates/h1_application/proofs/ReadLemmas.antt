@@ -1,6 +1,7 @@
 -- How an application's reading goes on from call to call.
 use Rattle.std.proofs.Common.{◌≡◌, ℕ, ◌+◌, ◌-◌, ◌≤◌, ◌⊎◌, inl, inr, List, [], ◌++◌, length, Bool, true, false, Option, Some, None, IfSome, IfNone, IsSome, refl, sym, ap, ◌∙◌, subst, append-nil, append_assoc, length-append, arith}
-use Rattle.h1_body.specs.Payload.{Payload, grown, held_so}
+use Rattle.std.specs.Bool.{then_some}
+use Rattle.h1_body.specs.Payload.{Payload, grown}
 use Rattle.h1_transfer.specs.Decoding.{held_of, noted_of}
 use Rattle.h1_transfer.proofs.BodyLemmas.{kept_none, kept_on}
 use Rattle.h1_transfer.proofs.CalledLemmas.{called_itself, called_on, called_undone}
@@ -65,7 +66,6 @@ pub budget_none : (old new : Option ℕ) (left : ℕ) → IsSome old → new ≡
 budget_none None new left there step none = absurd (false≢true there)
 budget_none (Some had) new left there step none = step ∙ ap Some none
 
--- payload that is kept
 -- a reading goes on after the one before
 decoded_on : (a b c : BodyReader) (used more payload further : List ℕ) → Decoded a b used payload
     → Decoded b c more further
@@ -90,7 +90,7 @@ refusal_on state a b c kind.ConnectionClosed later h = h
 refusal_on state a b c kind.ReadError later h = (let counts = later.counts in omega (arith, h.0), h.1)
 refusal_on state a b c kind.ReadTimedout later h = (let counts = later.counts in omega (arith, h.0), h.1)
 refusal_on state a b c kind.ContentTooLarge later h = h
-refusal_on state a b c kind.NoMemory later h = tt
+refusal_on state a b c kind.NoMemory later h = h
 refusal_on state a b c _ later h = absurd h
 
 refused_on : {L C : Type 0} (state : L → LinkState) (a b c : SessionView L C)
@@ -161,8 +161,8 @@ holds_on state a b reads holds = rw reads.kept (by a.body.kept holds) where
     never : None ≡ Some (noted_of None) → ⊥
     never same = cc
   by (Some kept) holds = so kept.gathering.holds holds where
-    so : (t : Bool) → held_so t kept.bytes ≡ Some kept.bytes
-        → held_so t (kept.bytes ++ reads.payload) ≡ Some (kept.bytes ++ reads.payload)
+    so : (t : Bool) → then_some t kept.bytes ≡ Some kept.bytes
+        → then_some t (kept.bytes ++ reads.payload) ≡ Some (kept.bytes ++ reads.payload)
     so true h = refl
     so false h = absurd (none h) where
       none : None ≡ Some kept.bytes → ⊥
@@ -219,7 +219,7 @@ payload_refused state old new payload left (Ready (Err error)) h =
         → RefusesWith state old new error
         → IfSome (refused_behind kept error) (RefusesWith state old new)
     behind None error kind.NoMemory is h = rw is tt
-    behind (Some bytes) error kind.NoMemory is h = rw is (tt, h.1)
+    behind (Some bytes) error kind.NoMemory is h = rw is (rw is at h)
     behind kept error _ is h = rw is (rw is at h)
 payload_refused state old new payload left Pending h = rw h.2 tt
 

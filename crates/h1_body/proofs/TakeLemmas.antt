@@ -1,5 +1,5 @@
 -- Lemmas on payload that is cut out of received bytes.
-use Rattle.std.proofs.Common.{◌≡◌, ℕ, ◌-◌, ◌<◌, ◌≤◌, List, [], ◌∷◌, length, take, drop, slice_range, Option, Some, refl, sym, ap, ◌∙◌, min, length-take, length-drop, arith}
+use Rattle.std.proofs.Common.{◌≡◌, ℕ, ◌-◌, ◌<◌, ◌≤◌, List, [], ◌∷◌, length, take, drop, slice_range, Some, refl, sym, ap, ◌∙◌, min, length-take, length-drop, arith}
 use Rattle.std.proofs.lemmas.Slice.{between_is}
 use Rattle.h1_body.specs.Takes.{some_bytes}
 

@@ -1,12 +1,15 @@
 -- The payload that was read of a body, which memory holds or not.
-use Rattle.std.specs.Prelude.{◌≡◌, ◌<◌, ◌⊎◌, ℕ, List, [], ◌++◌, length, Bool, true, false, Option, Some, None}
+use Rattle.std.specs.Prelude.{◌≡◌, ◌<◌, ◌≤◌, ◌⊎◌, ℕ, List, [], ◌++◌, length, Bool, true, false, Option}
+use Rattle.std.specs.Bool.{then_some}
 use Rattle.h1_error.specs.Memory.{no_memory}
 use Rattle.h1_error.specs.declared.error.Error.{Error}
 use Rattle.h1_error.specs.declared.error.ErrorType.TheVariants.{ContentTooLarge}
 use Rattle.h1_body.specs.Body.{Body, payload_of}
+use Rattle.h1_body.specs.Takes.{IsNextRun}
 use Rattle.h1_body.specs.declared.payload.Gathering.{Gathering}
 use Rattle.h1_body.specs.declared.payload.Held.{Held}
 use Rattle.h1_body.specs.declared.payload.Held.TheVariants as held
+use Rattle.h1_body.specs.declared.reader.BodyReader.{BodyReader}
 
 -- all bytes that were read, whether memory holds them, and how many there may be
 pub record Payload : Type 0 where
@@ -22,12 +25,8 @@ abbrev pub grown : List ℕ → Payload → Payload
 grown piece payload = record payload { bytes = payload.bytes ++ piece }
 
 -- what memory holds: all bytes, or none
-abbrev pub held_so : Bool → List ℕ → Option (List ℕ)
-held_so true bytes = Some bytes
-held_so false bytes = None
-
 abbrev pub held_in : Payload → Option (List ℕ)
-held_in payload = held_so payload.gathering.holds payload.bytes
+held_in payload = then_some payload.gathering.holds payload.bytes
 
 -- a body of which this was read goes on past the limit
 abbrev pub IsPast : ℕ → List ℕ → Body → Type 0
@@ -37,15 +36,17 @@ IsPast limit front body = limit < length (front ++ payload_of body)
 abbrev pub too_large : Error
 too_large = record { kind = ContentTooLarge; retry = false }
 
--- why nothing more was read of what comes next of a body
-abbrev pub TakeFault : Payload → Body → Error → Type 0
-TakeFault payload body error =
-    (error ≡ no_memory) ⊎ ((error ≡ too_large) × IsPast payload.gathering.limit payload.bytes body)
-
--- the same of a piece that comes next
+-- why a run of payload isn't noted: there is no memory for one within the limit, or it goes past it
 abbrev pub KeepFault : Payload → List ℕ → Error → Type 0
-KeepFault payload piece error = (error ≡ no_memory)
-    ⊎ ((error ≡ too_large) × (payload.gathering.limit < length (payload.bytes ++ piece)))
+KeepFault payload run error =
+    ((error ≡ no_memory) × (length (payload.bytes ++ run) ≤ payload.gathering.limit))
+    ⊎ ((error ≡ too_large) × (payload.gathering.limit < length (payload.bytes ++ run)))
+
+-- why nothing more was read of the bytes of a body
+pub record TakeFault (payload : Payload) (reader : BodyReader) (bytes : List ℕ) (error : Error) : Type 0 where
+  pub run : List ℕ
+  pub next : IsNextRun reader bytes run
+  pub fault : KeepFault payload run error
 
 -- the bytes that were read
 abbrev pub bytes_of : Held → List ℕ

@@ -16,6 +16,18 @@ abbrev pub payload_bytes : Option (List ℕ) → List ℕ
 payload_bytes None = []
 payload_bytes (Some bytes) = bytes
 
+-- the bytes through an end leave the front, and those from a start on are handed out
+abbrev pub Cuts : List ℕ → List ℕ → ℕ → ℕ → Option (List ℕ) → Type 0
+Cuts old new start end piece =
+    (piece ≡ some_bytes (slice_range old start end)) × (new ≡ drop end old)
+
+-- the first run of payload that a reader makes of the bytes, which is empty where they give none
+pub record IsNextRun (reader : BodyReader) (bytes run : List ℕ) : Type 0 where
+  pub behind : BodyReader
+  pub fed : Fed
+  pub feeds : Feeds (reads reader) (reads behind) bytes fed
+  pub is : run ≡ slice_range bytes fed.payload.start fed.payload.end
+
 -- what the reader makes of the bytes is taken, and the bytes that it used leave the front
 pub record Takes (before behind : BodyReader) (old new : List ℕ) (taken : Taken) : Type 0 where
   pub fed : Fed

@@ -1,5 +1,5 @@
 //! Bytes of a body that are kept.
-ghost use Rattle.std.specs.Prelude.{◌≡◌, ◌==◌, ◌++◌, [], length, take, nat_eq, OnOk, IfOk, IfErr};
+ghost use Rattle.std.specs.Prelude.{◌≡◌, ◌==◌, ◌++◌, [], length, take, nat_eq, true, OnOk, IfOk, IfErr};
 ghost use Rattle.h1_error.specs.Memory.{no_memory};
 ghost use Rattle.std.specs.Cmp.Lexicographic.{pointwise, nat_list_eq_equiv};
 ghost use Rattle.std.specs.Cmp.{partial_equiv_from_equiv};
@@ -184,6 +184,17 @@ impl BodyBytes {
         ensures { result ≡ (length self.now == 0) }
     {
         self.as_slice().is_empty()
+    }
+
+    /// Whether there are no bytes, and no block of memory is held for any.
+    #[inline(always)]
+    pub fn is_fresh(&self) -> bool
+        ensures { result ≡ true → self.now ≡ [] }
+    {
+        match &self.held {
+            Held::Own(own) => own.is_empty() && own.capacity() == 0,
+            Held::Shared(_, _) => false,
+        }
     }
 }
 

@@ -1,6 +1,7 @@
 //! How the end of a body is found (RFC 9112, section 6.3).
 ghost use Rattle.std.specs.Prelude.{◌≡◌};
-ghost use Rattle.h1_body.specs.Framing.{framing, out_to, is_head, by_fields, has_no_body};
+ghost use Rattle.h1_body.specs.Framing.{framing, out_to, is_head, by_fields, by_length, has_no_body};
+ghost use Rattle.h1_fields.specs.ContentLength.{content_length};
 
 use h1_fields::{ContentLength, Fields};
 use h1_head::{RequestHeader, ResponseHeader};
@@ -23,6 +24,19 @@ pub fn framing_of(head: &RequestHeader) -> Framing
     ensures { result ≡ framing head.now }
 {
     framing_by(head.fields(), Framing::Counted(0))
+}
+
+/// The same where it is known what the Content-Length lines state.
+#[inline(always)]
+pub fn framing_with(head: &RequestHeader, length: ContentLength) -> Framing
+    requires { length ≡ content_length head.now.fields }
+    ensures { result ≡ framing head.now }
+{
+    if head.fields().is_chunked_last() {
+        Framing::Chunked
+    } else {
+        framing_by_length(length, Framing::Counted(0))
+    }
 }
 
 /// Whether a request of this method asks for the head of a reply alone (RFC 9110, section 9.3.2).
@@ -58,9 +72,17 @@ fn framing_by(fields: &Fields, otherwise: Framing) -> Framing
     ensures { result ≡ by_fields otherwise fields.now }
 {
     if fields.is_chunked_last() {
-        return Framing::Chunked;
+        Framing::Chunked
+    } else {
+        framing_by_length(fields.content_length(), otherwise)
     }
-    match fields.content_length() {
+}
+
+#[inline(always)]
+fn framing_by_length(length: ContentLength, otherwise: Framing) -> Framing
+    ensures { result ≡ by_length otherwise length }
+{
+    match length {
         ContentLength::Number(length) => Framing::Counted(length),
         ContentLength::Absent | ContentLength::Bad => otherwise,
     }

@@ -1,9 +1,9 @@
 //! The payload that was read of a body, which memory holds or not.
-ghost use Rattle.std.specs.Prelude.{◌≡◌, ◌≤◌, ◌<◌, ◌+◌, ◌-◌, ◌^◌, ◌++◌, ◌==◌, length, drop, slice_range, IfOk, IfErr};
+ghost use Rattle.std.specs.Prelude.{◌≡◌, true, [], ◌≤◌, ◌<◌, ◌+◌, ◌-◌, ◌^◌, ◌++◌, ◌==◌, length, slice_range, IfOk, IfErr};
 ghost use Rattle.std.specs.Option.{option_copied};
 ghost use Rattle.h1_error.specs.Memory.{no_memory};
 ghost use Rattle.h1_body.specs.Payload.{KeepFault, grown, held_in, no_payload};
-ghost use Rattle.h1_body.specs.Takes.{some_bytes};
+ghost use Rattle.h1_body.specs.Takes.{Cuts};
 
 use crate::BodyBytes;
 use crate::reader::cut;
@@ -86,6 +86,21 @@ impl Payload {
         self.limit = gathering.limit;
     }
 
+    /// What memory holds of it, and how much of it may be read.
+    #[inline(always)]
+    pub fn gathering(&self) -> Gathering
+        ensures { result ≡ self.now.gathering }
+    {
+        let holds = match &self.held {
+            Held::Whole(_) => true,
+            Held::Passed(_, _) => false,
+        };
+        Gathering {
+            holds,
+            limit: self.limit,
+        }
+    }
+
     /// Drops what was read.
     #[inline(always)]
     pub fn clear(&mut self)
@@ -122,6 +137,17 @@ impl Payload {
         self.len() == 0
     }
 
+    /// Whether nothing was read and no block of memory is held for what comes.
+    #[inline(always)]
+    pub fn is_fresh(&self) -> bool
+        ensures { result ≡ true → self.now.bytes ≡ [] }
+    {
+        match &self.held {
+            Held::Whole(bytes) => bytes.is_fresh(),
+            Held::Passed(_, count) => *count == 0,
+        }
+    }
+
     /// All that was read, where it is held.
     #[inline(always)]
     pub fn held(&self) -> Option<&[u8]>
@@ -145,8 +171,7 @@ impl Payload {
     ) -> Result<Option<Bytes>, Error>
         requires ordered { start ≤ end }
         requires within { end ≤ length buf.old.items }
-        ensures ok { IfOk result (λ piece. (piece ≡ some_bytes (slice_range buf.old.items start end))
-            × (buf.new.items ≡ drop end buf.old.items)
+        ensures ok { IfOk result (λ piece. Cuts buf.old.items buf.new.items start end piece
             × (self.new ≡ grown (slice_range buf.old.items start end) self.old)) }
         ensures err { IfErr result
             (λ error. KeepFault self.old (slice_range buf.old.items start end) error
@@ -173,8 +198,7 @@ fn hold(
 ) -> Result<Option<Bytes>, Error>
     requires ordered { start ≤ end }
     requires within { end ≤ length buf.old.items }
-    ensures ok { IfOk result (λ piece. (piece ≡ some_bytes (slice_range buf.old.items start end))
-        × (buf.new.items ≡ drop end buf.old.items)
+    ensures ok { IfOk result (λ piece. Cuts buf.old.items buf.new.items start end piece
         × (kept.new ≡ kept.old ++ slice_range buf.old.items start end)) }
     ensures err { IfErr result (λ error. (error ≡ no_memory) × (buf.new ≡ buf.old)
         × (kept.new ≡ kept.old)) }
@@ -199,8 +223,7 @@ fn hold_behind(
 ) -> Result<Option<Bytes>, Error>
     requires ordered { start ≤ end }
     requires within { end ≤ length buf.old.items }
-    ensures ok { IfOk result (λ piece. (piece ≡ some_bytes (slice_range buf.old.items start end))
-        × (buf.new.items ≡ drop end buf.old.items)
+    ensures ok { IfOk result (λ piece. Cuts buf.old.items buf.new.items start end piece
         × (kept.new ≡ kept.old ++ slice_range buf.old.items start end)) }
     ensures err { IfErr result (λ error. (error ≡ no_memory) × (buf.new ≡ buf.old)
         × (kept.new ≡ kept.old)) }
@@ -225,8 +248,7 @@ fn pass(
     requires ordered { start ≤ end }
     requires within { end ≤ length buf.old.items }
     requires fits { count.old + (end - start) < 2 ^ 64 }
-    ensures ok { IfOk result (λ piece. (piece ≡ some_bytes (slice_range buf.old.items start end))
-        × (buf.new.items ≡ drop end buf.old.items)
+    ensures ok { IfOk result (λ piece. Cuts buf.old.items buf.new.items start end piece
         × (passed.new ≡ passed.old ++ slice_range buf.old.items start end)
         × (count.new ≡ count.old + (end - start))) }
     ensures err { IfErr result (λ error. (error ≡ no_memory) × (buf.new ≡ buf.old)

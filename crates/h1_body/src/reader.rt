@@ -1,12 +1,12 @@
 //! Reading a body from pieces of any size (RFC 9112, sections 6 and 7.1).
-ghost use Rattle.std.specs.Prelude.{◌≡◌, ◌≤◌, ◌++◌, ℕ, List, [], length, drop, true, false, slice_range, IfOk, IfErr, OnErr};
+ghost use Rattle.std.specs.Prelude.{◌≡◌, ◌≤◌, ◌++◌, ℕ, List, [], length, true, false, slice_range, IfOk, IfErr, OnErr};
 ghost use Rattle.h1_error.specs.Memory.{no_memory};
 ghost use Rattle.h1_body.specs.Body.{stop_of, whole, unfinished};
 ghost use Rattle.h1_body.specs.Chunks.{chunked};
 ghost use Rattle.h1_body.specs.Reader.{body, counted, reads, closes_with_link, is_until_close};
 ghost use Rattle.h1_body.specs.Feeds.{Feeds};
 ghost use Rattle.h1_body.specs.Payload.{TakeFault, grown};
-ghost use Rattle.h1_body.specs.Takes.{Takes, some_bytes, payload_bytes};
+ghost use Rattle.h1_body.specs.Takes.{Cuts, Takes, payload_bytes};
 ghost use Rattle.h1_body.specs.declared.fed.FeedState.TheVariants as state;
 
 use crate::chunking::{Chunking, state_of, step};
@@ -131,7 +131,7 @@ impl BodyReader {
         ensures ok { IfOk result
             (λ taken. Takes self.old self.new buf.old.items buf.new.items taken
             × (kept.new ≡ grown (payload_bytes taken.payload) kept.old)) }
-        ensures fault { IfErr result (TakeFault kept.old (reads self.old buf.old.items)) }
+        ensures fault { IfErr result (TakeFault kept.old self.old buf.old.items) }
         ensures err { OnErr result ((self.new ≡ self.old) × (buf.new ≡ buf.old)
             × (kept.new ≡ kept.old)) }
         ensures closes { closes_with_link self.new ≡ closes_with_link self.old }
@@ -166,8 +166,7 @@ impl BodyReader {
 pub(crate) fn cut(buf: &mut BytesMut, start: usize, end: usize) -> Result<Option<Bytes>, Error>
     requires ordered { start ≤ end }
     requires within { end ≤ length buf.old.items }
-    ensures ok { IfOk result (λ piece. (piece ≡ some_bytes (slice_range buf.old.items start end))
-        × (buf.new.items ≡ drop end buf.old.items)) }
+    ensures ok { IfOk result (Cuts buf.old.items buf.new.items start end) }
     ensures err { IfErr result (λ error. (error ≡ no_memory) × (buf.new ≡ buf.old)) }
 {
     if start == end {

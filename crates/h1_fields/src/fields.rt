@@ -70,9 +70,8 @@ impl Fields {
         }
     }
 
-    /// No lines, with room for that many, and for a first part of their text. It stands apart from
-    /// what reads each head.
-    #[inline(never)]
+    /// No lines, with room for that many, and for a first part of their text.
+    #[inline(always)]
     pub fn with_capacity(alloc: Global, lines: usize) -> Result<Self, Error>
         ensures ok { IfOk result (λ fields. fields ≡ []) }
         ensures err { IsOkUnless result no_memory }
@@ -81,6 +80,15 @@ impl Fields {
         if lines <= 1 {
             return Ok(Fields::new(alloc));
         }
+        Fields::with_block(alloc, lines)
+    }
+
+    // Kept apart from what reads each head.
+    #[inline(never)]
+    fn with_block(alloc: Global, lines: usize) -> Result<Self, Error>
+        ensures ok { IfOk result (λ fields. fields ≡ []) }
+        ensures err { IsOkUnless result no_memory }
+    {
         Ok(Fields {
             alloc,
             held: Held::with_capacity(alloc, lines)?,

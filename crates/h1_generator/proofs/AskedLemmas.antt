@@ -9,7 +9,7 @@ use Rattle.h1_link.specs.LinkState.{LinkState}
 use Rattle.h1_head.specs.RequestHead.{HeadAt}
 use Rattle.h1_head.specs.Views.{RequestView}
 use Rattle.h1_head.proofs.RequestHeadLemmas.{HeadAt-append, HeadAt-unique}
-use Rattle.h1_body.specs.Body.{Body, whole, unfinished, broken, payload_of}
+use Rattle.h1_body.specs.Body.{Body, whole, payload_of}
 use Rattle.h1_body.specs.Framing.{framing}
 use Rattle.h1_body.specs.Laws.{GrowsTo}
 use Rattle.h1_body.specs.Reader.{body}

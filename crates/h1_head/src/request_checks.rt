@@ -2,6 +2,7 @@
 //! 6.3; RFC 9110, section 8.6), and whether it wishes the connection kept (RFC 9112, section 9.3).
 ghost use Rattle.std.specs.Prelude.{◌≡◌, codes, MatchOption};
 ghost use Rattle.h1_fields.specs.Codings.{has_coding_line};
+ghost use Rattle.h1_fields.specs.ContentLength.{content_length};
 ghost use Rattle.h1_fields.specs.Lines.{values_of};
 ghost use Rattle.h1_authority.specs.AuthorityFault.{hosts_seen, hosts_behind, no_host};
 ghost use Rattle.h1_head.specs.Faults.{refusal};
@@ -57,16 +58,18 @@ impl RequestHeader {
         both
     }
 
-    /// The first fault of the request. `coded` says whether Transfer-Encoding is there.
+    /// The first fault of the request. `coded` says whether Transfer-Encoding is there, and `length`
+    /// what the Content-Length lines state.
     #[inline(always)]
-    pub(crate) fn first_fault(&self, coded: bool) -> Option<HeadFault>
-        requires { coded ≡ has_coding_line self.now.fields }
+    pub(crate) fn first_fault(&self, coded: bool, length: ContentLength) -> Option<HeadFault>
+        requires coded { coded ≡ has_coding_line self.now.fields }
+        requires length { length ≡ content_length self.now.fields }
         ensures { result ≡ first_fault self.now }
     {
         if let Some(fault) = self.host_fault() {
             return Some(fault);
         }
-        if let Some(fault) = length_fault(self.fields().content_length()) {
+        if let Some(fault) = length_fault(length) {
             return Some(fault);
         }
         self.coding_fault(coded)

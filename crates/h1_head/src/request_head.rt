@@ -17,6 +17,7 @@ use bytes::Bytes;
 use h1_cut::HeadSearch;
 use h1_error::{Error, HeadFault};
 use h1_escape::escape_head;
+use h1_fields::ContentLength;
 use httparse::spans::HeaderSpan;
 use std::alloc::Global;
 
@@ -56,8 +57,9 @@ pub enum HeadEnd {
 /// What becomes of a whole head.
 #[derive(Clone, Copy, Debug, PartialEq, Eq)]
 pub enum Verdict {
-    /// `both` says whether Content-Length lines went (RFC 9112, section 6.3).
-    Accepted { both: bool },
+    /// `both` says whether Content-Length lines went (RFC 9112, section 6.3), and `length` what
+    /// those that are left state.
+    Accepted { both: bool, length: ContentLength },
     Refused(HeadFault),
 }
 
@@ -103,7 +105,10 @@ fn read_whole(alloc: Global, bytes: &[u8], len: usize) -> Result<HeadStep, Error
         &mut header,
         &mut raw,
     )? {
-        Verdict::Accepted { both } => Ok(HeadStep::Whole(RequestHead { header, both, raw }, len)),
+        Verdict::Accepted { both, .. } => Ok(HeadStep::Whole(
+            RequestHead { header, both, raw },
+            len,
+        )),
         Verdict::Refused(fault) => Ok(HeadStep::Refused(fault)),
     }
 }
@@ -196,8 +201,9 @@ fn settle(header: &mut RequestHeader) -> Verdict
 {
     let coded = header.fields().has_transfer_encoding();
     let both = header.settle_length(coded);
-    match header.first_fault(coded) {
+    let length = header.fields().content_length();
+    match header.first_fault(coded, length) {
         Some(fault) => Verdict::Refused(fault),
-        None => Verdict::Accepted { both },
+        None => Verdict::Accepted { both, length },
     }
 }

@@ -2,12 +2,14 @@
 ghost use Rattle.std.specs.Prelude.{◌≡◌, IfOk, IfSome, IsOkUnless};
 ghost use Rattle.h1_error.specs.Memory.{no_memory};
 ghost use Rattle.h1_server.specs.RequestMade.{IsFrontRead, IsReadFrom};
+ghost use Rattle.h1_fields.specs.ContentLength.{content_length};
 ghost use Rattle.h1_body.specs.Framing.{is_head};
 ghost use Rattle.h1_server.specs.Words.{framing, wish};
 
 use bytes::Bytes;
-use h1_body::{Framing, framing_of, is_head_only};
+use h1_body::{Framing, framing_with, is_head_only};
 use h1_error::{Error, HeadFault};
+use h1_fields::ContentLength;
 use h1_head::{FEW_HEADERS, RequestHeader, Room, Verdict, judge_front, judge_head};
 use httparse::spans::HeaderSpan;
 use std::alloc::Global;
@@ -73,8 +75,8 @@ impl Request {
         ensures err { IsOkUnless result no_memory }
     {
         match judge_head(alloc, head, room, &mut self.header, &mut self.raw)? {
-            Verdict::Accepted { both } => {
-                self.note(both);
+            Verdict::Accepted { both, length } => {
+                self.note(both, length);
                 Ok(None)
             }
             Verdict::Refused(fault) => Ok(Some(fault)),
@@ -96,8 +98,8 @@ impl Request {
     {
         let (header, raw) = (&mut self.header, &mut self.raw);
         match judge_front(alloc, bytes, room, spans, header, raw)? {
-            Some((Verdict::Accepted { both }, len)) => {
-                self.note(both);
+            Some((Verdict::Accepted { both, length }, len)) => {
+                self.note(both, length);
                 Ok(Some((None, len)))
             }
             Some((Verdict::Refused(fault), len)) => Ok(Some((Some(fault), len))),
@@ -105,9 +107,10 @@ impl Request {
         }
     }
 
-    /// Notes what the header of an accepted head fixes.
+    /// Notes what the header of an accepted head fixes, whose lines state this length.
     #[inline(always)]
-    fn note(&mut self, both: bool)
+    fn note(&mut self, both: bool, length: ContentLength)
+        requires { length ≡ content_length self.old.header.fields }
         ensures header { self.new.header ≡ self.old.header }
         ensures raw { self.new.raw ≡ self.old.raw }
         ensures both { self.new.both ≡ both }
@@ -117,7 +120,7 @@ impl Request {
     {
         self.both = both;
         self.wish = self.header.wishes_keep_alive(both);
-        self.framing = framing_of(&self.header);
+        self.framing = framing_with(&self.header, length);
         self.head_only = is_head_only(self.header.method());
     }
 }

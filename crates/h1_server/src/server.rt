@@ -183,13 +183,15 @@ impl<L: Link + Drop, C: Drop> HttpSession<L, C> {
         self.transfer.budget()
     }
 
-    /// From here on all payload that is read is noted in this, and a body whose reading was out of
-    /// memory, or that goes on past its limit, has failed.
+    /// From here on all payload that is read is noted in this, which is lent until it is given back,
+    /// and a body whose reading was out of memory, or that goes on past its limit, has failed.
     #[inline(always)]
-    pub fn keep_payload(&mut self, kept: Payload)
-        ensures { self.new ≡ record self.old { body = record self.old.body { kept = Some kept } } }
+    pub fn lend_payload(&mut self, payload: &mut Payload)
+        ensures kept { self.new
+            ≡ record self.old { body = record self.old.body { kept = Some payload.old } } }
+        ensures left { payload.new ≡ no_payload payload.old.gathering }
     {
-        self.transfer.keep_payload(kept);
+        self.transfer.lend_payload(payload);
     }
 
     /// The same with payload of which nothing was read yet.
@@ -228,13 +230,14 @@ impl<L: Link + Drop, C: Drop> HttpSession<L, C> {
         self.transfer.payload_len()
     }
 
-    /// Hands out the payload that was noted, and notes none from here on.
+    /// Gives the payload that was noted back to its place, and notes none from here on.
     #[inline(always)]
-    pub fn take_payload(&mut self) -> Option<Payload>
-        ensures taken { result ≡ self.old.body.kept }
+    pub fn give_payload_back(&mut self, payload: &mut Payload)
+        requires { IsSome self.old.body.kept }
+        ensures given { Some payload.new ≡ self.old.body.kept }
         ensures rest { self.new ≡ record self.old { body = record self.old.body { kept = None } } }
     {
-        self.transfer.take_payload()
+        self.transfer.give_payload_back(payload);
     }
 
     /// Lends a room for the body of a reply, with nothing in it. Bodies that are made in it share
@@ -285,10 +288,10 @@ impl<L: Link + Drop, C: Drop> HttpSession<L, C> {
     }
 
     /// What is set on the session.
-    pub fn settings(&self) -> Settings
-        ensures { result ≡ self.now.settings }
+    pub fn settings(&self) -> &Settings
+        ensures { result.now ≡ self.now.settings }
     {
-        self.settings
+        &self.settings
     }
 
     /// The refusal that each later read of the body answers.

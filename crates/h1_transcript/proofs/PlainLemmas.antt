@@ -103,6 +103,7 @@ module _ (rules : Rules) (none : ArePlain rules.filters) where
     sent_head = header_of e.sent_head a.sent_head;
     sent_body = body_of e.sent_body a.sent_body;
     handed = a.handed;
+    bound = a.bound;
     reuses = a.reuses;
     owed = a.owed;
     limit = a.limit;

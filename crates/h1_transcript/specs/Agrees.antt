@@ -13,7 +13,7 @@ use Rattle.h1_transcript.specs.Stream.{Message, Begins}
 abbrev pub RefusalOf : LinkState → Entry → Body → ErrorType → Type 0
 RefusalOf now e body kind = SaysOfBody (body ≡ broken e.body)
     ((body ≡ unfinished e.body) × (now.ended ≡ true)) (body ≡ unfinished e.body)
-    (body ≡ unfinished e.body) (IsTooLarge e body) kind
+    (body ≡ unfinished e.body) (IsTooLarge e body) (Unit {0}) kind
 
 -- the body's error, which isn't for a retry, and how the body stood when the application replied
 pub record IsReadAs (now : LinkState) (e : Entry) (body : Body) : Type 0 where

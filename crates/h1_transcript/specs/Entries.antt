@@ -1,5 +1,5 @@
 -- The exchanges of a transcript, and how many of them have a reply.
-use Rattle.std.specs.Prelude.{◌≡◌, ◌≤◌, ℕ, List, [], ◌++◌, option_to_list, Option, Some, None, ◌+◌, ◌∷◌, Bool, false, replicate, map, take, length, IsSome}
+use Rattle.std.specs.Prelude.{◌≡◌, ◌≤◌, ℕ, List, [], ◌++◌, option_to_list, Option, Some, None, ◌+◌, ◌∷◌, Bool, false, replicate, map, take, length}
 use Rattle.std.specs.List.{flat_map}
 use Rattle.h1_transcript.specs.Words.{Entry, History, Holding, Open, Reply, RequestView, Settings}
 use Rattle.h1_transcript.specs.declared.history.History.TheVariants as history
@@ -60,11 +60,6 @@ new_entry holding settings both head =
       keep = false;
       owed = false;
     }
-
--- one whose head is still to be put in its places
-pub record BeginsAs (holding : Holding) (settings : Settings) (both : Bool) (e : Entry) : Type 0 where
-  pub entry : e ≡ record (new_entry holding settings both e.head) { filtered = e.filtered }
-  pub filtered : IsSome e.filtered
 
 -- how many of these exchanges have a reply
 abbrev pub replies : List Entry → ℕ

@@ -6,7 +6,7 @@ use Rattle.h1_server.specs.declared.settings.Settings.{Settings}
 use Rattle.h1_transcript.specs.declared.entry.How.{How}
 use Rattle.h1_transcript.specs.declared.history.History.{History}
 use Rattle.h1_transcript.specs.declared.history.Holding.{Holding}
-use Rattle.h1_body.specs.Payload.{Payload, held_in}
+use Rattle.h1_body.specs.Payload.{Payload}
 use Rattle.h1_body.specs.declared.payload.Gathering.{Gathering}
 use Rattle.h1_transcript.specs.declared.reply.Reply.{Reply}
 use Rattle.h1_transcript.specs.declared.history.History.TheVariants as history

@@ -87,6 +87,8 @@ pub record IsAllowed (rules : Rules) (e : Entry) : Type 0 where
   pub sent_body : IfSome e.sent_body (λ sent. (reply : Reply) × (e.reply ≡ Some reply)
       × (rules.filters.body e.head reply ≡ Ok sent))
   pub handed : e.handed ≤ length e.body
+  -- of a body no more is noted than its limit
+  pub bound : length e.body ≤ e.holding.limit
   pub reuses : e.left.reuses ≡ e.began.reuses
   pub owed : e.owed ≡ true → IsSome e.sent_head
   -- the read timeout is kept that a read reached which timed out

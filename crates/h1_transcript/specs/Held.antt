@@ -1,5 +1,5 @@
 -- Values that are seen whether memory has them or not.
-use Rattle.std.specs.Prelude.{Bool, true, false, Option, Some, None}
+use Rattle.std.specs.Prelude.{Bool, true, false, Option, Some, None, option_map}
 use Rattle.h1_transcript.specs.declared.held.Held.{Held}
 use Rattle.h1_transcript.specs.declared.held.Held.TheVariants as held
 use Rattle.h1_transcript.specs.declared.history.History.{History}
@@ -21,6 +21,11 @@ HoldsBy history.Kept (held.Copy value) = Unit {0}
 HoldsBy history.Kept (held.Seen seen) = ⊥
 HoldsBy history.Forgotten (held.Copy value) = ⊥
 HoldsBy history.Forgotten (held.Seen seen) = Unit {0}
+
+-- the head for the application: the one that was read, or what stands in its stead
+abbrev pub filtered_of : {T : Type 0} → Bool → Held T → Option (Held T) → Option T
+filtered_of false head changed = Some (value_of head)
+filtered_of true head changed = option_map value_of changed
 
 -- what stands in a place, where it counts
 abbrev pub shown_if : {T : Type 0} → Bool → Option T → Option T

@@ -1,7 +1,6 @@
 //! One exchange: what was read of a request, what the application replied and what was sent.
 ghost use Rattle.std.specs.Prelude.{◌≡◌, [], Some, None, IsSome, OnOk, IfOk, IfErr, IfSome, true, false};
 ghost use Rattle.h1_error.specs.Memory.{no_memory};
-ghost use Rattle.h1_transcript.specs.Entry.{gathering_of, payload_in};
 
 use crate::held::{Held, drop_copy, see_in};
 use crate::{History, Holding, Reply};
@@ -12,10 +11,10 @@ use h1_head::{RequestHeader, ResponseHeader};
 use h1_server::Settings;
 use std::alloc::Global;
 use std::marker::Model;
-use std::mem;
 use std::snapshot::Snapshot;
 
 mod getters;
+mod lending;
 
 /// How a request's body stood when its reply was made.
 #[derive(Clone, Copy, Debug, PartialEq, Eq)]
@@ -32,6 +31,9 @@ pub enum How {
 pub struct Entry {
     holding: Holding,
     head: Held<RequestHeader>,
+    /// Whether the head for the application isn't the one that was read.
+    is_changed: bool,
+    /// The head for the application, where it isn't.
     filtered: Option<Held<RequestHeader>>,
     payload: Payload,
     handed: u64,
@@ -40,6 +42,7 @@ pub struct Entry {
     how: How,
     began: Settings,
     left: Settings,
+    replied: bool,
     reply: Option<Reply>,
     headed: bool,
     sent_head: Option<Held<ResponseHeader>>,
@@ -56,14 +59,14 @@ pub struct Entry {
 impl Model for Entry {
     ghost use Rattle.std.specs.Prelude.{◌≡◌, option_map, IfSome};
     ghost use Rattle.h1_transcript.specs.Entry.{Entry, gathering_of};
-    ghost use Rattle.h1_transcript.specs.Held.{HoldsBy, shown_if, value_of};
+    ghost use Rattle.h1_transcript.specs.Held.{HoldsBy, filtered_of, shown_if, value_of};
 
     ghost Value = { Entry };
 
     ghost view = { λ e. record {
       holding = e.holding;
       head = value_of e.head;
-      filtered = option_map value_of e.filtered;
+      filtered = filtered_of e.is_changed e.head e.filtered;
       body = e.payload.bytes;
       handed = e.handed;
       body_error = e.body_error;
@@ -71,7 +74,7 @@ impl Model for Entry {
       how = e.how;
       began = e.began;
       left = e.left;
-      reply = e.reply;
+      reply = shown_if e.replied e.reply;
       sent_head = shown_if e.headed (option_map value_of e.sent_head);
       sent_body = shown_if e.bodied (option_map value_of e.sent_body);
       written = e.written;
@@ -91,7 +94,7 @@ impl Model for Entry {
 }
 
 impl Entry {
-    ghost use Rattle.h1_transcript.specs.Entries.{BeginsAs, new_entry};
+    ghost use Rattle.h1_transcript.specs.Entries.{new_entry};
     ghost use Rattle.h1_transcript.specs.Held.{HoldsBy, value_of};
     ghost use Rattle.h1_transcript.specs.declared.history.History.TheVariants.{Forgotten, Kept};
 
@@ -100,55 +103,52 @@ impl Entry {
     pub(crate) fn new(
         alloc: Global,
         holding: Holding,
-        settings: Settings,
+        settings: &Settings,
         both: bool,
         head: &RequestHeader,
     ) -> Self
         requires { holding.history ≡ Forgotten }
-        ensures { result ≡ new_entry holding settings both head.now }
+        ensures { result ≡ new_entry holding settings.now both head.now }
     {
-        let filtered = Held::Seen(Snapshot::of(head));
         let head = Held::Seen(Snapshot::of(head));
-        Entry::begun(alloc, holding, settings, both, head, filtered)
+        Entry::begun(alloc, holding, settings, both, head)
     }
 
-    /// One that is kept, whose head is still to be put in its places.
+    /// One that is kept, whose head is still to be put in its place.
     #[inline(always)]
-    pub(crate) fn new_kept(alloc: Global, holding: Holding, settings: Settings, both: bool) -> Self
+    pub(crate) fn new_kept(alloc: Global, holding: Holding, settings: &Settings, both: bool) -> Self
         requires { holding.history ≡ Kept }
-        ensures { BeginsAs holding settings both result }
+        ensures { result ≡ new_entry holding settings.now both result.head }
     {
         let head = Held::Copy(RequestHeader::new(alloc));
-        let filtered = Held::Copy(RequestHeader::new(alloc));
-        Entry::begun(alloc, holding, settings, both, head, filtered)
+        Entry::begun(alloc, holding, settings, both, head)
     }
 
-    /// One with these heads, of which nothing was read after them.
+    /// One with this head, of which nothing was read after it.
     #[inline(always)]
     fn begun(
         alloc: Global,
         holding: Holding,
-        settings: Settings,
+        settings: &Settings,
         both: bool,
         head: Held<RequestHeader>,
-        filtered: Held<RequestHeader>,
     ) -> Self
-        requires head { HoldsBy holding.history head }
-        requires filtered { HoldsBy holding.history filtered }
-        ensures { result ≡ record (new_entry holding settings both (value_of head))
-            { filtered = Some (value_of filtered) } }
+        requires { HoldsBy holding.history head }
+        ensures { result ≡ new_entry holding settings.now both (value_of head) }
     {
         Entry {
             holding,
             head,
-            filtered: Some(filtered),
+            is_changed: false,
+            filtered: None,
             payload: Payload::new(alloc, holding.gathering()),
             handed: 0,
             body_error: None,
             read_limit: None,
             how: How::Open,
-            began: settings,
-            left: settings,
+            began: *settings,
+            left: *settings,
+            replied: false,
             reply: None,
             headed: false,
             sent_head: None,
@@ -169,26 +169,25 @@ impl Entry {
         &mut self,
         alloc: Global,
         holding: Holding,
-        settings: Settings,
+        settings: &Settings,
         both: bool,
         head: &RequestHeader,
     )
         requires { holding.history ≡ Forgotten }
-        ensures { self.new ≡ new_entry holding settings both head.now }
+        ensures { self.new ≡ new_entry holding settings.now both head.now }
     {
         self.holding = holding;
         self.payload.start_over(alloc, holding.gathering());
         self.head.see(head);
-        see_in(&mut self.filtered, head);
+        self.is_changed = false;
+        drop_copy(&mut self.filtered);
         self.handed = 0;
         self.body_error = None;
         self.read_limit = None;
         self.how = How::Open;
-        self.began = settings;
-        self.left = settings;
-        if self.reply.is_some() {
-            self.reply = None;
-        }
+        self.began = *settings;
+        self.left = *settings;
+        self.replied = false;
         self.headed = false;
         drop_copy(&mut self.sent_head);
         self.bodied = false;
@@ -201,51 +200,43 @@ impl Entry {
         self.owed = false;
     }
 
-    /// Lets the payload and the reply go.
+    /// Lets the payload and the reply go. The reply's header stays in its place until the next one
+    /// comes there.
     #[inline(always)]
     pub(crate) fn release(&mut self)
         ensures { self.new ≡ record self.old { body = []; reply = None } }
     {
         self.payload.clear();
-        self.reply = None;
+        self.replied = false;
+        if let Some(reply) = &mut self.reply {
+            reply.body.clear();
+        }
     }
 
-    /// Puts the head in its places. With an error what stands there has no meaning.
+    /// Puts the head in its place, for the application too. With an error what stands there has no
+    /// meaning.
     #[inline(always)]
     pub(crate) fn put_head(&mut self, head: &RequestHeader) -> Result<(), Error>
-        requires { IsSome self.old.filtered }
         ensures ok { OnOk result (self.new
             ≡ record self.old { head = head.now; filtered = Some head.now }) }
         ensures err { IfErr result (λ error. error ≡ no_memory) }
     {
-        self.head.put(head)?;
-        self.put_filtered(head)
+        self.is_changed = false;
+        self.head.put(head)
     }
 
     /// Notes what the filters made of the head. Without memory for it there is none.
     pub fn note_filtered(&mut self, head: &RequestHeader) -> Result<(), Error>
-        requires { IsSome self.old.filtered }
         ensures ok { OnOk result (self.new ≡ record self.old { filtered = Some head.now }) }
         ensures err { IfErr result (λ error. (error ≡ no_memory)
             × (self.new ≡ record self.old { filtered = None })) }
     {
-        let noted = self.put_filtered(head);
-        if noted.is_err() {
-            self.drop_filtered();
-        }
-        noted
-    }
-
-    fn put_filtered(&mut self, head: &RequestHeader) -> Result<(), Error>
-        requires { IsSome self.old.filtered }
-        ensures rest { self.new ≡ record self.old { filtered = self.new.filtered } }
-        ensures ok { OnOk result (self.new.filtered ≡ Some head.now) }
-        ensures err { IfErr result (λ error. error ≡ no_memory) }
-    {
-        match &mut self.filtered {
-            Some(filtered) => filtered.put(head),
-            None => unreachable!(),
-        }
+        self.drop_filtered();
+        self.filtered = Some(match self.holding.history {
+            History::Kept => Held::Copy(head.copy()?),
+            History::Forgotten => Held::Seen(Snapshot::of(head)),
+        });
+        Ok(())
     }
 
     /// There is no head for the application.
@@ -254,26 +245,8 @@ impl Entry {
     pub fn drop_filtered(&mut self)
         ensures { self.new ≡ record self.old { filtered = None } }
     {
+        self.is_changed = true;
         self.filtered = None;
-    }
-
-    /// Lends the payload that was read. None is there until it is given back.
-    #[inline(always)]
-    pub fn lend_payload(&mut self, alloc: Global) -> Payload
-        ensures taken { result ≡ payload_in self.old }
-        ensures rest { self.new ≡ record self.old { body = [] } }
-    {
-        let stand_in = Payload::new(alloc, self.holding.gathering());
-        mem::replace(&mut self.payload, stand_in)
-    }
-
-    /// Gives the payload back.
-    #[inline(always)]
-    pub fn put_payload(&mut self, payload: Payload)
-        requires { payload.gathering ≡ gathering_of self.old.holding }
-        ensures { self.new ≡ record self.old { body = payload.bytes } }
-    {
-        self.payload = payload;
     }
 
     /// Notes how the body stands, and what is set, behind a call of the application that was handed
@@ -285,21 +258,21 @@ impl Entry {
         body_error: Option<Error>,
         read_limit: Option<u64>,
         how: How,
-        left: Settings,
+        left: &Settings,
     )
         ensures { self.new ≡ record self.old {
           handed = handed;
           body_error = body_error;
           read_limit = read_limit;
           how = how;
-          left = left;
+          left = left.now;
         } }
     {
         self.handed = handed;
         self.body_error = body_error;
         self.read_limit = read_limit;
         self.how = how;
-        self.left = left;
+        self.left = *left;
     }
 
     /// Notes what the application replied.
@@ -308,6 +281,7 @@ impl Entry {
         ensures { self.new ≡ record self.old { reply = Some reply } }
     {
         self.reply = Some(reply);
+        self.replied = true;
     }
 
     /// Notes the header that was taken up.

@@ -10,7 +10,8 @@ use h1_body::Gathering;
 pub enum History {
     /// Each exchange is kept, with copies of its heads and of what was sent.
     Kept,
-    /// An exchange leaves memory as it ends, and what was read and sent is not copied meanwhile.
+    /// An exchange leaves memory as it ends. Meanwhile there is no copy of its heads and of what was
+    /// sent, nor of payload that isn't gathered.
     Forgotten,
 }
 

@@ -58,7 +58,7 @@ impl Model for Transcript {
 impl Transcript {
     ghost use Rattle.h1_transcript.specs.Entry.{kept_in};
     ghost use Rattle.h1_transcript.specs.Entry.{Entry};
-    ghost use Rattle.h1_transcript.specs.Entries.{BeginsAs, new_entry, bodies, transcript_entries, with_last};
+    ghost use Rattle.h1_transcript.specs.Entries.{new_entry, bodies, transcript_entries, with_last};
     ghost use Rattle.h1_transcript.specs.Lending.{LendsLast};
     ghost use Rattle.std.specs.Prelude.{◌^◌, ◌-◌};
 
@@ -84,13 +84,13 @@ impl Transcript {
     pub fn begin(
         &mut self,
         alloc: Global,
-        settings: Settings,
+        settings: &Settings,
         both: bool,
         head: &RequestHeader,
     ) -> Result<(), Error>
         requires { self.old.last ≡ None }
         ensures ok { OnOk result
-            (self.new ≡ with_last self.old (new_entry self.old.holding settings both head.now)) }
+            (self.new ≡ with_last self.old (new_entry self.old.holding settings.now both head.now)) }
         ensures err { OnErr result (self.new ≡ self.old) }
         ensures memory { IfErr result (λ error. error ≡ no_memory) }
     {
@@ -113,18 +113,18 @@ impl Transcript {
     fn begin_kept(
         &mut self,
         alloc: Global,
-        settings: Settings,
+        settings: &Settings,
         both: bool,
         head: &RequestHeader,
     ) -> Result<(), Error>
         requires kept { self.old.holding.history ≡ Kept }
         requires none { self.old.last ≡ None }
         ensures ok { OnOk result
-            (self.new ≡ with_last self.old (new_entry self.old.holding settings both head.now)) }
+            (self.new ≡ with_last self.old (new_entry self.old.holding settings.now both head.now)) }
         ensures err { OnErr result (self.new ≡ self.old) }
         ensures memory { IfErr result (λ error. error ≡ no_memory) }
     {
-        // The head is copied to its places in the list, so that no exchange is moved.
+        // The head is copied to its place in the list, so that no exchange is moved.
         self.push_kept(alloc, settings, both)?;
         let put = self.last_entry().put_head(head);
         if put.is_err() {
@@ -133,13 +133,14 @@ impl Transcript {
         put
     }
 
-    /// An exchange begins that is kept, whose head is still to be put in its places.
+    /// An exchange begins that is kept, whose head is still to be put in its place.
     #[inline(always)]
-    fn push_kept(&mut self, alloc: Global, settings: Settings, both: bool) -> Result<(), Error>
+    fn push_kept(&mut self, alloc: Global, settings: &Settings, both: bool) -> Result<(), Error>
         requires kept { self.old.holding.history ≡ Kept }
         requires none { self.old.last ≡ None }
         ensures ok { OnOk result
-            ((e : Entry) × BeginsAs self.old.holding settings both e × (self.new ≡ with_last self.old e)) }
+            ((e : Entry) × (e ≡ new_entry self.old.holding settings.now both e.head)
+            × (self.new ≡ with_last self.old e)) }
         ensures err { OnErr result (self.new ≡ self.old) }
         ensures memory { IfErr result (λ error. error ≡ no_memory) }
     {

@@ -1,11 +1,12 @@
 -- Lemmas on payload that is taken out of received bytes.
-use Rattle.std.proofs.Common.{◌≡◌, ℕ, ◌<◌, List, [], ◌∷◌, ◌++◌, length, take, drop, slice_range, Option, Some, None, option_map, Ok, Err, ◌≢◌, refl, sym, ap, ◌∙◌, subst, take-append-drop, arith, inl, inr, length-take, length-drop}
+use Rattle.std.proofs.Common.{◌≡◌, ℕ, ◌<◌, List, [], ◌∷◌, length, take, drop, slice_range, Option, Some, None, option_map, Ok, Err, ◌≢◌, refl, sym, ap, ◌∙◌, subst, take-append-drop, arith, inl, inr, length-take, length-drop}
 use Rattle.std.proofs.lemmas.List.{length-take-le, drop_all}
 use Rattle.h1_error.specs.Memory.{no_memory}
 use Rattle.h1_error.specs.declared.error.ErrorType.TheVariants as kind
-use Rattle.h1_transfer.specs.Decoding.{GoesPast}
+use Rattle.h1_body.proofs.PayloadLemmas.{goes_past}
+use Rattle.h1_transfer.specs.Decoding.{GoesPast, StaysWithin}
 use Rattle.h1_transfer.proofs.BodyLemmas.{uses_nothing}
-use Rattle.h1_transfer.specs.Words.{Body, Error, stop_of, reads, Feeds, BodyReader, TakeStep, Payload, grown}
+use Rattle.h1_transfer.specs.Words.{Error, stop_of, reads, Feeds, BodyReader, IsPast, TakeStep, Payload, grown}
 use Rattle.h1_body.specs.Feeds.{IsEnd}
 use Rattle.h1_body.specs.Takes.{Takes, payload_bytes, some_bytes}
 use Rattle.h1_body.specs.declared.fed.Fed.{Fed}
@@ -71,14 +72,16 @@ pub takes_taken : (old new : List ℕ) (reader behind : BodyReader) (taken : Tak
     → IsJudged taken.state taken.payload step
     → TakesBody old new reader behind kept keeps (Ok step)
 takes_taken old new reader behind taken kept keeps (t.Piece bytes) takes keeps_so judged =
-    (rw judged at (uses_taken kept keeps takes keeps_so), some_are _ bytes (sym takes.payload ∙ judged))
+    (rw judged at (uses_taken kept keeps takes keeps_so), some_are _ bytes (sym takes.payload ∙ judged), tt)
 takes_taken old new reader behind taken kept keeps t.Done takes keeps_so judged = (
   rw judged.0 at (uses_taken kept keeps takes keeps_so),
   sym takes.feeds.state ∙ ap stop_of (sym takes.state ∙ judged.1),
+  tt,
 )
 takes_taken old new reader behind taken kept keeps t.Broken takes keeps_so judged = (
   rw judged.0 at (uses_taken kept keeps takes keeps_so),
   sym takes.feeds.state ∙ ap stop_of (sym takes.state ∙ judged.1),
+  tt,
 )
 takes_taken old new reader behind taken kept keeps t.Lacks takes keeps_so judged =
     let more = sym takes.state ∙ judged.1 in
@@ -88,6 +91,7 @@ takes_taken old new reader behind taken kept keeps t.Lacks takes keeps_so judged
         takes.bytes ∙ all_used old reader behind takes.fed takes.feeds none more,
         sym takes.feeds.state ∙ ap stop_of more,
       ),
+      tt,
     )
 takes_taken old new reader behind taken kept keeps t.TooLarge takes keeps_so judged = absurd judged
 
@@ -97,20 +101,21 @@ not_large error starved large = never (sym (ap (λ (e : Error). e.kind) starved)
   never same = cc
 
 -- a body of which no more was taken, though there was memory, goes on past its limit
-past_for : (kept : Option Payload) (body : Body) (error : Error) → FaultOf kept body error
-    → error.kind ≡ kind.ContentTooLarge → GoesPast kept body
-past_for None body error starved large = absurd (not_large error starved large)
-past_for (Some kept) body error fault large = elim fault [
-  | inl starved ↦ absurd (not_large error starved large)
-  | inr past ↦ past.1
+past_for : (kept : Option Payload) (reader : BodyReader) (old : List ℕ) (error : Error)
+    → FaultOf kept reader old error → error.kind ≡ kind.ContentTooLarge → GoesPast kept reader old
+past_for None reader old error starved large = absurd (not_large error starved large)
+past_for (Some kept) reader old error fault large = elim fault.fault [
+  | inl starved ↦ absurd (not_large error starved.0 large)
+  | inr past ↦ (fault.run, fault.next, past.1)
 ]
 
--- one with another answer was out of memory
-starved_for : (kept : Option Payload) (body : Body) (error : Error) → FaultOf kept body error
-    → error.kind ≢ kind.ContentTooLarge → error ≡ no_memory
-starved_for None body error starved other = starved
-starved_for (Some kept) body error fault other = elim fault [
-  | inl starved ↦ starved
+-- for one with another answer there was no memory, though it stays within its limit
+starved_for : (kept : Option Payload) (reader : BodyReader) (old : List ℕ) (error : Error)
+    → FaultOf kept reader old error → error.kind ≢ kind.ContentTooLarge
+    → (error ≡ no_memory) × StaysWithin kept reader old
+starved_for None reader old error starved other = (starved, tt)
+starved_for (Some kept) reader old error fault other = elim fault.fault [
+  | inl starved ↦ (starved.0, (fault.run, fault.next, starved.1))
   | inr past ↦ absurd (other (ap (λ (e : Error). e.kind) past.0))
 ]
 
@@ -119,11 +124,18 @@ pub takes_past : (old new : List ℕ) (reader behind : BodyReader) (kept keeps :
     → error.kind ≡ kind.ContentTooLarge
     → TakesBody old new reader behind kept keeps (Ok t.TooLarge)
 takes_past old new reader behind kept keeps error h large =
-    rw (h.1, h.2, h.3) (uses_nothing old reader kept, past_for kept (reads reader old) error h.0 large)
+    rw (h.1, h.2, h.3) (uses_nothing old reader kept, past_for kept reader old error h.0 large, refl)
 
 pub takes_none : (old new : List ℕ) (reader behind : BodyReader) (kept keeps : Option Payload)
     (error : Error) → TakesPayload old new reader behind kept keeps (Err error)
     → error.kind ≢ kind.ContentTooLarge
     → TakesBody old new reader behind kept keeps (Err error)
 takes_none old new reader behind kept keeps error h other =
-    (starved_for kept (reads reader old) error h.0 other, h.1, h.2, h.3)
+    let starved = starved_for kept reader old error h.0 other in
+    (starved.0, starved.1, h.1, h.2, h.3)
+
+-- a run that goes past the limit begins a body that does
+pub past_body : (payload : Payload) (reader : BodyReader) (received : List ℕ)
+    → GoesPast (Some payload) reader received
+    → IsPast payload.gathering.limit payload.bytes (reads reader received)
+past_body payload reader received past = goes_past payload.gathering.limit payload.bytes past.1 past.2

@@ -3,7 +3,7 @@ use Rattle.std.specs.Prelude.{◌≡◌, ℕ, ◌<◌, ◌⊎◌, List, [], leng
 use Rattle.h1_transfer.specs.Words.{Poll, Ready, Pending, Error, ErrorType, LinkState, Rose, whole, broken, reads, BodyReader, BodyState, Payload}
 use Rattle.h1_error.specs.declared.error.ErrorType.TheVariants as kind
 use Rattle.h1_transfer.specs.BodyErrors.{SaysOfBody}
-use Rattle.h1_transfer.specs.Decoding.{GoesPast, Lacks}
+use Rattle.h1_transfer.specs.Decoding.{GoesPast, Lacks, MayStarve}
 
 -- the error of this kind, which isn't for a retry
 abbrev pub error_of : ErrorType → Error
@@ -16,7 +16,7 @@ RefusesBody before now kept reader received kind = SaysOfBody (reads reader [] �
     ((now.ended ≡ true) × Lacks reader received)
     (Rose before.read_faults now.read_faults × Lacks reader received)
     (Rose before.read_waits now.read_waits × Lacks reader received)
-    (GoesPast kept (reads reader received)) kind
+    (GoesPast kept reader received) (MayStarve kept reader received) kind
 
 -- every refusal but out of memory is answered again
 abbrev pub refused_for_good : Error → Option Error

@@ -1,7 +1,8 @@
 -- Reading a part of a body (RFC 9112, sections 6 and 8).
-use Rattle.std.specs.Prelude.{◌≡◌, ℕ, ◌<◌, List, [], ◌++◌, length, true, Option, Some, None, option_map}
-use Rattle.h1_transfer.specs.Words.{LinkState, Rose, Body, whole, unfinished, broken, ahead, reads, BodyReader, BodyRead, BodyStop, IsPast, Payload, grown}
+use Rattle.std.specs.Prelude.{◌≡◌, ℕ, ◌<◌, ◌≤◌, ◌⊎◌, List, [], ◌++◌, length, true, Option, Some, None, option_map}
+use Rattle.h1_transfer.specs.Words.{LinkState, Rose, Body, whole, unfinished, broken, ahead, reads, BodyReader, BodyRead, BodyStop, Payload, grown}
 use Rattle.h1_body.specs.Payload.{held_in}
+use Rattle.h1_body.specs.Takes.{IsNextRun}
 use Rattle.h1_transfer.specs.Moved.{Received}
 use Rattle.h1_transfer.specs.declared.reading_body.BodyRead.TheVariants as b
 use Rattle.h1_transfer.specs.declared.reading_body.BodyStop.TheVariants as s
@@ -31,10 +32,21 @@ abbrev pub held_of : Option Payload → Option (List ℕ)
 held_of None = None
 held_of (Some kept) = held_in kept
 
--- a body goes on past the limit of the payload that is kept of it
-abbrev pub GoesPast : Option Payload → Body → Type 0
-GoesPast None body = ⊥
-GoesPast (Some kept) body = IsPast kept.gathering.limit kept.bytes body
+-- the run of payload that comes next goes past the limit of what is kept
+abbrev pub GoesPast : Option Payload → BodyReader → List ℕ → Type 0
+GoesPast None reader received = ⊥
+GoesPast (Some kept) reader received = (run : List ℕ) × IsNextRun reader received run
+    × (kept.gathering.limit < length (kept.bytes ++ run))
+
+-- it stays within the limit
+abbrev pub StaysWithin : Option Payload → BodyReader → List ℕ → Type 0
+StaysWithin None reader received = Unit {0}
+StaysWithin (Some kept) reader received = (run : List ℕ) × IsNextRun reader received run
+    × (length (kept.bytes ++ run) ≤ kept.gathering.limit)
+
+-- memory ran out for more bytes of the link, or for a run within the limit
+abbrev pub MayStarve : Option Payload → BodyReader → List ℕ → Type 0
+MayStarve kept reader received = Lacks reader received ⊎ StaysWithin kept reader received
 
 -- when the reading of a body stops, with the bytes that are received and not used then
 abbrev pub StopCause : LinkState → LinkState → Option Payload → BodyReader → List ℕ → ℕ → BodyStop
@@ -52,8 +64,9 @@ StopCause before now kept reader received left s.Failed =
     Rose before.read_faults now.read_faults × Lacks reader received
     × (now.read_waits ≡ before.read_waits)
 StopCause before now kept reader received left s.TooLarge =
-    GoesPast kept (reads reader received) × (now.read_waits ≡ before.read_waits)
-StopCause before now kept reader received left s.NoMemory = now.read_waits ≡ before.read_waits
+    GoesPast kept reader received × (now.read_waits ≡ before.read_waits)
+StopCause before now kept reader received left s.NoMemory =
+    MayStarve kept reader received × (now.read_waits ≡ before.read_waits)
 
 -- when each answer of a body read comes
 abbrev pub BodyCause : LinkState → LinkState → Option Payload → BodyReader → List ℕ → ℕ → BodyRead

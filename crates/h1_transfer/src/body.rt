@@ -1,16 +1,17 @@
 //! Where the reading of a body stands.
 ghost use Rattle.h1_transfer.specs.Fresh.{IsNoBody};
 
-use crate::Since;
-use h1_body::{BodyReader, Framing, Payload};
+use crate::{Kept, Since};
+use h1_body::{BodyReader, Framing};
 use h1_error::Error;
+use std::alloc::Global;
 
 /// Where the reading of a body stands.
 #[derive(Drop)]
 pub struct BodyState {
     pub reader: BodyReader,
     /// What was read since it was handed in, where a caller keeps it.
-    pub kept: Option<Payload>,
+    pub kept: Kept,
     /// The refusal that each later read of the body answers.
     pub refused: Option<Error>,
     /// A read was pending since this was last asked.
@@ -21,12 +22,12 @@ pub struct BodyState {
 
 impl BodyState {
     /// Before a message.
-    pub fn new() -> Self
+    pub fn new(alloc: Global) -> Self
         ensures { IsNoBody result }
     {
         BodyState {
             reader: BodyReader::new(Framing::Counted(0)),
-            kept: None,
+            kept: Kept::new(alloc),
             refused: None,
             waits: false,
             since: Since::new(),
@@ -39,10 +40,7 @@ impl BodyState {
         ensures { IsNoBody self.new }
     {
         self.reader = BodyReader::new(Framing::Counted(0));
-        // Most have nothing that is kept, and then nothing is dropped.
-        if self.kept.is_some() {
-            self.kept = None;
-        }
+        self.kept.stop();
         self.refused = None;
         self.waits = false;
         self.since = Since::new();

@@ -5,10 +5,11 @@ ghost use Rattle.h1_body.specs.Reader.{reads};
 ghost use Rattle.h1_transfer.specs.Decoding.{ReadsBody, BodyCause, StopCause, IsUnfinished, payload_of};
 ghost use Rattle.h1_transfer.specs.Calls.{Called, is_part, is_done, fault_of_read, fault_of_stop};
 
+use crate::Kept;
 use crate::receiving::{Filled, fill_on};
 use crate::taking::{TakeStep, take};
 use bytes::{Bytes, BytesMut};
-use h1_body::{BodyReader, FeedState, Payload};
+use h1_body::{BodyReader, FeedState};
 use h1_head::Room;
 use h1_link::Link;
 
@@ -47,7 +48,7 @@ pub fn read_body<L: Link>(
     link: &mut L,
     received: &mut BytesMut,
     reader: &mut BodyReader,
-    kept: &mut Option<Payload>,
+    kept: &mut Kept,
     room: &mut Room,
     came: &mut usize,
     budget: &mut u32,
@@ -94,7 +95,7 @@ pub fn drain_body<L: Link>(
     link: &mut L,
     received: &mut BytesMut,
     reader: &mut BodyReader,
-    kept: &mut Option<Payload>,
+    kept: &mut Kept,
     room: &mut Room,
     came: &mut usize,
     budget: &mut u32,
@@ -126,7 +127,7 @@ fn drain_rest<L: Link>(
     link: &mut L,
     received: &mut BytesMut,
     reader: &mut BodyReader,
-    kept: &mut Option<Payload>,
+    kept: &mut Kept,
     room: &mut Room,
     came: &mut usize,
     budget: &mut u32,

@@ -1,9 +1,10 @@
 //! Taking payload out of the bytes that are received (RFC 9112, sections 6 and 7.1).
 ghost use Rattle.std.specs.Prelude.{None};
-ghost use Rattle.h1_transfer.specs.Taking.{TakesBody, TakesPayload, IsJudged};
+ghost use Rattle.h1_transfer.specs.Taking.{TakesBody, IsJudged};
 
+use crate::Kept;
 use bytes::{Bytes, BytesMut};
-use h1_body::{BodyReader, FeedState, Payload, Taken};
+use h1_body::{BodyReader, FeedState, Taken};
 use h1_error::{Error, ErrorType};
 use h1_head::Room;
 
@@ -19,7 +20,8 @@ pub enum TakeStep {
     Broken,
     /// All received bytes are used, and the body goes on.
     Lacks,
-    /// The body goes on past the limit of the payload that is kept of it. No byte is used.
+    /// What comes next of the body goes past the limit of the payload that is kept of it. No byte is
+    /// used.
     TooLarge,
 }
 
@@ -30,7 +32,7 @@ pub enum TakeStep {
 pub fn take(
     received: &mut BytesMut,
     reader: &mut BodyReader,
-    kept: &mut Option<Payload>,
+    kept: &mut Kept,
     room: &mut Room,
 ) -> Result<TakeStep, Error>
     ensures { TakesBody received.old.items received.new.items reader.old reader.new kept.old
@@ -42,29 +44,12 @@ pub fn take(
         FeedState::Done => return Ok(TakeStep::Done),
         FeedState::Broken => return Ok(TakeStep::Broken),
     }
-    match take_payload(received, reader, kept, room) {
+    match kept.take_payload(received, reader, room) {
         Ok(taken) => Ok(judge(taken)),
         Err(error) => match error.kind {
             ErrorType::ContentTooLarge => Ok(TakeStep::TooLarge),
             _ => Err(error),
         },
-    }
-}
-
-/// Takes payload, and keeps it after what is kept, where payload is kept.
-#[inline(always)]
-fn take_payload(
-    received: &mut BytesMut,
-    reader: &mut BodyReader,
-    kept: &mut Option<Payload>,
-    room: &mut Room,
-) -> Result<Taken, Error>
-    ensures { TakesPayload received.old.items received.new.items reader.old reader.new kept.old
-        kept.new result }
-{
-    match kept {
-        Some(bytes) => reader.take_into(received, bytes, room),
-        None => reader.take(received),
     }
 }
 

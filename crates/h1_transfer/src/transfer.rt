@@ -1,6 +1,6 @@
 //! The bytes of one message each way over a link: a session's link with what is received, the body
 //! that is read and the message that is written.
-ghost use Rattle.std.specs.Prelude.{◌≡◌, ◌≤◌, ℕ, List, [], length, drop, IfSome, Some, None, false};
+ghost use Rattle.std.specs.Prelude.{◌≡◌, ◌≤◌, ℕ, List, [], length, drop, IfSome, IsSome, Some, None, false};
 ghost use Rattle.std.specs.Option.{option_copied};
 ghost use Rattle.std.specs.Fn.{FnOnceTakesAtMut, FnOnceReturnsAtMut};
 ghost use Rattle.h1_link.specs.Steps.{after_shutdown};
@@ -63,7 +63,7 @@ impl<L: Link + Drop> Transfer<L> {
             alloc,
             link,
             received: BytesMut::new(alloc),
-            body: BodyState::new(),
+            body: BodyState::new(alloc),
             outgoing: Outgoing::new(alloc),
             budget: None,
             room: Room::new(alloc),
@@ -160,13 +160,15 @@ impl<L: Link + Drop> Transfer<L> {
         self.came = 0;
     }
 
-    /// From here on all payload that is read is noted in this, and a body whose reading was out of
-    /// memory, or that goes on past its limit, has failed.
+    /// From here on all payload that is read is noted in this, which is lent until it is given back,
+    /// and a body whose reading was out of memory, or that goes on past its limit, has failed.
     #[inline(always)]
-    pub fn keep_payload(&mut self, kept: Payload)
-        ensures { self.new ≡ record self.old { body = record self.old.body { kept = Some kept } } }
+    pub fn lend_payload(&mut self, payload: &mut Payload)
+        ensures kept { self.new
+            ≡ record self.old { body = record self.old.body { kept = Some payload.old } } }
+        ensures left { payload.new ≡ no_payload payload.old.gathering }
     {
-        self.body.kept = Some(kept);
+        self.body.kept.lend(self.alloc, payload);
     }
 
     /// The same with payload of which nothing was read yet.
@@ -176,7 +178,7 @@ impl<L: Link + Drop> Transfer<L> {
             ≡ record self.old
             { body = record self.old.body { kept = Some (no_payload gathering) } } }
     {
-        self.body.kept = Some(Payload::new(self.alloc, gathering));
+        self.body.kept.begin(self.alloc, gathering);
     }
 
     /// Notes no payload from here on, and drops what was noted.
@@ -184,9 +186,7 @@ impl<L: Link + Drop> Transfer<L> {
     pub fn drop_payload(&mut self)
         ensures { self.new ≡ record self.old { body = record self.old.body { kept = None } } }
     {
-        if self.body.kept.is_some() {
-            self.body.kept = None;
-        }
+        self.body.kept.stop();
     }
 
     /// The payload that was noted, where it is held.
@@ -194,7 +194,7 @@ impl<L: Link + Drop> Transfer<L> {
     pub fn held_payload(&self) -> Option<&[u8]>
         ensures { option_copied result ≡ held_of self.now.body.kept }
     {
-        match &self.body.kept {
+        match self.body.kept.get() {
             Some(kept) => kept.held(),
             None => None,
         }
@@ -207,19 +207,20 @@ impl<L: Link + Drop> Transfer<L> {
         ensures within { IfSome self.now.body.kept
             (λ kept. length kept.bytes ≤ kept.gathering.limit) }
     {
-        match &self.body.kept {
+        match self.body.kept.get() {
             Some(kept) => kept.len(),
             None => 0,
         }
     }
 
-    /// Hands out the payload that was noted, and notes none from here on.
+    /// Gives the payload that was noted back to its place, and notes none from here on.
     #[inline(always)]
-    pub fn take_payload(&mut self) -> Option<Payload>
-        ensures taken { result ≡ self.old.body.kept }
+    pub fn give_payload_back(&mut self, payload: &mut Payload)
+        requires { IsSome self.old.body.kept }
+        ensures given { Some payload.new ≡ self.old.body.kept }
         ensures rest { self.new ≡ record self.old { body = record self.old.body { kept = None } } }
     {
-        self.body.kept.take()
+        self.body.kept.give_back(payload);
     }
 
     /// Whether a read of the body was pending since this was last asked.

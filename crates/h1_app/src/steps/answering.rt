@@ -1,5 +1,5 @@
 //! The application runs, until it has replied.
-ghost use Rattle.std.specs.Prelude.{◌≡◌, [], ◌<◌, ◌≤◌, IfSome, IsSome, None, Some, true, false};
+ghost use Rattle.std.specs.Prelude.{◌≡◌, [], ◌<◌, ◌≤◌, length, IfSome, IsSome, None, Some, true, false};
 ghost use Rattle.h1_error.specs.declared.moment.TheConstants.{YEAR_10000};
 ghost use Rattle.h1_transcript.specs.Entry.{Entry, gathering_of};
 ghost use Rattle.h1_head.specs.Views.{RequestView};
@@ -14,18 +14,15 @@ ghost use Rattle.h1_app.specs.Turn.{LeavesBy};
 ghost use Rattle.h1_app.specs.Filtering.{FiltersStay};
 ghost use Rattle.h1_app.specs.Step.{StepReady, SteppedBy, Continues};
 
-use super::lending::{give_back, lend};
 use crate::exchange::{Exchange, Outcome, Stage};
 use crate::{Entry, How, Reply, ServeHttp};
 use futures::task::Poll;
 use h1_error::{End, Error, Waiting};
 use h1_link::Link;
 use h1_server::{HttpSession, Settings};
-use std::alloc::Global;
 
 /// Lets the application go on. What it reads of the body joins the exchange.
 pub(super) fn answer<L: Link + Drop, SV: ServeHttp<L, C> + Drop, C: Drop>(
-    alloc: Global,
     app: &SV,
     exchange: &mut Exchange<L, SV::Job, C>,
     now: u64,
@@ -44,7 +41,7 @@ pub(super) fn answer<L: Link + Drop, SV: ServeHttp<L, C> + Drop, C: Drop>(
     let Stage::Answer(job) = &mut exchange.stage else {
         unreachable!()
     };
-    let answer = ask(alloc, app, job, &mut exchange.session, entry, now);
+    let answer = ask(app, job, &mut exchange.session, entry, now);
     go_on(answer, &mut exchange.stage)
 }
 
@@ -79,7 +76,6 @@ pub enum Asked {
 
 /// Asks the application. The payload that the exchange has is lent to the session meanwhile.
 fn ask<L, SV, C>(
-    alloc: Global,
     app: &SV,
     job: &mut SV::Job,
     session: &mut HttpSession<L, C>,
@@ -101,7 +97,7 @@ where
     ensures plan { L.same_plan session.old.link session.new.link }
     ensures never_falls { SV.pends job.old ≤ SV.pends job.new }
 {
-    lend(alloc, session, entry);
+    entry.lend_payload(session);
     let answer = app.poll_response(job, session, now);
     let waits = session.take_waits();
     take_back(session, entry);
@@ -131,8 +127,9 @@ fn take_back<L: Link + Drop, C: Drop>(session: &mut HttpSession<L, C>, entry: &m
     ensures session { session.new
         ≡ record session.old { body = record session.old.body { kept = None } } }
     ensures entry { entry.new ≡ noted entry.old session.old }
+    ensures within { length entry.new.body ≤ entry.old.holding.limit }
 {
-    give_back(session, entry);
+    entry.take_payload_back(session);
     entry.note_reading(
         entry.body_len(),
         session.body_error(),

@@ -11,19 +11,16 @@ ghost use Rattle.h1_app.specs.Turn.{LeavesBy};
 ghost use Rattle.h1_app.specs.Filtering.{FiltersStay};
 ghost use Rattle.h1_app.specs.Step.{StepReady, SteppedBy, Continues};
 
-use super::lending::{give_back, lend};
 use crate::exchange::{Exchange, Outcome, Stage};
 use crate::{Entry, ServeHttp};
 use futures::task::Poll;
 use h1_error::{End, Error, Waiting};
 use h1_link::Link;
 use h1_server::HttpSession;
-use std::alloc::Global;
 
 /// Reads what the application left unread of the request's body. A connection that isn't kept ends,
 /// and so does one after whose request bytes came where none may.
 pub(super) fn drain<L: Link + Drop, SV: ServeHttp<L, C> + Drop, C: Drop>(
-    alloc: Global,
     app: &SV,
     exchange: &mut Exchange<L, SV::Job, C>,
     now: u64,
@@ -38,7 +35,7 @@ pub(super) fn drain<L: Link + Drop, SV: ServeHttp<L, C> + Drop, C: Drop>(
     ensures filters { FiltersStay exchange.old.transcript.last exchange.new.transcript.last }
 {
     let entry = exchange.transcript.last_entry();
-    let answer = reuse(alloc, &mut exchange.session, entry, now);
+    let answer = reuse(&mut exchange.session, entry, now);
     stand(&mut exchange.stage, &exchange.session, answer)
 }
 
@@ -71,7 +68,6 @@ fn stand<L: Link + Drop, J: Drop, C: Drop>(
 /// Asks the session for its link's reuse. The payload that the exchange has is lent to it meanwhile,
 /// where more of the body may be read.
 fn reuse<L: Link + Drop, C: Drop>(
-    alloc: Global,
     session: &mut HttpSession<L, C>,
     entry: &mut Entry,
     now: u64,
@@ -86,10 +82,12 @@ fn reuse<L: Link + Drop, C: Drop>(
     ensures plan { L.same_plan session.old.link session.new.link }
 {
     if session.is_body_read() {
+        // The payload is bounded by its limit.
+        let _len = entry.body_len();
         return session.poll_reuse(now);
     }
-    lend(alloc, session, entry);
+    entry.lend_payload(session);
     let answer = session.poll_reuse(now);
-    give_back(session, entry);
+    entry.take_payload_back(session);
     answer
 }

@@ -31,7 +31,40 @@ use std::alloc::Global;
 
 /// Reads a head, for which there is a minute. With one, its filters run and the application is
 /// started for its request.
-pub(super) fn read_head<L, SV, B, C>(
+#[inline(always)]
+pub(super) fn read<L, SV, B, C>(
+    alloc: Global,
+    server: &HttpServer<SV, B>,
+    modules: &mut HttpModuleCtx<B::Module>,
+    exchange: &mut Exchange<L, SV::Job, C>,
+    now: u64,
+    shutdown: bool,
+) -> Outcome
+where
+    L: Link + Drop,
+    SV: ServeHttp<L, C> + Drop,
+    B: HttpModuleBuilder + Drop,
+    C: Drop,
+    requires ready { StepReady (SV.runs server.now.app) now exchange.old }
+    requires at { exchange.old.stage ≡ at.Head }
+    ensures stepped { SteppedWith L.state SV.pends (SV.gives server.now.app) (SV.runs server.now.app)
+        (chain_of B.HttpModuleBuilder B.Module.HttpModule server.now.modules) now shutdown modules.new.modules
+        exchange.old exchange.new result }
+    ensures continues { Continues L.state L.same_plan SV.begins SV.pends exchange.old exchange.new
+        result }
+    ensures leaves { LeavesBy L.state exchange.old exchange.new result }
+{
+    // An outcome of its own is written by the call, so that those of the other steps, which make none,
+    // need no place in memory.
+    match read_head(alloc, server, modules, exchange, now, shutdown) {
+        Outcome::Done => Outcome::Done,
+        Outcome::Waits(what) => Outcome::Waits(what),
+        Outcome::Ends(end) => Outcome::Ends(end),
+    }
+}
+
+/// The same, apart from the loop over the steps.
+fn read_head<L, SV, B, C>(
     alloc: Global,
     server: &HttpServer<SV, B>,
     modules: &mut HttpModuleCtx<B::Module>,
@@ -146,12 +179,12 @@ where
 fn begin_entry(
     alloc: Global,
     request: &Request,
-    settings: Settings,
+    settings: &Settings,
     transcript: &mut Transcript,
 ) -> Result<(), Error>
     requires { transcript.old.last ≡ None }
     ensures ok { IfOk result (λ done. IfLast transcript.new.last (λ e.
-        IsNewEntry request.now settings e × (e.filtered ≡ Some request.now.header))) }
+        IsNewEntry request.now settings.now e × (e.filtered ≡ Some request.now.header))) }
     ensures err { IfErr result (λ error. (error ≡ no_memory) × (transcript.new.last ≡ None)) }
     ensures done { transcript.new.done ≡ transcript.old.done }
     ensures holding { transcript.new.holding ≡ transcript.old.holding }

@@ -247,7 +247,7 @@ fn go_on(rt: &impl Abort, played: &mut Played, reuses: Option<u32>) {
         reuses,
         ..next_settings()
     };
-    assert_eq!(rt; played.session.settings(), settings);
+    assert_eq!(rt; *played.session.settings(), settings);
 }
 
 /// Whether no request was read and no reply was begun.

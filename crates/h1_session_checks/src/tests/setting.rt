@@ -82,5 +82,5 @@ pub(crate) fn write_timeout(timed: &Timed) -> Option<u64> {
 
 /// All that is set.
 pub(crate) fn settings(timed: &Timed) -> Settings {
-    timed.session.settings()
+    *timed.session.settings()
 }

@@ -40,7 +40,11 @@ impl Entry {
     pub fn filtered(&self) -> Option<&RequestHeader>
         ensures { option_copied result ≡ kept_in self.now.holding.history self.now.filtered }
     {
-        self.filtered.as_ref()?.get()
+        if self.is_changed {
+            self.filtered.as_ref()?.get()
+        } else {
+            self.head.get()
+        }
     }
 
     /// All payload that was read, where exchanges are kept or the application uses the whole of it.
@@ -50,7 +54,7 @@ impl Entry {
         self.payload.held()
     }
 
-    /// How many bytes of payload were read: never more than the limit that is set.
+    /// How many bytes of payload were read: never more than its limit.
     #[inline(always)]
     pub fn body_len(&self) -> u64
         ensures value { result ≡ length self.now.body }
@@ -106,7 +110,11 @@ impl Entry {
     pub fn reply(&self) -> Option<&Reply>
         ensures { option_copied result ≡ self.now.reply }
     {
-        self.reply.as_ref()
+        if self.replied {
+            self.reply.as_ref()
+        } else {
+            None
+        }
     }
 
     /// The reply's header after the response filters, where exchanges are kept.

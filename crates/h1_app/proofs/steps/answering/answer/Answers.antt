@@ -1,5 +1,5 @@
 -- What was heard is what the step came to.
-use Rattle.std.proofs.Common.{refl, ap, ◌∙◌, Some}
+use Rattle.std.proofs.Common.{refl, ap, Some}
 use Rattle.h1_app.proofs.LeavesLemmas.{answer_leaves}
 use Rattle.h1_app.proofs.AnswerLemmas.{answer_job, answer_others, asked_filters, asked_others, asked_stepped}
 use Rattle.h1_app.proofs.steps.answering.answer.Goals as goal

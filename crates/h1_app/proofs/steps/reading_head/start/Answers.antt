@@ -7,7 +7,7 @@ use Rattle.h1_app.proofs.steps.reading_head.start.Goals as goal
 
 pub filter_head-requires : goal.filter_head-requires
 filter_head-requires g c =
-    begun_for c.in-Some.request.now c.settings-settings.result c.args.session.now.request
+    begun_for c.in-Some.request.now c.settings-settings.result.now c.args.session.now.request
     c.begin_entry.new.transcript.last c.in-Some.ensures c.in_ok-begin_entry.ensures.ok
 
 pub returns-in_err-filter_head-clause-started : goal.returns-in_err-filter_head-clause-started

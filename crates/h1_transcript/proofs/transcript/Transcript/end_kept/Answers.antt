@@ -1,4 +1,4 @@
-use Rattle.std.proofs.Common.{◌+◌, ◌-◌, ◌^◌, length, min, take, slice_get, ap, ◌∙◌, arith}
+use Rattle.std.proofs.Common.{◌+◌, ◌-◌, ◌^◌, min, take, slice_get, ap, ◌∙◌, arith}
 use Rattle.std.proofs.lemmas.Option.{slice_get_past}
 use Rattle.h1_transcript.proofs.EntryLemmas.{last_is, more_payload, one_more_ended, some_within}
 use Rattle.h1_transcript.proofs.transcript.Transcript.end_kept.Goals as goal
