@@ -12,7 +12,7 @@ ghost use Rattle.h1_greeting.specs.Stamped.{stamped, stamped_greeting};
 use crate::Greets;
 use crate::serving::{MOST_POLLS, serve};
 use bytes::Bytes;
-use h1_app::{Connection, HttpModule, HttpModuleBuilder, HttpServer, LawfulFor};
+use h1_app::{Connection, HttpModule, HttpModuleBuilder, HttpServer, LawfulFor, ServeHttp};
 use h1_error::Error;
 use h1_head::{Fields, RequestHeader, ResponseHeader};
 use h1_link::{Link, MemLink};
@@ -106,10 +106,11 @@ impl HttpModuleBuilder for Stamp {
     }
 }
 
-impl<L: Link + Drop, C: Drop> LawfulFor<L, C, Greets> for Stamp {
+// Whatever the application, its replies stay lawful.
+impl<L: Link + Drop, C: Drop, SV: ServeHttp<L, C>> LawfulFor<L, C, SV> for Stamp {
     ghost use Rattle.h1_greeting.specs.StampedLaw.{stamped_lawful};
 
-    ghost lawful = { λ app stamps. stamped_lawful stamps };
+    ghost lawful = { λ app stamps. stamped_lawful (SV.gives app) (SV.lawful app) stamps };
 }
 
 /// Serves a peer that sends these bytes and no more, behind [`Stamp`], until the connection ends or

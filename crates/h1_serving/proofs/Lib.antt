@@ -1,4 +1,5 @@
 pub mod WaitLemmas
 pub mod SinceLemmas
 pub mod ServeLemmas
+pub mod PlainCalls
 pub mod WholeLemmas

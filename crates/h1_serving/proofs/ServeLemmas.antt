@@ -13,19 +13,17 @@ use Rattle.h1_link.specs.Later.{Later}
 use Rattle.h1_link.specs.LinkState.{LinkState}
 use Rattle.h1_link.proofs.Laters.{later_itself, rose_read_faults, rose_read_waits}
 use Rattle.h1_head.specs.Views.{ResponseView}
-use Rattle.h1_transcript.specs.Rules.{ArePlain, Filters, Rules, plain}
+use Rattle.h1_transcript.specs.Refusals.{EndsBy}
+use Rattle.h1_transcript.specs.Rules.{Filters, Rules}
 use Rattle.h1_transcript.specs.Entry.{Entry}
 use Rattle.h1_transcript.specs.Agrees.{Agrees}
 use Rattle.h1_transcript.specs.Ends.{EndCause, FailureCause, StopsLast}
 use Rattle.h1_transcript.specs.Growth.{Stays, DatedAt, RoseFor, RefusedIn, Grows, IsBegun, Extends}
-use Rattle.h1_echo.specs.Echo.{EchoGives}
 use Rattle.h1_app.specs.Accounted.{Accounted}
 use Rattle.h1_app.specs.Causes.{Cause}
-use Rattle.h1_app.proofs.PlainCauses.{PlainCause, cause_plain}
-use Rattle.h1_transcript.proofs.PlainLemmas.{plain_agrees}
 use Rattle.h1_app.specs.Timely.{IsTimely}
 use Rattle.h1_app.specs.View.{View, entries, work_of}
-use Rattle.h1_serving.specs.Served.{IsUnpolled, KeptInCall, LeavesInCall, BeganInCall, Waited, WaitsFrom, AnswersFor, AnswersInTime}
+use Rattle.h1_serving.specs.Served.{IsUnpolled, KeptInCall, LeavesInCall, BeganInCall, WaitedBy, WaitsFrom, AnswersBy, AnswersInTime}
 use Rattle.h1_serving.proofs.SinceLemmas.{waits_on}
 use Rattle.h1_serving.proofs.WaitLemmas.{PollLeaves, at_none, leaves_none, leaves_on, waited_on, waited_none, waits_in_call}
 
@@ -178,9 +176,17 @@ ends_in_call before a b c done last end.Overread later h = h
 ends_in_call before a b c done last (end.Failed error) later h =
     (h.0, fails_in_call before a b c done last error error.kind later h.1)
 
+-- an end of the last poll, for a cause of its own or for a refusal, is one of the whole call
+stops_by : (filters : Filters) (before a b c : LinkState) (done : List Entry) (last : Option Entry)
+    (reason : End) → Later a b → EndsBy filters before b c done last reason
+    → EndsBy filters before a c done last reason
+stops_by filters before a b c done last reason later (inl h) =
+    inl (ends_in_call before a b c done last reason later h)
+stops_by filters before a b c done last reason later (inr refused) = inr refused
+
 -- one poll
-pub record IsPoll {L C A J : Type 0} (state : L → LinkState) (same_plan : L → L → Type 0)
-    (begins : J → Type 0) (now : ℕ)
+pub record IsPoll {L C A J : Type 0} (rules : A → Rules) (state : L → LinkState)
+    (same_plan : L → L → Type 0) (begins : J → Type 0) (pends : J → ℕ) (now : ℕ)
     (from to : View L C A J) (answer : Progress) : Type 0 where
   pub app : (to.served ≡ from.served) × (to.terms ≡ from.terms)
   pub later : Later (state from.session.link) (state to.session.link)
@@ -189,59 +195,49 @@ pub record IsPoll {L C A J : Type 0} (state : L → LinkState) (same_plan : L �
   pub accounted : (before : LinkState) → Accounted state before from.session from.done from.last
       → Accounted state before to.session to.done to.last
   pub agrees : (before : LinkState) → Accounted state before from.session from.done from.last
-      → Agrees (plain EchoGives) to.terms before (state to.session.link) (entries to)
+      → Agrees (rules to.served) to.terms before (state to.session.link) (entries to)
   pub extends : Extends now false (state from.session.link) (state to.session.link) (entries from)
       (entries to)
   pub cause : IfNone from.end ((before : LinkState)
       → Accounted state before from.session from.done from.last
-      → PlainCause state begins (λ _. 0) before from to answer)
+      → Cause (rules to.served).filters state begins pends before from to answer)
   pub timely : IfNone from.end (IsTimely state now from to answer)
 
-if_none : {P Q : Type 0} (end : Option End) → (P → Q) → IfNone end P → IfNone end Q
-if_none None f p = f p
-if_none (Some reason) f p = tt
-
--- one poll at the moment that the clock told, of a connection whose modules change nothing
-pub poll_of : {L C A J : Type 0} {state : L → LinkState} {same_plan : L → L → Type 0}
-    {begins : J → Type 0} {told now : ℕ} {from to : View L C A J} {answer : Progress}
-    (filters : Filters) → ArePlain filters → told ≡ now → (to.served ≡ from.served) × (to.terms ≡ from.terms)
+-- one poll at the moment that the clock told
+pub poll_of : {L C A J : Type 0} {rules : A → Rules} {state : L → LinkState}
+    {same_plan : L → L → Type 0} {begins : J → Type 0} {pends : J → ℕ} {told now : ℕ}
+    {from to : View L C A J} {answer : Progress}
+    → told ≡ now → (to.served ≡ from.served) × (to.terms ≡ from.terms)
     → Later (state from.session.link) (state to.session.link)
     → PollLeaves state from to answer → same_plan from.session.link to.session.link
     → ((before : LinkState) → Accounted state before from.session from.done from.last
     → Accounted state before to.session to.done to.last)
     → ((before : LinkState) → Accounted state before from.session from.done from.last
-    → Agrees (record { gives = EchoGives; filters = filters }) to.terms before (state to.session.link)
-    (entries to))
+    → Agrees (rules to.served) to.terms before (state to.session.link) (entries to))
     → Extends told false (state from.session.link) (state to.session.link) (entries from)
     (entries to)
     → IfNone from.end ((before : LinkState)
     → Accounted state before from.session from.done from.last
-    → Cause filters state begins (λ _. 0) before from to answer)
+    → Cause (rules to.served).filters state begins pends before from to answer)
     → IfNone from.end (IsTimely state told from to answer)
-    → IsPoll state same_plan begins now from to answer
-poll_of {state = state} {begins = begins} {from = from} {to = to} {answer = answer} filters none at
-    app later leaves plan accounted agrees extends cause timely =
-    let rules : Rules = record { gives = EchoGives; filters = filters } in
-    record {
+    → IsPoll rules state same_plan begins pends now from to answer
+poll_of {state = state} {from = from} {to = to} {answer = answer} at
+    app later leaves plan accounted agrees extends cause timely = record {
       app = app;
       later = later;
       leaves = leaves;
       plan = plan;
       accounted = accounted;
-      agrees = λ before h. plain_agrees rules none to.terms before (state to.session.link) (entries to)
-          (agrees before h);
+      agrees = agrees;
       extends = subst (λ now. Extends now false (state from.session.link) (state to.session.link)
           (entries from) (entries to)) at extends;
-      cause = if_none from.end
-          (λ why before h. cause_plain rules none state begins (λ _. 0) before from to answer
-          (why before h))
-          cause;
+      cause = cause;
       timely = subst (λ now. IfNone from.end (IsTimely state now from to answer)) at timely;
     }
 
 -- so many polls were made, and all waited
 pub record IsServing {L C A J : Type 0} (state : L → LinkState) (same_plan : L → L → Type 0)
-    (polls first now : ℕ)
+    (pends : J → ℕ) (polls first now : ℕ)
     (from to : View L C A J) : Type 0 where
   pub kept : KeptInCall same_plan first now from to
   pub leaves : LeavesInCall polls (state from.session.link) (state to.session.link) (entries to)
@@ -254,13 +250,13 @@ pub record IsServing {L C A J : Type 0} (state : L → LinkState) (same_plan : L
   pub alive : (before : LinkState) → Accounted state before from.session from.done from.last
       → to.end ≡ None
   pub waited : (before : LinkState) → Accounted state before from.session from.done from.last
-      → Waited polls (state from.session.link) (state to.session.link)
+      → WaitedBy pends polls (state from.session.link) (state to.session.link)
   pub waits : (before : LinkState) → Accounted state before from.session from.done from.last
       → WaitsFrom first (work_of to)
 
 -- what the call gives after its last poll
-pub record IsCall {L C A J : Type 0} (state : L → LinkState) (same_plan : L → L → Type 0)
-    (polls first now : ℕ)
+pub record IsCall {L C A J : Type 0} (rules : A → Rules) (state : L → LinkState)
+    (same_plan : L → L → Type 0) (pends : J → ℕ) (polls first now : ℕ)
     (from to : View L C A J) (answer : Progress) : Type 0 where
   pub kept : KeptInCall same_plan first now from to
   pub leaves : LeavesInCall polls (state from.session.link) (state to.session.link) (entries to)
@@ -268,12 +264,13 @@ pub record IsCall {L C A J : Type 0} (state : L → LinkState) (same_plan : L �
   pub accounted : (before : LinkState) → Accounted state before from.session from.done from.last
       → Accounted state before to.session to.done to.last
   pub agrees : (before : LinkState) → Accounted state before from.session from.done from.last
-      → Agrees (plain EchoGives) to.terms before (state to.session.link) (entries to)
+      → Agrees (rules to.served) to.terms before (state to.session.link) (entries to)
   pub served : AllByRecursion
       (BeganInCall first now (state from.session.link) (state to.session.link))
       (entries to)
   pub answers : (before : LinkState) → Accounted state before from.session from.done from.last
-      → AnswersFor state polls before (state from.session.link) to answer
+      → AnswersBy (rules to.served).filters state pends polls before (state from.session.link) to
+      answer
   pub timely : (before : LinkState) → Accounted state before from.session from.done from.last
       → AnswersInTime state first now from to answer
 
@@ -288,11 +285,11 @@ no_entries view h =
     ap (λ (es : List Entry). es ++ option_to_list view.last) h.done ∙ ap option_to_list h.last
 
 -- before the first poll
-pub serving_none : {L C A J : Type 0} (state : L → LinkState) (same_plan : L → L
-    → Type 0) (first : ℕ) (from : View L C A J)
+pub serving_none : {L C A J : Type 0} (state : L → LinkState) (same_plan : L → L → Type 0)
+    (pends : J → ℕ) (first : ℕ) (from : View L C A J)
     → same_plan from.session.link from.session.link → IsUnpolled from
-    → IsServing state same_plan 0 first first from from
-serving_none state same_plan first from plan new = record {
+    → IsServing state same_plan pends 0 first first from from
+serving_none state same_plan pends first from plan new = record {
   kept = record { served = refl; terms = refl; plan = plan; clock = omega arith };
   leaves = subst (LeavesInCall 0 (state from.session.link) (state from.session.link) (entries from))
       (sym new.end) (leaves_none (state from.session.link) (entries from));
@@ -301,17 +298,19 @@ serving_none state same_plan first from plan new = record {
       (AllByRecursion (BeganInCall first first (state from.session.link) (state from.session.link)))
       (sym (no_entries from new)) tt;
   alive = λ before h. new.end;
-  waited = λ before h. waited_none (state from.session.link)
+  waited = λ before h. waited_none pends (state from.session.link)
       (later_itself (state from.session.link));
   waits = λ before h. subst (WaitsFrom first) (sym new.work) tt;
 }
 
 -- what stays after one poll more
-kept_on : {L C A J : Type 0} {state : L → LinkState} {same_plan : L → L → Type 0} {begins : J
-    → Type 0} {polls first mid now : ℕ} {from at to : View L C A J} {answer : Progress}
+kept_on : {L C A J : Type 0} {rules : A → Rules} {state : L → LinkState}
+    {same_plan : L → L → Type 0} {begins : J → Type 0} {pends : J → ℕ}
+    {polls first mid now : ℕ} {from at to : View L C A J} {answer : Progress}
     → ((a b c : L) → same_plan a b → same_plan b c → same_plan a c) → mid ≤ now
-    → IsServing state same_plan polls first mid from at
-    → IsPoll state same_plan begins now at to answer → KeptInCall same_plan first now from to
+    → IsServing state same_plan pends polls first mid from at
+    → IsPoll rules state same_plan begins pends now at to answer
+    → KeptInCall same_plan first now from to
 kept_on {from = from} {at = at} {to = to} plan_on high s p = record {
   served = p.app.0 ∙ s.kept.served;
   terms = p.app.1 ∙ s.kept.terms;
@@ -319,17 +318,18 @@ kept_on {from = from} {at = at} {to = to} plan_on high s p = record {
   clock = omega (arith, s.kept.clock, high);
 }
 
-cause_of : {L C A J : Type 0} (state : L → LinkState) (same_plan : L → L → Type 0) (begins : J
-    → Type 0) (polls first mid now : ℕ)
+cause_of : {L C A J : Type 0} (rules : A → Rules) (state : L → LinkState)
+    (same_plan : L → L → Type 0) (begins : J → Type 0) (pends : J → ℕ) (polls first mid now : ℕ)
     (from at to : View L C A J) (answer : Progress)
-    → IsServing state same_plan polls first mid from at
-    → IsPoll state same_plan begins now at to answer
+    → IsServing state same_plan pends polls first mid from at
+    → IsPoll rules state same_plan begins pends now at to answer
     → (before : LinkState) → Accounted state before from.session from.done from.last
-    → PlainCause state begins (λ _. 0) before at to answer
-cause_of state same_plan begins polls first mid now from at to answer s p before h =
+    → Cause (rules to.served).filters state begins pends before at to answer
+cause_of rules state same_plan begins pends polls first mid now from at to answer s p before h =
     let asked =
     at_none at.end ((before : LinkState) → Accounted state before at.session at.done at.last
-    → PlainCause state begins (λ _. 0) before at to answer) (s.alive before h) p.cause in
+    → Cause (rules to.served).filters state begins pends before at to answer) (s.alive before h)
+    p.cause in
     asked before (s.accounted before h)
 
 pub waiting_of : (answer : Progress) → ((reason : End) → answer ≡ progress.Ready reason → ⊥)
@@ -342,26 +342,27 @@ pub never_waits : (answer : Progress) (reason : End) → answer ≡ progress.Rea
     → IsWaiting answer → ⊥
 never_waits answer reason is waits = subst IsWaiting is waits
 
-timely_of : {L C A J : Type 0} (state : L → LinkState) (same_plan : L → L → Type 0) (begins : J
-    → Type 0) (polls first mid now : ℕ) (from at to : View L C A J) (answer : Progress)
-    → IsServing state same_plan polls first mid from at
-    → IsPoll state same_plan begins now at to answer
+timely_of : {L C A J : Type 0} (rules : A → Rules) (state : L → LinkState)
+    (same_plan : L → L → Type 0) (begins : J → Type 0) (pends : J → ℕ) (polls first mid now : ℕ)
+    (from at to : View L C A J) (answer : Progress)
+    → IsServing state same_plan pends polls first mid from at
+    → IsPoll rules state same_plan begins pends now at to answer
     → (before : LinkState) → Accounted state before from.session from.done from.last
     → IsTimely state now at to answer
-timely_of state same_plan begins polls first mid now from at to answer s p before h =
+timely_of rules state same_plan begins pends polls first mid now from at to answer s p before h =
     at_none at.end (IsTimely state now at to answer) (s.alive before h) p.timely
 
 -- after one poll more that waited
-pub serving_on : {L C A J : Type 0} (state : L → LinkState) (same_plan : L → L → Type 0) (begins : J
-    → Type 0) (polls first mid now : ℕ)
+pub serving_on : {L C A J : Type 0} (rules : A → Rules) (state : L → LinkState)
+    (same_plan : L → L → Type 0) (begins : J → Type 0) (pends : J → ℕ) (polls first mid now : ℕ)
     (from at to : View L C A J) (answer : Progress)
     → ((a b c : L) → same_plan a b → same_plan b c → same_plan a c) → mid ≤ now
-    → IsServing state same_plan polls first mid from at
-    → IsPoll state same_plan begins now at to answer
-    → IsWaiting answer → IsServing state same_plan (polls + 1) first now from to
-serving_on state same_plan begins polls first mid now from at to
+    → IsServing state same_plan pends polls first mid from at
+    → IsPoll rules state same_plan begins pends now at to answer
+    → IsWaiting answer → IsServing state same_plan pends (polls + 1) first now from to
+serving_on rules state same_plan begins pends polls first mid now from at to
     (progress.Ready reason) plan_on high s p waits = absurd waits
-serving_on state same_plan begins polls first mid now from at to
+serving_on rules state same_plan begins pends polls first mid now from at to
     (progress.Pending what) plan_on high s p waits = record {
       kept = kept_on plan_on high s p;
       leaves = leaves_on state polls (polls + 1) now (state from.session.link) at to
@@ -371,60 +372,64 @@ serving_on state same_plan begins polls first mid now from at to
           (state to.session.link) (entries at) (entries to)
           s.kept.clock high s.leaves.later p.later s.served p.extends;
       alive = λ before h.
-          (cause_of state same_plan begins polls first mid now from at to
+          (cause_of rules state same_plan begins pends polls first mid now from at to
           (progress.Pending what) s p before h).0;
-      waited = λ before h. waited_on begins polls before (state from.session.link)
+      waited = λ before h. waited_on begins pends polls before (state from.session.link)
           (state at.session.link) (state to.session.link) at to what
           s.leaves.later p.later (s.waited before h)
-          (cause_of state same_plan begins polls first mid now from at to
+          (cause_of rules state same_plan begins pends polls first mid now from at to
           (progress.Pending what) s p before h).1;
       waits = λ before h. waits_on state first now at to what (omega (arith, s.kept.clock, high))
           (s.waits before h)
-          (timely_of state same_plan begins polls first mid now from at to (progress.Pending what) s p
-          before h);
+          (timely_of rules state same_plan begins pends polls first mid now from at to
+          (progress.Pending what) s p before h);
     }
 
 -- the answer of the last poll is that of the call
-answers_of : {L C A J : Type 0} (state : L → LinkState) (same_plan : L → L → Type 0) (begins : J
-    → Type 0) (polls most first mid now : ℕ)
+answers_of : {L C A J : Type 0} (rules : A → Rules) (state : L → LinkState)
+    (same_plan : L → L → Type 0) (begins : J → Type 0) (pends : J → ℕ)
+    (polls most first mid now : ℕ)
     (from at to : View L C A J) (answer : Progress) → (IsWaiting answer → polls + 1 ≡ most)
-    → IsServing state same_plan polls first mid from at
-    → IsPoll state same_plan begins now at to answer
+    → IsServing state same_plan pends polls first mid from at
+    → IsPoll rules state same_plan begins pends now at to answer
     → (before : LinkState) → Accounted state before from.session from.done from.last
-    → AnswersFor state most before (state from.session.link) to answer
-answers_of state same_plan begins polls most first mid now from at to
+    → AnswersBy (rules to.served).filters state pends most before (state from.session.link) to
+    answer
+answers_of rules state same_plan begins pends polls most first mid now from at to
     (progress.Ready reason) last s p before h =
     let cause =
-    cause_of state same_plan begins polls first mid now from at to
+    cause_of rules state same_plan begins pends polls first mid now from at to
     (progress.Ready reason) s p before h in (
       cause.0,
-      ends_in_call before (state from.session.link) (state at.session.link)
-          (state to.session.link) to.done to.last reason s.leaves.later cause.1,
+      stops_by (rules to.served).filters before (state from.session.link)
+          (state at.session.link) (state to.session.link) to.done to.last reason s.leaves.later
+          cause.1,
     )
-answers_of state same_plan begins polls most first mid now from at to
+answers_of rules state same_plan begins pends polls most first mid now from at to
     (progress.Pending what) last s p before h =
     let cause =
-    cause_of state same_plan begins polls first mid now from at to
+    cause_of rules state same_plan begins pends polls first mid now from at to
     (progress.Pending what) s p before h in (
       cause.0,
-      subst (λ n. Waited n (state from.session.link) (state to.session.link)) (last tt)
-          (waited_on begins polls before (state from.session.link) (state at.session.link)
+      subst (λ n. WaitedBy pends n (state from.session.link) (state to.session.link)) (last tt)
+          (waited_on begins pends polls before (state from.session.link) (state at.session.link)
           (state to.session.link) at to what
           s.leaves.later p.later (s.waited before h) cause.1),
-      waits_in_call begins before (state from.session.link) (state at.session.link)
+      waits_in_call begins pends before (state from.session.link) (state at.session.link)
           (state to.session.link) at to what s.leaves.later p.later cause.1,
     )
 
 -- what the call gives
-pub call_of : {L C A J : Type 0} (state : L → LinkState) (same_plan : L → L → Type 0) (begins : J
-    → Type 0) (polls most first mid now : ℕ)
+pub call_of : {L C A J : Type 0} (rules : A → Rules) (state : L → LinkState)
+    (same_plan : L → L → Type 0) (begins : J → Type 0) (pends : J → ℕ)
+    (polls most first mid now : ℕ)
     (from at to : View L C A J) (answer : Progress)
     → ((a b c : L) → same_plan a b → same_plan b c → same_plan a c) → mid ≤ now
     → (IsWaiting answer → polls + 1 ≡ most) → polls + 1 ≤ most
-    → IsServing state same_plan polls first mid from at
-    → IsPoll state same_plan begins now at to answer
-    → IsCall state same_plan most first now from to answer
-call_of state same_plan begins polls most first mid now from at to answer
+    → IsServing state same_plan pends polls first mid from at
+    → IsPoll rules state same_plan begins pends now at to answer
+    → IsCall rules state same_plan pends most first now from to answer
+call_of rules state same_plan begins pends polls most first mid now from at to answer
     plan_on high last few s p =
     record {
       kept = kept_on plan_on high s p;
@@ -436,7 +441,8 @@ call_of state same_plan begins polls most first mid now from at to answer
           (state to.session.link) (entries at) (entries to)
           s.kept.clock high s.leaves.later p.later s.served p.extends;
       answers =
-          answers_of state same_plan begins polls most first mid now from at to answer last s p;
+          answers_of rules state same_plan begins pends polls most first mid now from at to answer
+          last s p;
       timely = λ before h. record {
         now = now;
         after = omega (arith, s.kept.clock, high);
@@ -445,6 +451,7 @@ call_of state same_plan begins polls most first mid now from at to answer
         on = s.leaves.later;
         waits = s.waits before h;
         timely =
-            timely_of state same_plan begins polls first mid now from at to answer s p before h;
+            timely_of rules state same_plan begins pends polls first mid now from at to answer s p
+            before h;
       };
     }

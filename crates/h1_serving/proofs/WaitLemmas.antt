@@ -23,26 +23,34 @@ use Rattle.h1_app.specs.declared.exchange.Stage.TheVariants as stage
 use Rattle.h1_app.specs.Causes.{PendedNew, PendedOn, PendedBy, WaitCause}
 use Rattle.h1_app.specs.Leaves.{Leaves, NotesFault, WritesHeld, ReadsHeld, ReadsHeldBy, ShutBy}
 use Rattle.h1_app.specs.View.{View, entries}
-use Rattle.h1_serving.specs.Served.{NotedIn, LeavesInCall, Waited, WaitsFor}
+use Rattle.h1_serving.specs.Served.{NotedIn, LeavesInCall, PendedLast, PendedOnce, WaitedBy, WaitsFor}
 
--- an application whose count never rises is not waited for
-never_new : {J : Type 0} (begins : J → Type 0) (to : Stage J) → PendedNew begins (λ _. 0) to → ⊥
-never_new begins (stage.Answer job) p = omega (arith, p.2)
-never_new begins _ p = p
+-- a poll that waited for the application leaves a job whose count rose
+pended_new : {J : Type 0} (begins : J → Type 0) (pends : J → ℕ) (to : Stage J)
+    → PendedNew begins pends to → PendedLast pends to
+pended_new begins pends (stage.Answer job) p = (p.0, p.2)
+pended_new begins pends _ p = p
 
-never_on : {J : Type 0} (begins : J → Type 0) (from to : Stage J) → PendedOn begins (λ _. 0) from to
-    → ⊥
-never_on begins (stage.Answer before) (stage.Answer job) p = omega (arith, p)
-never_on begins stage.Head to p = never_new begins to p
-never_on begins (stage.Answer before) _ p = p
-never_on begins _ to p = p
+pended_on : {J : Type 0} (begins : J → Type 0) (pends : J → ℕ) (from to : Stage J)
+    → PendedOn begins pends from to → PendedLast pends to
+pended_on begins pends (stage.Answer before) (stage.Answer job) p = (before, p)
+pended_on begins pends stage.Head to p = pended_new begins pends to p
+pended_on begins pends (stage.Answer before) _ p = p
+pended_on begins pends _ to p = absurd p
 
-pub never_pends : {L C A J : Type 0} (begins : J → Type 0) (from to : View L C A J)
-    → PendedBy begins (λ _. 0) from.done to.done from.stage to.stage → ⊥
-never_pends begins from to p = by (cases_lt (length from.done) (length to.done)) where
-  by : (length from.done < length to.done) ⊎ (length to.done ≤ length from.done) → ⊥
-  by (inl more) = never_new begins to.stage (p.later more)
-  by (inr few) = never_on begins from.stage to.stage (p.same (omega (arith, few, p.longer)))
+pub pended_last : {L C A J : Type 0} (begins : J → Type 0) (pends : J → ℕ) (from to : View L C A J)
+    → PendedBy begins pends from.done to.done from.stage to.stage → PendedLast pends to.stage
+pended_last begins pends from to p = by (cases_lt (length from.done) (length to.done)) where
+  by : (length from.done < length to.done) ⊎ (length to.done ≤ length from.done)
+      → PendedLast pends to.stage
+  by (inl more) = pended_new begins pends to.stage (p.later more)
+  by (inr few) =
+      pended_on begins pends from.stage to.stage (p.same (omega (arith, few, p.longer)))
+
+pended_once : {J : Type 0} (pends : J → ℕ) (to : Stage J) → PendedLast pends to
+    → (job : J) × PendedOnce pends job
+pended_once pends (stage.Answer job) p = (job, p)
+pended_once pends _ p = absurd p
 
 -- bytes that were told of stay told of
 told_more : (g w : Option (List ℕ)) (gs gt ws wt : List ℕ) (count more : ℕ)
@@ -99,76 +107,105 @@ told_later a b later =
     (told_none a.given a.written later.given.0 later.written.0))
 
 -- no poll was made
-pub waited_none : (a : LinkState) → Later a a → Waited 0 a a
-waited_none a later = record {
-  reads = 0;
-  writes = 0;
-  budgets = 0;
-  all = refl;
-  reads_rose = omega arith;
-  writes_rose = omega arith;
-  moves_rose = omega arith;
-  moved = told_later a a later;
-}
+pub waited_none : {J : Type 0} (pends : J → ℕ) (a : LinkState) → Later a a → WaitedBy pends 0 a a
+waited_none pends a later = (
+  0,
+  record {
+    reads = 0;
+    writes = 0;
+    budgets = 0;
+    all = refl;
+    reads_rose = omega arith;
+    writes_rose = omega arith;
+    moves_rose = omega arith;
+    moved = told_later a a later;
+  },
+  λ some. absurd (omega (arith, some)),
+)
 
 told_count : (a b : LinkState) (m n : ℕ) → m ≡ n → ToldGrowth a.given b.given a.written b.written m
     → ToldGrowth a.given b.given a.written b.written n
 told_count a b m n same h = subst (λ k. ToldGrowth a.given b.given a.written b.written k) same h
 
 -- one poll more waited
-pub waited_on : {L C A J : Type 0} (begins : J
-    → Type 0) (polls : ℕ) (before a b c : LinkState) (from to : View L C A J) (what : Waiting)
-    → Later a b → Later b c → Waited polls a b → WaitCause begins (λ _. 0) before b c from to what
-    → Waited (polls + 1) a c
-waited_on begins polls before a b c from to waiting.Read first second w cause = record {
-  reads = w.reads + 1;
-  writes = w.writes;
-  budgets = w.budgets;
-  all = omega (arith, w.all);
-  reads_rose = let rose = cause.0 in omega (arith, rose, w.reads_rose);
-  writes_rose = omega (arith, w.writes_rose, second.counts.write_waits);
-  moves_rose = omega (arith, w.moves_rose, second.counts.moves);
-  moved = told_count a c (CALL_BUDGET * w.budgets + 0) (CALL_BUDGET * w.budgets) (omega arith)
-      (told_on a b c (CALL_BUDGET * w.budgets) 0 first second w.moved (told_later b c second));
-}
-waited_on begins polls before a b c from to waiting.Write first second w cause = record {
-  reads = w.reads;
-  writes = w.writes + 1;
-  budgets = w.budgets;
-  all = omega (arith, w.all);
-  reads_rose = omega (arith, w.reads_rose, second.counts.read_waits);
-  writes_rose = let rose = cause.0 in omega (arith, rose, w.writes_rose);
-  moves_rose = omega (arith, w.moves_rose, second.counts.moves);
-  moved = told_count a c (CALL_BUDGET * w.budgets + 0) (CALL_BUDGET * w.budgets) (omega arith)
-      (told_on a b c (CALL_BUDGET * w.budgets) 0 first second w.moved (told_later b c second));
-}
-waited_on begins polls before a b c from to waiting.App first second w cause =
-    absurd (never_pends begins from to cause.1)
-waited_on begins polls before a b c from to waiting.Budget first second w cause = record {
-  reads = w.reads;
-  writes = w.writes;
-  budgets = w.budgets + 1;
-  all = omega (arith, w.all);
-  reads_rose = omega (arith, w.reads_rose, second.counts.read_waits);
-  writes_rose = omega (arith, w.writes_rose, second.counts.write_waits);
-  moves_rose = let rose = cause.0 in omega (arith, rose, w.moves_rose);
-  moved = told_count a c (CALL_BUDGET * w.budgets + CALL_BUDGET) (CALL_BUDGET * (w.budgets + 1))
-      (omega arith)
-      (told_on a b c (CALL_BUDGET * w.budgets) CALL_BUDGET first second w.moved cause.1);
-}
+pub waited_on : {L C A J : Type 0} (begins : J → Type 0) (pends : J → ℕ) (polls : ℕ)
+    (before a b c : LinkState) (from to : View L C A J) (what : Waiting)
+    → Later a b → Later b c → WaitedBy pends polls a b
+    → WaitCause begins pends before b c from to what → WaitedBy pends (polls + 1) a c
+waited_on begins pends polls before a b c from to waiting.Read first second (apps, w, job) why = (
+  apps,
+  record {
+    reads = w.reads + 1;
+    writes = w.writes;
+    budgets = w.budgets;
+    all = omega (arith, w.all);
+    reads_rose = let rose = why.0 in omega (arith, rose, w.reads_rose);
+    writes_rose = omega (arith, w.writes_rose, second.counts.write_waits);
+    moves_rose = omega (arith, w.moves_rose, second.counts.moves);
+    moved = told_count a c (CALL_BUDGET * w.budgets + 0) (CALL_BUDGET * w.budgets) (omega arith)
+        (told_on a b c (CALL_BUDGET * w.budgets) 0 first second w.moved (told_later b c second));
+  },
+  job,
+)
+waited_on begins pends polls before a b c from to waiting.Write first second (apps, w, job) why = (
+  apps,
+  record {
+    reads = w.reads;
+    writes = w.writes + 1;
+    budgets = w.budgets;
+    all = omega (arith, w.all);
+    reads_rose = omega (arith, w.reads_rose, second.counts.read_waits);
+    writes_rose = let rose = why.0 in omega (arith, rose, w.writes_rose);
+    moves_rose = omega (arith, w.moves_rose, second.counts.moves);
+    moved = told_count a c (CALL_BUDGET * w.budgets + 0) (CALL_BUDGET * w.budgets) (omega arith)
+        (told_on a b c (CALL_BUDGET * w.budgets) 0 first second w.moved (told_later b c second));
+  },
+  job,
+)
+waited_on begins pends polls before a b c from to waiting.App first second (apps, w, job) why = (
+  apps + 1,
+  record {
+    reads = w.reads;
+    writes = w.writes;
+    budgets = w.budgets;
+    all = omega (arith, w.all);
+    reads_rose = omega (arith, w.reads_rose, second.counts.read_waits);
+    writes_rose = omega (arith, w.writes_rose, second.counts.write_waits);
+    moves_rose = omega (arith, w.moves_rose, second.counts.moves);
+    moved = told_count a c (CALL_BUDGET * w.budgets + 0) (CALL_BUDGET * w.budgets) (omega arith)
+        (told_on a b c (CALL_BUDGET * w.budgets) 0 first second w.moved (told_later b c second));
+  },
+  λ more. pended_once pends to.stage (pended_last begins pends from to why.1),
+)
+waited_on begins pends polls before a b c from to waiting.Budget first second (apps, w, job) why = (
+  apps,
+  record {
+    reads = w.reads;
+    writes = w.writes;
+    budgets = w.budgets + 1;
+    all = omega (arith, w.all);
+    reads_rose = omega (arith, w.reads_rose, second.counts.read_waits);
+    writes_rose = omega (arith, w.writes_rose, second.counts.write_waits);
+    moves_rose = let rose = why.0 in omega (arith, rose, w.moves_rose);
+    moved = told_count a c (CALL_BUDGET * w.budgets + CALL_BUDGET) (CALL_BUDGET * (w.budgets + 1))
+        (omega arith)
+        (told_on a b c (CALL_BUDGET * w.budgets) CALL_BUDGET first second w.moved why.1);
+  },
+  job,
+)
 
 -- what a poll waits for, it waits for in the whole call
-pub waits_in_call : {L C A J : Type 0} (begins : J
-    → Type 0) (before a b c : LinkState) (from to : View L C A J) (what : Waiting)
-    → Later a b → Later b c → WaitCause begins (λ _. 0) before b c from to what
-    → WaitsFor before a c to.done to.last what
-waits_in_call begins before a b c from to waiting.Read first second cause =
+pub waits_in_call : {L C A J : Type 0} (begins : J → Type 0) (pends : J → ℕ)
+    (before a b c : LinkState) (from to : View L C A J) (what : Waiting)
+    → Later a b → Later b c → WaitCause begins pends before b c from to what
+    → WaitsFor (PendedLast pends to.stage) before a c to.done to.last what
+waits_in_call begins pends before a b c from to waiting.Read first second cause =
     (let rose = cause.0 in omega (arith, rose, first.counts.read_waits), cause.1)
-waits_in_call begins before a b c from to waiting.Write first second cause =
+waits_in_call begins pends before a b c from to waiting.Write first second cause =
     (let rose = cause.0 in omega (arith, rose, first.counts.write_waits), cause.1)
-waits_in_call begins before a b c from to waiting.App first second cause =
-    never_pends begins from to cause.1
-waits_in_call begins before a b c from to waiting.Budget first second cause = (
+waits_in_call begins pends before a b c from to waiting.App first second cause =
+    pended_last begins pends from to cause.1
+waits_in_call begins pends before a b c from to waiting.Budget first second cause = (
   let rose = cause.0 in omega (arith, rose, first.counts.moves),
   told_count a c (0 + CALL_BUDGET) CALL_BUDGET (omega arith)
       (told_on a b c 0 CALL_BUDGET first second (told_later a b first) cause.1),

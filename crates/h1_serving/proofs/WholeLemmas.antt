@@ -189,7 +189,7 @@ over count first last view answer c =
 -- it never waits until its last poll
 never_pending : {C A J : Type 0} (count first last : ℕ) (view : View MemState C A J)
     (answer : Progress) → IsCalled count first last view answer
-    → Waited MOST_POLLS new_mem_state.state view.session.link.state → ⊥
+    → Waited 0 MOST_POLLS new_mem_state.state view.session.link.state → ⊥
 never_pending count first last view answer c w =
     let never = never_waits (generated count) view.session.link c.fed c.rule in
     let told = c.rule.written in

@@ -1,19 +1,23 @@
 -- What serving a connection by one call leaves and answers.
-use Rattle.std.specs.Prelude.{◌≡◌, ◌⊎◌, ℕ, ◌+◌, ◌*◌, ◌/◌, ◌≤◌, List, [], ◌∷◌, length, true, false, Option, Some, None, IfSome}
+use Rattle.std.specs.Prelude.{◌≡◌, ◌⊎◌, ℕ, ◌+◌, ◌*◌, ◌/◌, ◌<◌, ◌≤◌, List, [], ◌∷◌, length, true, false, Option, Some, None, IfSome}
 use Rattle.h1_error.specs.declared.progress.End.{End}
 use Rattle.h1_error.specs.declared.progress.Waiting.{Waiting}
 use Rattle.h1_error.specs.declared.progress.Waiting.TheVariants as waiting
 use Rattle.h1_error.specs.declared.progress.Progress.{Progress}
 use Rattle.h1_error.specs.declared.progress.Progress.TheVariants as progress
-use Rattle.h1_link.specs.Counts.{Rose, RoseBy}
+use Rattle.h1_link.specs.Counts.{Rose, RoseBy, raised}
 use Rattle.h1_link.specs.Later.{Later}
 use Rattle.h1_link.specs.LinkState.{LinkState}
 use Rattle.h1_transcript.specs.Entry.{Entry}
 use Rattle.h1_transcript.specs.Ends.{EndCause, LacksSo, OfLast}
 use Rattle.h1_transcript.specs.Entries.{replies}
 use Rattle.h1_transcript.specs.Growth.{RefusedIn}
+use Rattle.h1_transcript.specs.Refusals.{EndsBy}
+use Rattle.h1_transcript.specs.Rules.{Filters}
 use Rattle.h1_transcript.specs.Told.{ToldGrowth}
 use Rattle.h1_transfer.specs.declared.budget.TheConstants.{CALL_BUDGET}
+use Rattle.h1_app.specs.declared.exchange.Stage.{Stage}
+use Rattle.h1_app.specs.declared.exchange.Stage.TheVariants as stage
 use Rattle.h1_app.specs.Leaves.{NotesFault, WritesHeld, ReadsHeld, ShutBy}
 use Rattle.h1_app.specs.Timely.{IsTimely}
 use Rattle.h1_app.specs.View.{Served, View, work_of}
@@ -70,37 +74,64 @@ pub record BeganInCall (first last : ℕ) (before behind : LinkState) (e : Entry
       × (e.date ≡ now / 1000))
   pub refused : RefusedIn before behind None e.body_error
 
--- So many polls waited: some for a read, some for a write or a flush, and the others for their
--- budget. The counts of the link rose by as many, and the budgets moved as many bytes.
-pub record Waited (polls : ℕ) (old now : LinkState) : Type 0 where
+-- So many polls waited: `apps` of them for the application, some for a read, some for a write or a
+-- flush, and the others for their budget. The counts of the link rose by as many, and the budgets
+-- moved as many bytes.
+pub record Waited (apps polls : ℕ) (old now : LinkState) : Type 0 where
   pub reads : ℕ
   pub writes : ℕ
   pub budgets : ℕ
-  pub all : reads + writes + budgets ≡ polls
+  pub all : apps + reads + writes + budgets ≡ polls
   pub reads_rose : RoseBy reads old.read_waits now.read_waits
   pub writes_rose : RoseBy writes old.write_waits now.write_waits
   pub moves_rose : RoseBy (CALL_BUDGET * budgets) old.moves now.moves
   pub moved : ToldGrowth old.given now.given old.written now.written (CALL_BUDGET * budgets)
 
--- what the last poll waits for: never for the application
-abbrev pub WaitsFor : LinkState → LinkState → LinkState → List Entry → Option Entry → Waiting
-    → Type 0
-WaitsFor before old now done last waiting.Read =
+-- a job was not ready by itself: its count rose by one
+abbrev pub PendedOnce : {J : Type 0} → (J → ℕ) → J → Type 0
+PendedOnce {J} pends job = (before : J) × (pends job ≡ raised (pends before) 1)
+
+-- so is the job of the exchange that is last
+abbrev pub PendedLast : {J : Type 0} → (J → ℕ) → Stage J → Type 0
+PendedLast pends (stage.Answer job) = PendedOnce pends job
+PendedLast pends _ = ⊥
+
+-- so many polls waited; where some waited for the application, a job of it was not ready by itself
+abbrev pub WaitedBy : {J : Type 0} → (J → ℕ) → ℕ → LinkState → LinkState → Type 0
+WaitedBy {J} pends polls old now = (apps : ℕ) × Waited apps polls old now
+    × (0 < apps → (job : J) × PendedOnce pends job)
+
+-- what the last poll waits for; `app` is said of a wait for the application
+abbrev pub WaitsFor : Type 0 → LinkState → LinkState → LinkState → List Entry → Option Entry
+    → Waiting → Type 0
+WaitsFor app before old now done last waiting.Read =
     Rose old.read_waits now.read_waits × LacksSo before now done last
-WaitsFor before old now done last waiting.Write =
+WaitsFor app before old now done last waiting.Write =
     Rose old.write_waits now.write_waits × OfLast last (λ e. e.owed ≡ true)
-WaitsFor before old now done last waiting.App = ⊥
-WaitsFor before old now done last waiting.Budget = RoseBy CALL_BUDGET old.moves now.moves
+WaitsFor app before old now done last waiting.App = app
+WaitsFor app before old now done last waiting.Budget = RoseBy CALL_BUDGET old.moves now.moves
     × ToldGrowth old.given now.given old.written now.written CALL_BUDGET
 
 -- When the call gives each answer: it waits only after so many polls that all waited, and an end
--- has its cause in this call; `before` is the link's state since which bytes count.
+-- has its cause in this call; `before` is the link's state since which bytes count, `filters` are
+-- those of the modules, and `pends` counts how often a job was not ready by itself.
+abbrev pub AnswersBy : {L C A J : Type 0} → Filters → (L → LinkState) → (J → ℕ) → ℕ → LinkState
+    → LinkState → View L C A J → Progress → Type 0
+AnswersBy filters state pends polls before old to (progress.Pending what) =
+    (to.end ≡ None) × WaitedBy pends polls old (state to.session.link)
+    × WaitsFor (PendedLast pends to.stage) before old (state to.session.link) to.done to.last what
+AnswersBy filters state pends polls before old to (progress.Ready reason) =
+    (to.end ≡ Some reason)
+    × EndsBy filters before old (state to.session.link) to.done to.last reason
+
+-- The same where no module refuses and the application is never waited for, as with the echo
+-- application without modules.
 abbrev pub AnswersFor : {L C A J : Type 0} → (L → LinkState) → ℕ → LinkState → LinkState
     → View L C A J
     → Progress → Type 0
 AnswersFor state polls before old to (progress.Pending what) =
-    (to.end ≡ None) × Waited polls old (state to.session.link)
-    × WaitsFor before old (state to.session.link) to.done to.last what
+    (to.end ≡ None) × Waited 0 polls old (state to.session.link)
+    × WaitsFor ⊥ before old (state to.session.link) to.done to.last what
 AnswersFor state polls before old to (progress.Ready reason) =
     (to.end ≡ Some reason)
     × EndCause before old (state to.session.link) to.done to.last reason

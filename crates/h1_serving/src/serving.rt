@@ -2,13 +2,12 @@
 ghost use Rattle.std.specs.List.{AllByRecursion};
 ghost use Rattle.h1_link.specs.LinkState.{LinkState};
 ghost use Rattle.h1_transcript.specs.Agrees.{Agrees};
-ghost use Rattle.h1_transcript.specs.Rules.{plain};
 ghost use Rattle.h1_app.specs.Accounted.{Accounted};
+ghost use Rattle.h1_app.specs.Filtering.{rules_of};
 ghost use Rattle.h1_app.specs.View.{entries};
-ghost use Rattle.h1_echo.specs.Echo.{EchoGives};
-ghost use Rattle.h1_serving.specs.Served.{IsUnpolled, KeptInCall, LeavesInCall, BeganInCall, AnswersFor, AnswersInTime};
+ghost use Rattle.h1_serving.specs.Served.{IsUnpolled, KeptInCall, LeavesInCall, BeganInCall, AnswersBy, AnswersInTime};
 
-use h1_app::{Connection, EchoApp, NoModules};
+use h1_app::{Connection, EchoApp, LawfulFor, NoModules, ServeHttp};
 use h1_error::Progress;
 use h1_link::{Clock, Link};
 
@@ -20,7 +19,16 @@ pub type Echoed<L> = Connection<L, EchoApp, NoModules, ()>;
 
 /// Polls a connection at the clock's moments until it ends, at most [`MOST_POLLS`] times, and
 /// answers what the last poll answered.
-pub fn serve_link<L: Link + Drop, T: Clock>(connection: &mut Echoed<L>, clock: &mut T) -> Progress
+pub fn serve_link<L, SV, B, C, T>(
+    connection: &mut Connection<L, SV, B, C>,
+    clock: &mut T,
+) -> Progress
+where
+    L: Link + Drop,
+    SV: ServeHttp<L, C> + Drop,
+    B: LawfulFor<L, C, SV> + Drop,
+    C: Drop,
+    T: Clock,
     requires { IsUnpolled connection.old }
     ensures kept { KeptInCall L.same_plan (T.moment clock.old) (T.moment clock.new) connection.old
         connection.new }
@@ -32,15 +40,17 @@ pub fn serve_link<L: Link + Drop, T: Clock>(connection: &mut Echoed<L>, clock: &
         connection.new.last }
     ensures agrees { (before : LinkState)
         → Accounted L.state before connection.old.session connection.old.done connection.old.last
-        → Agrees (plain EchoGives) connection.new.terms before (L.state connection.new.session.link)
+        → Agrees (rules_of SV.gives B.HttpModuleBuilder B.Module.HttpModule connection.new.served)
+        connection.new.terms before (L.state connection.new.session.link)
         (entries connection.new) }
     ensures served { AllByRecursion (BeganInCall (T.moment clock.old) (T.moment clock.new)
         (L.state connection.old.session.link) (L.state connection.new.session.link))
         (entries connection.new) }
     ensures answer { (before : LinkState)
         → Accounted L.state before connection.old.session connection.old.done connection.old.last
-        → AnswersFor L.state MOST_POLLS before (L.state connection.old.session.link)
-        connection.new result }
+        → AnswersBy (rules_of SV.gives B.HttpModuleBuilder B.Module.HttpModule
+        connection.new.served).filters L.state SV.pends MOST_POLLS before
+        (L.state connection.old.session.link) connection.new result }
     ensures timely { (before : LinkState)
         → Accounted L.state before connection.old.session connection.old.done connection.old.last
         → AnswersInTime L.state (T.moment clock.old) (T.moment clock.new) connection.old

@@ -1,6 +1,9 @@
 use Rattle.std.proofs.Common.{subst, sym}
 use Rattle.h1_link.specs.MemRule.{Rule}
+use Rattle.h1_link.specs.MemState.{MemState}
+use Rattle.h1_serving.specs.declared.serving.TheConstants.{MOST_POLLS}
 use Rattle.h1_serving.specs.Whole.{IsServedWhole}
+use Rattle.h1_serving.proofs.PlainCalls.{echoed_agrees, echoed_answers}
 use Rattle.h1_serving.proofs.WholeLemmas.{called, whole_of, memory_of, if_ok, if_err}
 use Rattle.h1_serving.proofs.generated.serve_gen.Goals as goal
 
@@ -18,9 +21,11 @@ returns c =
       plan = s.kept.plan;
       shut = s.leaves.shut;
       accounted = s.accounted;
-      agrees = s.agrees;
+      agrees = λ before h. echoed_agrees _ before _ to (s.agrees before h);
       served = s.served;
-      answers = s.answer;
+      answers = λ before h. echoed_answers (λ (link : MemState). link.state) MOST_POLLS before _ to
+          answer
+          (s.answer before h);
     }) in
     record {
       ok = if_ok c.handed_back.result _ _

@@ -1,0 +1,5 @@
+pub mod AnyLawful
+pub mod Gate
+pub mod GateLaw
+pub mod Hello
+pub mod Reply
