@@ -3,13 +3,13 @@ use Rattle.h1_app.specs.Waits.{OthersFew}
 use Rattle.h1_app.specs.Step.{JobFrom}
 use Rattle.std.proofs.Common.{◌≡◌, ℕ, ◌+◌, ◌-◌, ◌<◌, ◌≤◌, ◌⊎◌, inl, inr, List, [], ◌∷◌, ◌++◌, Bool, true, false, Option, Some, None, IfSome, option_map, refl, sym, ◌∙◌, ap, subst, length, length-append, arith}
 use Rattle.std.proofs.lemmas.Option.{IfSome_then, same_Some}
-use Rattle.h1_app.specs.Words.{Given, Rules, Error, ErrorType, no_memory, BodyRefusal, LinkState, Rose, RequestView, SessionView, Settings, Request, Reply, Entry, Exchange, Stage, ReadsOnly, given_to, how_of, payload_of, LacksSo, IsAllowed, Grows, Stays, Payload, grown, payload_in}
+use Rattle.h1_app.specs.Words.{Given, Rules, Error, ErrorType, no_memory, LinkState, Rose, RequestView, SessionView, Settings, Request, Reply, Entry, Exchange, Stage, ReadsOnly, given_to, how_of, payload_of, LacksSo, IsAllowed, Grows, Stays, Payload, grown, payload_in}
 use Rattle.h1_error.specs.declared.error.ErrorType.TheVariants as kind
 use Rattle.h1_app.specs.declared.exchange.Stage.TheVariants as stage
 use Rattle.h1_app.specs.Heard.{Heard}
 use Rattle.h1_app.specs.Heard as asked
 use Rattle.h1_error.specs.declared.progress.Waiting.TheVariants as waiting
-use Rattle.h1_application.specs.Application.{IsAskedFor, ReadsInTime, RefusedBy, RefusesWith, WaitsBy, Runs}
+use Rattle.h1_application.specs.Application.{FailsRead, IsAskedFor, ReadsInTime, RefusedBy, RefusesWith, WaitsBy, Runs}
 use Rattle.h1_application.proofs.TimeLemmas.{limit_is, limit_stays}
 use Rattle.h1_app.specs.Asking.{PendsAsked, RunsOn, entry_after, outcome_after, stage_after}
 use Rattle.h1_app.proofs.ReplyLemmas.{at_some}
@@ -54,7 +54,7 @@ payload_is state old behind payload r = ap noted_of r.kept
 -- a refusal in the call says why the body can't be read on
 refusal_stops : {L C : Type 0} (state : L → LinkState) (old behind : SessionView L C)
     (payload : Payload) → behind.body.kept ≡ Some payload
-    → (k : ErrorType) → BodyRefusal state old behind k → StopsBody state behind payload k
+    → (k : ErrorType) → FailsRead state old behind k → StopsBody state behind payload k
 refusal_stops state old behind payload is kind.InvalidBody h = h
 refusal_stops state old behind payload is kind.ConnectionClosed h = h
 refusal_stops state old behind payload is kind.ReadError h = h.1
@@ -286,7 +286,7 @@ refused_in : {L C : Type 0} (state : L → LinkState) (old behind : SessionView 
 refused_in state old behind (Some error) h = tt
 refused_in state old behind None h = each behind.body.refused h
   where
-    of : (k : ErrorType) → BodyRefusal state old behind k → RoseFor (state old.link) (state behind.link) k
+    of : (k : ErrorType) → FailsRead state old behind k → RoseFor (state old.link) (state behind.link) k
     of kind.ReadError h = h.0
     of kind.ReadTimedout h = h.0
     of _ h = tt

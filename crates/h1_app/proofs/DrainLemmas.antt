@@ -1,5 +1,5 @@
 -- What the rest of a request's body comes to after its reply, and why a connection isn't kept.
-use Rattle.std.proofs.Common.{◌≡◌, ℕ, ◌+◌, ◌-◌, ◌<◌, ◌≤◌, ◌⊎◌, inl, inr, zero, suc, List, [], ◌∷◌, ◌++◌, length, Bool, true, false, Option, Some, None, IfSome, IsSome, Result, Ok, Err, option_map, refl, sym, ◌∙◌, ap, subst, append-nil, arith, ◌&&◌}
+use Rattle.std.proofs.Common.{◌≡◌, ℕ, ◌+◌, ◌-◌, ◌<◌, ◌≤◌, ◌⊎◌, inl, inr, zero, suc, List, [], ◌∷◌, ◌++◌, length, take, slice_range, Bool, true, false, Option, Some, None, IfSome, IsSome, Result, Ok, Err, option_map, refl, sym, ◌∙◌, ap, subst, append-nil, arith, ◌&&◌}
 use Rattle.h1_app.specs.Words.{Poll, Ready, Pending, Error, LinkState, Rose, Body, whole, unfinished, broken, ahead, chunked, reads, read_as, Chunking, BodyReader, Reading, Decoded, Lacks, Moved, is_whole, ReusesBy, keeps_alive, may_go_on, is_replied, SessionView, allowance, BodyState, Entry, How, Open, Whole, Failed, payload_of, Payload, grown, payload_in}
 use Rattle.std.proofs.lemmas.Bool.{false≢true}
 use Rattle.h1_link.specs.Steps.{after_shutdown}
@@ -11,9 +11,9 @@ use Rattle.h1_body.proofs.RunLemmas.{ahead_none}
 use Rattle.h1_error.specs.declared.error.ErrorType.{ErrorType}
 use Rattle.h1_error.specs.declared.error.ErrorType.TheVariants as kind
 use Rattle.h1_transfer.specs.BodyAnswers.{RefusesBody}
-use Rattle.h1_transfer.specs.Decoding.{StaysWithin, noted_of}
-use Rattle.h1_body.specs.Feeds.{fed_of}
-use Rattle.h1_body.specs.declared.fed.FeedState.TheVariants.{Done}
+use Rattle.h1_transfer.specs.Decoding.{MayStarve, noted_of}
+use Rattle.h1_body.specs.Body as bodies
+use Rattle.h1_body.proofs.PayloadLemmas.{payload_ahead}
 use Rattle.h1_transcript.specs.Entry.{gathering_of}
 use Rattle.h1_server.specs.Payload.{DrainsBody, DrainAnswer}
 use Rattle.h1_server.specs.Persistence.{may_follow}
@@ -55,31 +55,20 @@ decoded_end old new used payload d h =
     parts (unfinished xs) e = absurd (cc)
     parts (broken xs) e = absurd (cc)
 
--- where a body is at its end no run of payload comes next
-ended_within : (reader : BodyReader) (received : List ℕ) (payload : Payload)
-    → is_whole (reads reader []) ≡ true → length payload.bytes ≤ payload.gathering.limit
-    → StaysWithin (Some payload) reader received
-ended_within reader received payload ended bound =
-    let all : (more : List ℕ) → reads reader more ≡ whole [] 0 = λ more. reading_end reader.reading more ended in (
-      [],
-      record {
-        behind = reader;
-        fed = fed_of 0 0 Done;
-        feeds = record {
-          ordered = omega arith;
-          used_up = refl;
-          within = omega arith;
-          reads = λ more. all more ∙ sym (ap (ahead [] 0) (all more));
-          state = sym (all []);
-          moves = λ (open_so : reads reader [] ≡ unfinished []) some. absurd (let never = sym (all []) ∙ open_so in cc);
-          stays = inr refl;
-          rests = inr (inl tt);
-          first = λ less. absurd (omega (arith, less));
-        };
-        is = refl;
-      },
-      rw (append-nil payload.bytes) bound,
-    )
+-- where a body is at its end no run of payload comes next, so no memory is wanted for one
+never_starves : (before now : LinkState) (reader : BodyReader) (received : List ℕ)
+    → is_whole (reads reader []) ≡ true → MayStarve before now None reader received → ⊥
+never_starves before now reader received ended starves = elim starves [
+  | inl lacks ↦ false≢true (sym (ap is_whole lacks.1.1) ∙ ended)
+  | inr next ↦
+      let fed = next.1.fed in
+      let run = slice_range received fed.payload.start fed.payload.end in
+      let behind = reads next.1.behind [] in
+      let none : run ≡ [] = nothing_in_front run (bodies.payload_of behind)
+      (sym (payload_ahead run fed.used behind) ∙ ap bodies.payload_of (sym (next.1.feeds.reads [])
+      ∙ reading_end reader.reading (take fed.used received ++ []) ended)) in
+      omega (arith, next.2, ap length next.1.is, ap length none)
+]
 
 -- how the body stood at the reply stays as the rest of it is read
 pub stood_on : (how : How) (e : Entry) (old new : BodyState) (used payload : List ℕ)
@@ -347,9 +336,9 @@ reuses_as {L} {C} state now old asked behind new e payload answer replied lent_i
 drains_lent : {L C : Type 0} (state : L → LinkState) (now : ℕ) (old drained : SessionView L C)
     (payload : Payload) (outcome : Poll (Result (Unit {0}) Error))
     → old.body.kept ≡ None → (d : DrainsBody state now old drained outcome)
-    → StaysWithin (Some (grown d.payload payload)) drained.body.reader drained.received
+    → (MayStarve (state old.link) (state drained.link) None drained.body.reader drained.received → ⊥)
     → DrainsBody state now (lent old payload) (lent drained (grown d.payload payload)) outcome
-drains_lent {L} {C} state now old drained payload outcome none d within = record {
+drains_lent {L} {C} state now old drained payload outcome none d never = record {
   payload = d.payload;
   left = d.left;
   parsed = d.parsed;
@@ -376,7 +365,7 @@ drains_lent {L} {C} state now old drained payload outcome none d within = record
     refused kind.ReadError h = h
     refused kind.ReadTimedout h = h
     refused kind.ContentTooLarge h = absurd h
-    refused kind.NoMemory h = inr within
+    refused kind.NoMemory h = absurd (never h)
     refused _ h = absurd h
 
     by_outcome : (o : Poll (Result (Unit {0}) Error)) → DrainAnswer state old drained d.left o
@@ -421,8 +410,7 @@ reuses_read {L} {C} state now old new e answer replied none bound read reuses =
             lent r.0 all,
             r.1,
             drains_lent state now old r.0 (payload_in e) r.1 none r.2
-                (ended_within r.0.body.reader r.0.received all ends.1
-                (rw (ends.0, append-nil e.body) bound)),
+                (never_starves (state old.link) (state r.0.link) r.0.body.reader r.0.received ends.1),
             ap (λ (s : SessionView L C). lent s all) r.3,
             asked all r.1 r.4,
           );

@@ -5,7 +5,7 @@ use Rattle.h1_body.specs.Payload.{Payload}
 use Rattle.h1_server.specs.Times.{new_times}
 use Rattle.h1_transfer.specs.declared.outgoing.Step.TheVariants as step
 
--- the session with the payload handed in, as the application is lent it
+-- the session with the payload handed in, as it is lent to the application
 abbrev pub lent : {L C : Type 0} → SessionView L C → Payload → SessionView L C
 lent session payload = record session { body = record session.body { kept = Some payload } }
 

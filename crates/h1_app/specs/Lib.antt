@@ -22,6 +22,7 @@ pub mod BodyTimes
 pub mod Step
 pub mod FilterSteps
 pub mod NoModulesLaw
+pub mod LawfulHeads
 pub mod LawfulModules
 pub mod Replying
 pub mod Words

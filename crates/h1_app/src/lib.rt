@@ -18,14 +18,15 @@ mod steps;
 
 pub use connection::Connection;
 pub use exchange::{Outcome, Stage};
-pub use h1_application::ServeHttp;
+pub use h1_application::{Respond, Responds, ServeHttp, reply_of};
 pub use h1_body::BodyBytes;
-pub use h1_echo::{EchoApp, EchoJob};
 pub use h1_error::{End, Error, ErrorType, HeadFault, Progress, Waiting};
-pub use h1_modules::{HttpModule, HttpModuleBuilder, HttpModuleCtx, HttpModules, NoModules};
+pub use h1_modules::{
+    HeadFilter, HeadModule, HttpModule, HttpModuleBuilder, HttpModuleCtx, HttpModules, NoModules,
+};
 pub use h1_server::{CALL_BUDGET, HttpSession};
 pub use h1_transcript::{Entry, History, How, Reply, Transcript};
-pub use lawful::LawfulFor;
+pub use lawful::{LawfulFilter, LawfulFor};
 pub use laws::{
     a_link_that_is_handed_on_goes_on, only_the_budget_is_awaited,
     the_next_exchange_begins_behind_the_last, valid_input_is_served,

@@ -1,3 +1,4 @@
+pub mod ReplyLemmas
 pub mod SettingLemmas
 pub mod ReadLemmas
 pub mod TimeLemmas

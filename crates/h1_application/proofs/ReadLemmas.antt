@@ -19,7 +19,7 @@ use Rattle.h1_transfer.specs.BodyAnswers.{IsReadSo}
 use Rattle.h1_transfer.specs.Budget.{allowance}
 use Rattle.h1_transfer.proofs.MovedLemmas.{moved_itself, moved_on}
 use Rattle.h1_application.proofs.Words.{ReadsOnly, RefusedBy, WaitsBy}
-use Rattle.h1_application.specs.Application.{fault_met, HoldsPayload, ReadsAtOnce, RefusesWith}
+use Rattle.h1_application.specs.Application.{fault_met, FailsRead, HoldsPayload, ReadsAtOnce, RefusesWith}
 
 -- nothing of a budget was spent
 pub budget_itself : (budget : Option ℕ) → budget ≡ option_map (λ left. left - 0) budget
@@ -81,10 +81,19 @@ decoded_on a b c used more payload further first second = record {
       ) refl;
 }
 
+-- a call of the session that fails says why
+fails_read : {L C : Type 0} (state : L → LinkState) (old new : SessionView L C) (k : ErrorType)
+    → BodyRefusal state old new k → FailsRead state old new k
+fails_read state old new kind.NoMemory h = elim h [
+  | inl lacks ↦ inl lacks.1
+  | inr next ↦ inr next
+]
+fails_read state old new _ h = h
+
 -- the causes of refusals and waits go on
 refusal_on : {L C : Type 0} (state : L → LinkState) (a b c : SessionView L C) (k : ErrorType)
     → Later (state a.link) (state b.link)
-    → BodyRefusal state b c k → BodyRefusal state a c k
+    → FailsRead state b c k → FailsRead state a c k
 refusal_on state a b c kind.InvalidBody later h = h
 refusal_on state a b c kind.ConnectionClosed later h = h
 refusal_on state a b c kind.ReadError later h = (let counts = later.counts in omega (arith, h.0), h.1)
@@ -213,7 +222,7 @@ payload_refused state old new payload left (Ready (Ok (Some piece))) h = rw h.2 
 payload_refused state old new payload left (Ready (Ok None)) h = rw h.2 tt
 payload_refused state old new payload left (Ready (Err error)) h =
     subst (λ o. IfSome o (RefusesWith state old new)) (sym h.1)
-    (behind new.body.kept error error.kind refl (h.2, h.4))
+    (behind new.body.kept error error.kind refl (fails_read state old new error.kind h.2, h.4))
   where
     behind : (kept : Option Payload) (error : Error) (k : ErrorType) → error.kind ≡ k
         → RefusesWith state old new error

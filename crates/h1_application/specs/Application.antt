@@ -6,7 +6,7 @@ use Rattle.h1_transfer.specs.Calls.{Fault}
 use Rattle.h1_head.specs.Views.{RequestView}
 use Rattle.h1_body.specs.Body.{Body, whole, unfinished, broken}
 use Rattle.h1_transfer.specs.Moved.{Moved}
-use Rattle.h1_transfer.specs.Decoding.{Lacks, held_of, noted_of}
+use Rattle.h1_transfer.specs.Decoding.{Lacks, StaysWithin, held_of, noted_of}
 use Rattle.h1_body.specs.Payload.{grown}
 use Rattle.h1_transfer.specs.declared.body.BodyState.{BodyState}
 use Rattle.h1_transcript.specs.declared.reply.Reply.{Reply}
@@ -50,10 +50,18 @@ fault_met (Some error) now = no_fault
 fault_met None None = no_fault
 fault_met None (Some error) = read_fault_of_kind error.kind
 
+-- Why a read of the body failed. Memory ran out where nothing is left to be used, or for a run of
+-- payload within the limit; each other refusal has the cause that the session tells.
+abbrev pub FailsRead : {L C : Type 0} → (L → LinkState) → SessionView L C → SessionView L C
+    → ErrorType → Type 0
+FailsRead state old new kind.NoMemory = Lacks new.body.reader new.received
+    ⊎ StaysWithin new.body.kept new.body.reader new.received
+FailsRead state old new k = BodyRefusal state old new k
+
 -- an error of the body has its cause, and isn't for a retry
 abbrev pub RefusesWith : {L C : Type 0} → (L → LinkState) → SessionView L C → SessionView L C
     → Error → Type 0
-RefusesWith state old new error = BodyRefusal state old new error.kind × (error.retry ≡ false)
+RefusesWith state old new error = FailsRead state old new error.kind × (error.retry ≡ false)
 
 -- a refusal that was answered before stays, with all that was read; a new one has its cause
 abbrev pub RefusedBy : {L C : Type 0} → (L → LinkState) → SessionView L C → SessionView L C

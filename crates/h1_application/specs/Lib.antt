@@ -1,3 +1,5 @@
-pub mod LengthLine
+pub mod AnyLawful
 pub mod Application
+pub mod LengthLine
+pub mod Reply
 pub mod Words

@@ -3,14 +3,16 @@
 //!
 //! Its words are `KIND SIZE PIECE`: so many requests or bytes by their kind, in pieces of so many
 //! bytes, with polls after each until the connection waits for more. With the fourth word `give` the
-//! input is made and given, and nothing is polled.
+//! input is made and given, and nothing is polled. With `flow` PIECE tells how many copies of the
+//! input come, over a link that keeps no byte.
 #![tactic(auto)]
 
+mod flow;
 mod input;
 mod serving;
 
 use input::input;
-use serving::{Work, serve};
+use serving::{Work, serve, serve_flow};
 use std::process::ExitCode;
 use std::rt::Env;
 use std::{env, io};
@@ -34,6 +36,7 @@ fn main(rt: HostRuntime) -> io::Result<ExitCode> {
     let work = match words.get(3) {
         None => Work::Serve,
         Some(word) if word.as_str() == "give" => Work::Give,
+        Some(word) if word.as_str() == "flow" => Work::Flow,
         Some(_) => return Ok(ExitCode::from(USAGE)),
     };
     let bytes = match input(rt.alloc(), kind.as_str(), size) {
@@ -41,7 +44,12 @@ fn main(rt: HostRuntime) -> io::Result<ExitCode> {
         Ok(_) => return Ok(ExitCode::from(USAGE)),
         Err(_) => return Ok(ExitCode::from(FAILED)),
     };
-    let Ok(served) = serve(rt.alloc(), bytes.as_slice(), piece, work) else {
+    let given = bytes.len();
+    let told = match work {
+        Work::Serve | Work::Give => serve(rt.alloc(), bytes.as_slice(), piece, work),
+        Work::Flow => serve_flow(rt.alloc(), bytes, piece),
+    };
+    let Ok(served) = told else {
         return Ok(ExitCode::from(FAILED));
     };
     if served.ended {
@@ -49,9 +57,7 @@ fn main(rt: HostRuntime) -> io::Result<ExitCode> {
     }
     println!(rt;
         "{} requests, {} bytes in, {} bytes out",
-        served.requests,
-        bytes.len(),
-        served.bytes_out
+        served.requests, given, served.bytes_out
     )?;
     Ok(ExitCode::from(0))
 }

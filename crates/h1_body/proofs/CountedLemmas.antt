@@ -1,10 +1,10 @@
 -- What a reader of a body of stated length makes of bytes.
 use Rattle.std.proofs.Common.{◌≡◌, ℕ, ◌+◌, ◌-◌, ◌<◌, ◌≤◌, List, [], ◌++◌, length, take, slice_range, refl, sym, ap, subst, ◌⊎◌, ◌∙◌, arith, length-append, inl, inr, cond}
 use Rattle.std.proofs.lemmas.List.{take_all, length-take-le}
-use Rattle.std.proofs.Math.Seq.{take-append-add}
+use Rattle.std.proofs.Math.Seq.{take-append-add, take-nil}
 use Rattle.std.proofs.lemmas.Bool.{cases_lt}
 use Rattle.std.proofs.lemmas.Bool.Decides.{leb_tells}
-use Rattle.h1_body.specs.Body.{whole, unfinished, ahead}
+use Rattle.h1_body.specs.Body.{whole, unfinished, ahead, payload_of}
 use Rattle.h1_body.specs.Reader.{counted}
 use Rattle.h1_body.specs.Feeds.{fed_of, Feeds}
 use Rattle.h1_body.specs.declared.fed.FeedState.TheVariants as state
@@ -51,6 +51,13 @@ front_range piece n = let e : n - 0 ≡ n = omega arith in ap (λ k. take k piec
 whole_range : (piece : List ℕ) → slice_range piece 0 (length piece) ≡ piece
 whole_range piece = take_all (length piece - 0) piece (omega arith)
 
+-- no bytes give no payload
+nothing_counted : (left : ℕ) → payload_of (counted left []) ≡ []
+nothing_counted left = elim (cases_lt 0 left) [
+  | inl some ↦ ap payload_of (counted_lacks left [] some)
+  | inr none ↦ ap payload_of (counted_has left [] none) ∙ take-nil left
+]
+
 -- the body goes on after the piece
 pub counted_goes : (left : ℕ) (piece : List ℕ) → length piece < left
     → Feeds (counted left) (counted (left - length piece)) piece (fed_of 0 (length piece) state.More)
@@ -60,6 +67,7 @@ counted_goes left piece h =
       ordered = omega arith;
       used_up = refl;
       within = omega arith;
+      front = nothing_counted left;
       reads = λ more. rw (all, whole_range piece) (counted-append left piece more (omega arith));
       state = sym (counted_lacks (left - length piece) [] (omega arith));
       moves = λ _ some. some;
@@ -96,6 +104,7 @@ counted_ends left piece h =
       ordered = omega arith;
       used_up = refl;
       within = h;
+      front = nothing_counted left;
       reads = λ more. rw (front_range piece left)
           (subst (λ k. counted left (take left piece ++ more) ≡ ahead (take left piece) k
           (counted 0 more)) len

@@ -115,6 +115,20 @@ moved from to bytes n m run len why goes some =
       ]
     ]
 
+-- what was passed over gave no payload
+no_front : (s : FeedState) (used : ℕ) → payload_of (ahead [] used (stop_of s)) ≡ []
+no_front state.More used = refl
+no_front state.Done used = refl
+no_front state.Broken used = refl
+
+skips_front : (from to : Chunking) (bytes : List ℕ) → Skips from bytes to
+    → payload_of (chunked from bytes) ≡ []
+skips_front from to bytes steps =
+    ap payload_of (stopped steps.runs) ∙ no_front (state_of to) (length bytes)
+
+pub ended : (place : Chunking) → (place ≡ Done) ⊎ (place ≡ Broken) → IsEnd (state_of place)
+ended place is = elim is [ inl done ↦ rw done tt | inr broken ↦ rw broken tt ]
+
 -- a return with no payload, at the end of the piece or of the body
 pub feeds_still : (from to : Chunking) (piece : List ℕ) (at : ℕ) → at ≤ length piece
     → Skips from (take at piece) to → (at ≡ length piece) ⊎ IsEnd (state_of to)
@@ -125,6 +139,7 @@ feeds_still from to piece at within steps why =
       ordered = omega arith;
       used_up = refl;
       within = within;
+      front = skips_front from to (take at piece) steps;
       reads = λ more. rw (empty_range piece at at (omega arith))
           (subst (λ n. chunked from (take at piece ++ more) ≡ ahead [] n (chunked to more)) len
           (steps.runs.reads more));
@@ -165,6 +180,7 @@ feeds_run from to piece at n more some within room steps run goes why =
       ordered = omega arith;
       used_up = refl;
       within = within;
+      front = skips_front from (Data more) (take at piece) steps;
       reads = λ rest. subst (λ k. chunked from (take n piece ++ rest) ≡ ahead
           (slice_range piece at n) k (chunked to rest)) len (all.reads rest);
       state = ap stop_of (sym goes);

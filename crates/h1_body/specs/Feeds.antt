@@ -21,6 +21,8 @@ pub record Feeds (before behind : List ℕ → Body) (piece : List ℕ) (fed : F
   pub ordered : fed.payload.start ≤ fed.payload.end
   pub used_up : fed.payload.end ≡ fed.used
   pub within : fed.used ≤ length piece
+  -- no payload comes before the run
+  pub front : payload_of (before (take fed.payload.start piece)) ≡ []
   pub reads : (more : List ℕ) → before (take fed.used piece ++ more)
       ≡ ahead (slice_range piece fed.payload.start fed.payload.end) fed.used (behind more)
   -- the state is that of all bytes used so far

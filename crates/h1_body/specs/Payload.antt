@@ -39,7 +39,8 @@ too_large = record { kind = ContentTooLarge; retry = false }
 -- why a run of payload isn't noted: there is no memory for one within the limit, or it goes past it
 abbrev pub KeepFault : Payload → List ℕ → Error → Type 0
 KeepFault payload run error =
-    ((error ≡ no_memory) × (length (payload.bytes ++ run) ≤ payload.gathering.limit))
+    ((error ≡ no_memory) × (0 < length run)
+    × (length (payload.bytes ++ run) ≤ payload.gathering.limit))
     ⊎ ((error ≡ too_large) × (payload.gathering.limit < length (payload.bytes ++ run)))
 
 -- why nothing more was read of the bytes of a body

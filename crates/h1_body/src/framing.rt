@@ -23,7 +23,7 @@ pub enum Framing {
 pub fn framing_of(head: &RequestHeader) -> Framing
     ensures { result ≡ framing head.now }
 {
-    framing_by(head.fields(), Framing::Counted(0))
+    framing_with(head, head.fields().content_length())
 }
 
 /// The same where it is known what the Content-Length lines state.

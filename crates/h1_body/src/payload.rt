@@ -1,9 +1,8 @@
 //! The payload that was read of a body, which memory holds or not.
 ghost use Rattle.std.specs.Prelude.{◌≡◌, true, [], ◌≤◌, ◌<◌, ◌+◌, ◌-◌, ◌^◌, ◌++◌, ◌==◌, length, slice_range, IfOk, IfErr};
 ghost use Rattle.std.specs.Option.{option_copied};
-ghost use Rattle.h1_error.specs.Memory.{no_memory};
 ghost use Rattle.h1_body.specs.Payload.{KeepFault, grown, held_in, no_payload};
-ghost use Rattle.h1_body.specs.Takes.{Cuts};
+ghost use Rattle.h1_body.specs.Takes.{Cuts, LacksRoom};
 
 use crate::BodyBytes;
 use crate::reader::cut;
@@ -200,7 +199,7 @@ fn hold(
     requires within { end ≤ length buf.old.items }
     ensures ok { IfOk result (λ piece. Cuts buf.old.items buf.new.items start end piece
         × (kept.new ≡ kept.old ++ slice_range buf.old.items start end)) }
-    ensures err { IfErr result (λ error. (error ≡ no_memory) × (buf.new ≡ buf.old)
+    ensures err { IfErr result (λ error. LacksRoom start end error × (buf.new ≡ buf.old)
         × (kept.new ≡ kept.old)) }
 {
     if start == end {
@@ -221,11 +220,11 @@ fn hold_behind(
     end: usize,
     kept: &mut BodyBytes,
 ) -> Result<Option<Bytes>, Error>
-    requires ordered { start ≤ end }
+    requires some { start < end }
     requires within { end ≤ length buf.old.items }
     ensures ok { IfOk result (λ piece. Cuts buf.old.items buf.new.items start end piece
         × (kept.new ≡ kept.old ++ slice_range buf.old.items start end)) }
-    ensures err { IfErr result (λ error. (error ≡ no_memory) × (buf.new ≡ buf.old)
+    ensures err { IfErr result (λ error. LacksRoom start end error × (buf.new ≡ buf.old)
         × (kept.new ≡ kept.old)) }
 {
     let len = kept.len();
@@ -251,7 +250,7 @@ fn pass(
     ensures ok { IfOk result (λ piece. Cuts buf.old.items buf.new.items start end piece
         × (passed.new ≡ passed.old ++ slice_range buf.old.items start end)
         × (count.new ≡ count.old + (end - start))) }
-    ensures err { IfErr result (λ error. (error ≡ no_memory) × (buf.new ≡ buf.old)
+    ensures err { IfErr result (λ error. LacksRoom start end error × (buf.new ≡ buf.old)
         × (passed.new ≡ passed.old) × (count.new ≡ count.old)) }
 {
     let piece = cut(buf, start, end)?;

@@ -6,7 +6,7 @@ ghost use Rattle.h1_body.specs.Chunks.{chunked};
 ghost use Rattle.h1_body.specs.Reader.{body, counted, reads, closes_with_link, is_until_close};
 ghost use Rattle.h1_body.specs.Feeds.{Feeds};
 ghost use Rattle.h1_body.specs.Payload.{TakeFault, grown};
-ghost use Rattle.h1_body.specs.Takes.{Cuts, Takes, payload_bytes};
+ghost use Rattle.h1_body.specs.Takes.{Cuts, HasNextRun, LacksRoom, Takes, payload_bytes};
 ghost use Rattle.h1_body.specs.declared.fed.FeedState.TheVariants as state;
 
 use crate::chunking::{Chunking, state_of, step};
@@ -87,12 +87,14 @@ impl BodyReader {
         ensures ok { IfOk result (λ fed. Feeds (reads self.old) (reads self.new) piece.now fed
             × (kept.new ≡ kept.old ++ slice_range piece.now fed.payload.start fed.payload.end)) }
         ensures err { IfErr result (λ error. (error ≡ no_memory)
-            × (self.new ≡ self.old) × (kept.new ≡ kept.old)) }
+            × HasNextRun self.old piece.now × (self.new ≡ self.old) × (kept.new ≡ kept.old)) }
         ensures closes { closes_with_link self.new ≡ closes_with_link self.old }
     {
         let mut next = *self;
         let fed = next.feed(piece);
-        kept.append(&piece[fed.payload.start..fed.payload.end])?;
+        if !fed.payload.is_empty() {
+            kept.append(&piece[fed.payload.start..fed.payload.end])?;
+        }
         *self = next;
         Ok(fed)
     }
@@ -105,7 +107,7 @@ impl BodyReader {
         ensures ok { IfOk result
             (λ taken. Takes self.old self.new buf.old.items buf.new.items taken) }
         ensures err { IfErr result (λ error. (error ≡ no_memory)
-            × (self.new ≡ self.old) × (buf.new ≡ buf.old)) }
+            × HasNextRun self.old buf.old.items × (self.new ≡ self.old) × (buf.new ≡ buf.old)) }
         ensures closes { closes_with_link self.new ≡ closes_with_link self.old }
     {
         let mut behind = *self;
@@ -167,7 +169,7 @@ pub(crate) fn cut(buf: &mut BytesMut, start: usize, end: usize) -> Result<Option
     requires ordered { start ≤ end }
     requires within { end ≤ length buf.old.items }
     ensures ok { IfOk result (Cuts buf.old.items buf.new.items start end) }
-    ensures err { IfErr result (λ error. (error ≡ no_memory) × (buf.new ≡ buf.old)) }
+    ensures err { IfErr result (λ error. LacksRoom start end error × (buf.new ≡ buf.old)) }
 {
     if start == end {
         buf.advance(end);

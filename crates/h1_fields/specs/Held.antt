@@ -3,7 +3,7 @@ use Rattle.std.specs.Prelude.{ℕ, ◌≤◌, ◌≡◌, List, [], length, ⊤}
 use Rattle.std.specs.Arc.{arc_value}
 use Rattle.std.specs.Box.{box_value}
 use Rattle.h1_fields.specs.declared.held.Held.{Held}
-use Rattle.h1_fields.specs.declared.held.Held.TheVariants.{Nothing, One, Shared, Few, Read, Own}
+use Rattle.h1_fields.specs.declared.held.Held.TheVariants.{Nothing, One, Shared, Read, Own}
 use Rattle.h1_fields.specs.declared.held.TheConstants.{MAX_SHARED_LINES}
 use Rattle.h1_fields.specs.Lines.{Line}
 
@@ -11,7 +11,6 @@ abbrev pub lines_in : Held → List Line
 lines_in Nothing = []
 lines_in (One line) = line
 lines_in (Shared owner) = arc_value owner
-lines_in (Few owner) = arc_value owner
 lines_in (Read owner) = arc_value owner
 lines_in (Own block) = box_value block
 
@@ -20,6 +19,5 @@ abbrev pub AreFlags : ℕ → Held → Type 0
 AreFlags gone Nothing = ⊤
 AreFlags gone (One line) = gone ≡ 0
 AreFlags gone (Shared owner) = length (arc_value owner) ≤ MAX_SHARED_LINES
-AreFlags gone (Few owner) = length (arc_value owner) ≤ MAX_SHARED_LINES
 AreFlags gone (Read owner) = length (arc_value owner) ≤ MAX_SHARED_LINES
 AreFlags gone (Own block) = gone ≡ 0

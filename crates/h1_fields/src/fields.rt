@@ -31,13 +31,14 @@ use std::sync::Arc;
 /// of pairs of name and value.
 ///
 /// A copy is one owner more of the same lines, or has the same short line, where there never were
-/// more than 64 and no room was reserved for more. An owner that isn't the only one adds and replaces in lines of its own, which
-/// it copies first, and removes by marking lines as gone for itself. All names and values stand in
-/// one text, where those of a line that went stay until the last owner is dropped; no call shows
-/// them. The text of lines that were read may be the head itself, which is then kept as long. One
-/// short line that was read or added alone takes no block of memory, and a few short lines take one.
-/// Where the one line of Connection, Content-Length, Host or
-/// Transfer-Encoding stands is known without a search.
+/// more than 64 and no room was reserved for more. An owner that isn't the only one adds and
+/// replaces in lines of its own, which it copies first, and removes by marking lines as gone for
+/// itself. All names and values stand in one text, where those of a line that went stay until the
+/// last owner is dropped; no call shows them. The text of lines that were read may be the head
+/// itself, which is then kept as long. One short line that was read or added alone takes no block of
+/// memory, and a few short lines take one. A head that is read in the place of another takes the
+/// block of the other, if it has one and no other owner. Where the one line of Connection,
+/// Content-Length, Host or Transfer-Encoding stands is known without a search.
 #[derive(Drop)]
 pub struct Fields {
     alloc: Global,
@@ -96,10 +97,34 @@ impl Fields {
         })
     }
 
+    /// Puts the lines at these places of a head in the place of these. The bytes of the head are
+    /// shared; those of one short line may be copied, and of more than 64 lines they are. With an
+    /// error what stands there has no meaning.
+    #[inline(always)]
+    #[tactic(auto, using(crate::proofs::LivingLemmas::living_all))]
+    pub fn read(&mut self, head: &Bytes, spans: &[HeaderSpan]) -> Result<(), Error>
+        requires { All (IsHeaderWithin (length head.now)) spans.now }
+        ensures ok { OnOk result (self.new ≡ map (header_bytes head.now) spans.now) }
+        ensures err { IsOkUnless result no_memory }
+    {
+        match &mut self.held {
+            Held::Read(owner) if spans.len() <= MAX_SHARED_LINES && head.len() <= MAX_TEXT => {
+                if let Some(lines) = Arc::get_mut(owner) {
+                    self.gone = 0;
+                    lines.read(head, spans)?;
+                    return Ok(());
+                }
+            }
+            _ => {}
+        }
+        *self = Fields::of_head(self.alloc, head, spans)?;
+        Ok(())
+    }
+
     /// The lines at these places of a head. One short line is copied, and so are more than 64; of
     /// others the bytes of the head are shared.
     #[inline(always)]
-    pub fn of_head(alloc: Global, head: &Bytes, spans: &[HeaderSpan]) -> Result<Self, Error>
+    fn of_head(alloc: Global, head: &Bytes, spans: &[HeaderSpan]) -> Result<Self, Error>
         requires { All (IsHeaderWithin (length head.now)) spans.now }
         ensures ok { IfOk result (λ fields. fields ≡ map (header_bytes head.now) spans.now) }
         ensures err { IsOkUnless result no_memory }
@@ -118,6 +143,16 @@ impl Fields {
             }
             _ => {}
         }
+        Fields::of_lines(alloc, head, spans)
+    }
+
+    // The same for other lines than a short one. Kept apart from what reads each head.
+    #[inline(never)]
+    fn of_lines(alloc: Global, head: &Bytes, spans: &[HeaderSpan]) -> Result<Self, Error>
+        requires { All (IsHeaderWithin (length head.now)) spans.now }
+        ensures ok { IfOk result (λ fields. fields ≡ map (header_bytes head.now) spans.now) }
+        ensures err { IsOkUnless result no_memory }
+    {
         if spans.len() <= MAX_SHARED_LINES && head.len() <= MAX_TEXT {
             return Ok(Fields {
                 alloc,
@@ -264,10 +299,6 @@ impl Fields {
             }
             Held::Own(block) => block.remove(name),
             Held::Shared(owner) => self.gone = remove_from(owner, self.gone, name),
-            Held::Few(owner) => {
-                let (head, few) = owner.parts();
-                self.gone = hide(head, few, self.gone, name);
-            }
             Held::Read(owner) => {
                 let (head, lines) = owner.parts();
                 self.gone = hide(head, lines, self.gone, name);
@@ -363,7 +394,6 @@ impl Fields {
             Held::Nothing => Held::Nothing,
             Held::One(line) => Held::One(line.copy()),
             Held::Shared(block) => Held::Shared(Arc::try_clone(block)?),
-            Held::Few(lines) => Held::Few(Arc::try_clone(lines)?),
             Held::Read(lines) => Held::Read(Arc::try_clone(lines)?),
             Held::Own(_) => {
                 *place = self.own_copy()?;
@@ -385,7 +415,6 @@ impl Fields {
             Held::Nothing => Held::Nothing,
             Held::One(line) => Held::One(line.copy()),
             Held::Shared(owner) => Held::Shared(Arc::try_clone(owner)?),
-            Held::Few(owner) => Held::Few(Arc::try_clone(owner)?),
             Held::Read(owner) => Held::Read(Arc::try_clone(owner)?),
             Held::Own(_) => return self.own_copy(),
         };
@@ -463,7 +492,6 @@ fn parts_of(held: &Held) -> (&[u8], &[Span])
         Held::Nothing => (&[], &[]),
         Held::One(line) => line.parts(),
         Held::Shared(owner) => owner.parts(),
-        Held::Few(owner) => owner.parts(),
         Held::Read(owner) => owner.parts(),
         Held::Own(block) => block.parts(),
     }
@@ -479,7 +507,6 @@ fn known_of(held: &Held) -> (&[u8], &[Span], Kinds)
         Held::Nothing => (&[], &[], Kinds::none()),
         Held::One(line) => line.known(),
         Held::Shared(owner) => owner.known(),
-        Held::Few(owner) => owner.known(),
         Held::Read(owner) => owner.known(),
         Held::Own(block) => block.known(),
     }

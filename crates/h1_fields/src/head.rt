@@ -1,5 +1,5 @@
 //! The field lines of a head that was read, as places in its bytes.
-ghost use Rattle.std.specs.Prelude.{◌≡◌, ◌≤◌, length, map, All, IfOk, IsOkUnless};
+ghost use Rattle.std.specs.Prelude.{◌≡◌, ◌≤◌, [], length, map, All, OnOk, IsOkUnless};
 ghost use Rattle.httparse.specs.Spans.{IsHeaderWithin, header_bytes};
 ghost use Rattle.h1_error.specs.Memory.{no_memory};
 ghost use Rattle.h1_fields.specs.declared.span.TheConstants.{MAX_TEXT};
@@ -15,17 +15,19 @@ use smallvec::SmallVec;
 use std::alloc::Global;
 use std::marker::Model;
 
-/// Field lines that lie in the bytes of a head, with one owner or several. `N` places need no block
-/// of memory of their own. The lines never change. A contract sees the list of pairs of name and
-/// value.
+/// How many places the lines of a head have with them. More take a block of memory of their own.
+const MANY_LINES: usize = 16;
+
+/// Field lines that lie in the bytes of a head, with one owner or several. A contract sees the list
+/// of pairs of name and value.
 #[derive(Drop)]
-pub(crate) struct HeadLines<const N: usize> {
+pub(crate) struct HeadLines {
     head: Bytes,
-    lines: SmallVec<Span, N>,
+    lines: SmallVec<Span, MANY_LINES>,
     kinds: Kinds,
 }
 
-impl<const N: usize> Model for HeadLines<N> {
+impl Model for HeadLines {
     ghost use Rattle.std.specs.Prelude.{ℕ, List};
     ghost use Rattle.h1_fields.specs.Spans.{lines_of};
     ghost use Rattle.h1_fields.specs.Kinds.{AreKnown};
@@ -37,26 +39,37 @@ impl<const N: usize> Model for HeadLines<N> {
     ghost invariant = { λ h. AreKnown h.head h.lines.items h.kinds };
 }
 
-impl<const N: usize> HeadLines<N> {
-    /// The lines at these places, which the parser found. The head isn't copied.
+impl HeadLines {
+    /// No lines. Takes no memory.
+    pub(crate) fn new(alloc: Global) -> Self
+        ensures { result ≡ [] }
+    {
+        HeadLines {
+            head: Bytes::new(),
+            lines: SmallVec::new(alloc),
+            kinds: Kinds::none(),
+        }
+    }
+
+    /// Puts the lines at these places, which the parser found, in the place of these. The head isn't
+    /// copied.
     #[inline(always)]
-    pub(crate) fn new(alloc: Global, head: &Bytes, spans: &[HeaderSpan]) -> Result<Self, Error>
+    pub(crate) fn read(&mut self, head: &Bytes, spans: &[HeaderSpan]) -> Result<(), Error>
         requires within { All (IsHeaderWithin (length head.now)) spans.now }
         requires short { length head.now ≤ MAX_TEXT }
-        ensures ok { IfOk result (λ lines. lines ≡ map (header_bytes head.now) spans.now) }
+        ensures ok { OnOk result (self.new ≡ map (header_bytes head.now) spans.now) }
         ensures err { IsOkUnless result no_memory }
+        ensures few { length self.new ≤ length spans.now }
     {
-        let mut kinds = Kinds::none();
-        let mut lines = SmallVec::new(alloc);
+        self.lines.clear();
+        self.kinds = Kinds::none();
+        self.head = head.clone()?;
         for span in spans {
-            kinds.note(span.name.of(head.as_slice()), lines.len());
-            lines.push(Span::of_header(*span, head.as_slice()))?;
+            let at = self.lines.len();
+            self.lines.push(Span::of_header(*span, head.as_slice()))?;
+            self.kinds.note(span.name.of(head.as_slice()), at);
         }
-        Ok(HeadLines {
-            head: head.clone()?,
-            lines,
-            kinds,
-        })
+        Ok(())
     }
 
     /// The bytes, and the places of the lines in them.

@@ -19,9 +19,6 @@ use std::sync::Arc;
 /// How many lines a block has at most that may have several owners.
 pub(crate) const MAX_SHARED_LINES: usize = 64;
 
-/// How many places the lines of a head have with them, where there are more than a few.
-const MANY_LINES: usize = 16;
-
 /// Field lines, as one of their owners holds them.
 #[derive(Drop)]
 pub(crate) enum Held {
@@ -31,10 +28,8 @@ pub(crate) enum Held {
     One(ShortLine),
     /// At most 64 lines, which may have other owners.
     Shared(Arc<Block>),
-    /// At most 4 lines of a head, which may have other owners.
-    Few(Arc<HeadLines<FEW_LINES>>),
-    /// More than 4 and at most 64 lines of a head, which may have other owners.
-    Read(Arc<HeadLines<MANY_LINES>>),
+    /// At most 64 lines of a head, which may have other owners.
+    Read(Arc<HeadLines>),
     /// Any lines, with no other owner.
     Own(Box<Block>),
 }
@@ -65,7 +60,7 @@ impl Held {
     }
 
     /// The owner of the lines at these places of a head.
-    #[inline(always)]
+    #[inline(never)]
     pub(crate) fn of_head(alloc: Global, head: &Bytes, spans: &[HeaderSpan]) -> Result<Self, Error>
         requires within { All (IsHeaderWithin (length head.now)) spans.now }
         requires short { length head.now ≤ MAX_TEXT }
@@ -74,24 +69,8 @@ impl Held {
         ensures flags { IfOk result (AreFlags 0) }
         ensures err { IsOkUnless result no_memory }
     {
-        if spans.len() > FEW_LINES {
-            return Held::of_long_head(alloc, head, spans);
-        }
-        let lines = HeadLines::new(alloc, head, spans)?;
-        Ok(Held::Few(Arc::new(alloc, lines)?))
-    }
-
-    // Kept apart, so that a caller with few lines doesn't clear room for many.
-    #[inline(never)]
-    fn of_long_head(alloc: Global, head: &Bytes, spans: &[HeaderSpan]) -> Result<Self, Error>
-        requires within { All (IsHeaderWithin (length head.now)) spans.now }
-        requires short { length head.now ≤ MAX_TEXT }
-        requires few { length spans.now ≤ MAX_SHARED_LINES }
-        ensures ok { IfOk result (λ held. lines_in held ≡ map (header_bytes head.now) spans.now) }
-        ensures flags { IfOk result (AreFlags 0) }
-        ensures err { IsOkUnless result no_memory }
-    {
-        let lines = HeadLines::new(alloc, head, spans)?;
+        let mut lines = HeadLines::new(alloc);
+        lines.read(head, spans)?;
         Ok(Held::Read(Arc::new(alloc, lines)?))
     }
 

@@ -18,7 +18,7 @@ use std::alloc::AllocError;
 /// is no memory for.
 pub(crate) const MAX_TEXT: usize = 0xFFFF_FFFF;
 
-/// How many places a block of lines has in itself, and so has the owner of few lines of a head.
+/// How many places a block of lines has in itself.
 pub(crate) const FEW_LINES: usize = 4;
 
 /// The places of field lines. Few need no block of memory of their own.

@@ -2,10 +2,8 @@
 use Rattle.std.proofs.Common.{◌≡◌, List, [], ◌∷◌, codes, Option, Some, None, IfSome, Result, Ok, Err, IfOk, IfErr, refl, subst, true}
 use Rattle.std.specs.List.{All, AllByRecursion}
 use Rattle.std.proofs.lemmas.List.Elements.{All-from_recursion}
-use Rattle.httparse.specs.Grammar.{is_token, is_token_byte}
 use Rattle.h1_error.specs.declared.error.Error.{Error}
 use Rattle.h1_error.specs.Memory.{no_memory}
-use Rattle.h1_head.specs.Faults.{line_fault, RefusedFor}
 use Rattle.h1_transcript.specs.declared.reply.Reply.{Reply}
 use Rattle.h1_transcript.specs.Entry.{Entry}
 use Rattle.futures.specs.declared.task.Poll.TheVariants.{Ready}
@@ -16,20 +14,6 @@ use Rattle.h1_application.specs.Application.{GivesReply, given_by, payload_of}
 use Rattle.h1_transcript.specs.Exchange.{IsAllowed}
 use Rattle.h1_transcript.specs.Rules.{plain}
 use Rattle.h1_greeting.specs.Greeting.{Greeting, greeting}
-
--- the line that states the length is refused only where memory ran out
-name_is : is_token (codes "content-length") ≡ true
-unfolding is_token_byte
-name_is = refl
-
-pub is_a_line : line_fault (codes "content-length") (codes "6") ≡ None
-is_a_line = rw name_is refl
-
-pub only_memory : (error : Error)
-    → RefusedFor {T = Unit {0}} (line_fault (codes "content-length") (codes "6")) (Err error)
-    → error ≡ no_memory
-only_memory error h =
-    subst (λ fault. RefusedFor {T = Unit {0}} fault (Err error)) is_a_line h
 
 -- each reply of these exchanges is the greeting
 pub all_greeted : (entries : List Entry) → AllByRecursion (IsAllowed (plain Greeting)) entries

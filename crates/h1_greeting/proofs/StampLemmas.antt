@@ -1,30 +1,13 @@
--- The line that stamps is refused only where memory ran out, and each header that was sent has it.
+-- Each header that was sent is stamped.
 use Rattle.std.proofs.Common.{◌≡◌, ℕ, List, [], ◌∷◌, codes, Option, Some, None, IfSome, Result, Ok, Err, refl, ◌∙◌, ap, subst, true}
 use Rattle.std.specs.List.{All, AllByRecursion}
 use Rattle.std.proofs.lemmas.List.Elements.{All-from_recursion}
-use Rattle.httparse.specs.Grammar.{is_token, is_token_byte}
-use Rattle.h1_error.specs.declared.error.Error.{Error}
-use Rattle.h1_error.specs.Memory.{no_memory}
-use Rattle.h1_head.specs.Faults.{line_fault, RefusedFor}
 use Rattle.h1_head.specs.Views.{RequestView, ResponseView}
 use Rattle.h1_transcript.specs.declared.reply.Reply.{Reply}
 use Rattle.h1_transcript.specs.Entry.{Entry}
 use Rattle.h1_transcript.specs.Exchange.{IsAllowed, given_to}
 use Rattle.h1_greeting.specs.Greeting.{Greeting, greeting}
 use Rattle.h1_greeting.specs.Stamped.{stamped, stamped_greeting}
-
-name_is : is_token (codes "x-served-by") ≡ true
-unfolding is_token_byte
-name_is = refl
-
-is_a_line : line_fault (codes "x-served-by") (codes "greeting") ≡ None
-is_a_line = rw name_is refl
-
-pub only_memory : (error : Error)
-    → RefusedFor {T = Unit {0}} (line_fault (codes "x-served-by") (codes "greeting")) (Err error)
-    → error ≡ no_memory
-only_memory error h =
-    subst (λ fault. RefusedFor {T = Unit {0}} fault (Err error)) is_a_line h
 
 -- the reply is the greeting, before its header is stamped
 replied : (e : Entry) (reply : Reply) → e.reply ≡ Some reply → IsAllowed stamped_greeting e

@@ -2,4 +2,3 @@ pub mod Greeting
 pub mod GreetingLaw
 pub mod Polled
 pub mod Stamped
-pub mod StampedLaw

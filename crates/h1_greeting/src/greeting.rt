@@ -61,7 +61,7 @@ impl<L: Link + Drop, C: Drop> ServeHttp<L, C> for Greets {
     }
 }
 
-#[tactic(auto, using(crate::proofs::GreetingLemmas::only_memory))]
+#[tactic(auto, unfolding(httparse::specs::Grammar::is_token_byte))]
 fn greeting(alloc: Global) -> Result<Reply, Error>
     ensures ok { IfOk result (λ reply. reply ≡ greeting) }
     ensures err { IfErr result (λ error. error ≡ no_memory) }

@@ -1,6 +1,7 @@
 //! The head of a request (RFC 9112, section 3).
-ghost use Rattle.std.specs.Prelude.{◌≡◌, ◌++◌, ◌∷◌, [], IsTrue, IfOk, OnOk, OnErr, IsOkUnless, codes, option_map};
+ghost use Rattle.std.specs.Prelude.{◌≡◌, ◌++◌, ◌∷◌, [], length, map, All, IsTrue, IfOk, OnOk, OnErr, IsOkUnless, codes, option_map};
 ghost use Rattle.httparse.specs.Grammar.{IsToken, is_token};
+ghost use Rattle.httparse.specs.Spans.{IsHeaderWithin, header_bytes};
 ghost use Rattle.h1_error.specs.Memory.{no_memory};
 ghost use Rattle.h1_fields.specs.Lines.{has_line, first_value, values_of, with_line, without};
 ghost use Rattle.h1_head.specs.Faults.{RefusedFor, method_fault, line_fault};
@@ -17,6 +18,7 @@ use h1_fields::{Fields, ValuesIter};
 use http::request::Parts;
 use http::{Method, Version};
 use httparse::is_token;
+use httparse::spans::HeaderSpan;
 use std::alloc::Global;
 use std::marker::Model;
 
@@ -110,24 +112,27 @@ impl RequestHeader {
     }
 
     /// Puts a request that was read in the place of this one, of version 1.0 or 1.1 by its last
-    /// digit.
+    /// digit. Its field lines lie at these places of the head.
     #[inline(always)]
     pub(crate) fn put_read(
         &mut self,
         method: &[u8],
         target: Bytes,
         minor: u8,
-        fields: Fields,
+        head: &Bytes,
+        lines: &[HeaderSpan],
     ) -> Result<(), Error>
-        requires { IsTrue (is_token method.now) }
-        ensures ok { OnOk result (self.new ≡ request_read method.now target minor fields) }
+        requires token { IsTrue (is_token method.now) }
+        requires within { All (IsHeaderWithin (length head.now)) lines.now }
+        ensures ok { OnOk result (self.new ≡ request_read method.now target minor
+            (map (header_bytes head.now) lines.now)) }
         ensures err { IsOkUnless result no_memory }
     {
         self.method = method_named(self.alloc, method)?;
         self.target = target;
         self.version = with_minor(minor);
         self.authority = None;
-        self.fields = fields;
+        self.fields.read(head, lines)?;
         self.send_end_stream = true;
         Ok(())
     }

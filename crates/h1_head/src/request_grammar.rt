@@ -1,6 +1,5 @@
 //! The head of a request by the grammar (RFC 9112, sections 2.2, 3 and 5).
-ghost use Rattle.std.specs.Prelude.{◌≡◌, ◌≤◌, length, map, All, IfOk, IfSome, OnOk, IsOkUnless};
-ghost use Rattle.httparse.specs.Spans.{IsHeaderWithin, header_bytes};
+ghost use Rattle.std.specs.Prelude.{◌≤◌, length, IfOk, IfSome, OnOk, IsOkUnless};
 ghost use Rattle.h1_error.specs.Memory.{no_memory};
 ghost use Rattle.h1_head.specs.RequestGrammar.{IsHead, IsParsedAs};
 ghost use Rattle.h1_head.specs.RequestSpans.{IsFoundIn, IsFrontAt, IsHeadAt};
@@ -9,10 +8,8 @@ use crate::RequestHeader;
 use crate::limits::{MAX_HEADER_SIZE, MAX_HEADERS};
 use bytes::Bytes;
 use h1_error::Error;
-use h1_fields::Fields;
 use httparse::Status;
 use httparse::spans::{EMPTY_HEADER_SPAN, HeaderSpan, RequestSpans, parse_request};
-use std::alloc::Global;
 
 /// So many field lines most heads have at most; `judge_front` reads no head of more.
 pub const FEW_HEADERS: usize = 16;
@@ -28,11 +25,7 @@ enum Found {
 /// Whether the bytes are one head from their first byte to their last. What it says is put in the
 /// place of the header.
 #[inline(always)]
-pub(crate) fn parse_head(
-    alloc: Global,
-    bytes: &Bytes,
-    header: &mut RequestHeader,
-) -> Result<bool, Error>
+pub(crate) fn parse_head(bytes: &Bytes, header: &mut RequestHeader) -> Result<bool, Error>
     ensures ok { IfOk result (IsParsedAs bytes.now header.new) }
     ensures err { IsOkUnless result no_memory }
 {
@@ -41,24 +34,24 @@ pub(crate) fn parse_head(
     let mut spans = [EMPTY_HEADER_SPAN; FEW_HEADERS];
     match find_head(bytes.as_slice(), &mut spans) {
         Found::Head(head) => {
-            put_request(alloc, bytes, &spans, head, header)?;
+            put_request(bytes, &spans, head, header)?;
             Ok(true)
         }
         Found::NoHead => Ok(false),
-        Found::NoRoom => parse_long_head(alloc, bytes, header),
+        Found::NoRoom => parse_long_head(bytes, header),
     }
 }
 
 /// The same, with room for as many lines as a head may have.
 #[inline(never)]
-fn parse_long_head(alloc: Global, bytes: &Bytes, header: &mut RequestHeader) -> Result<bool, Error>
+fn parse_long_head(bytes: &Bytes, header: &mut RequestHeader) -> Result<bool, Error>
     ensures ok { IfOk result (IsParsedAs bytes.now header.new) }
     ensures err { IsOkUnless result no_memory }
 {
     let mut spans = [EMPTY_HEADER_SPAN; MAX_HEADERS];
     match find_head(bytes.as_slice(), &mut spans) {
         Found::Head(head) => {
-            put_request(alloc, bytes, &spans, head, header)?;
+            put_request(bytes, &spans, head, header)?;
             Ok(true)
         }
         Found::NoHead => Ok(false),
@@ -102,7 +95,6 @@ pub(crate) fn find_front(bytes: &[u8], spans: &mut [HeaderSpan]) -> Option<Reque
 /// Puts the request whose parts lie at these places in the place of the header.
 #[inline(always)]
 pub(crate) fn put_request(
-    alloc: Global,
     bytes: &Bytes,
     spans: &[HeaderSpan],
     head: RequestSpans,
@@ -113,18 +105,8 @@ pub(crate) fn put_request(
     ensures err { IsOkUnless result no_memory }
 {
     let text = bytes.as_slice();
-    let fields = fields_at(alloc, bytes, &spans[..head.headers])?;
+    let lines = &spans[..head.headers];
     let method = head.method.of(text);
     let target = bytes.slice(head.path.start..head.path.end)?;
-    header.put_read(method, target, head.version, fields)
-}
-
-/// The field lines whose names and values lie at these places.
-#[inline(always)]
-fn fields_at(alloc: Global, bytes: &Bytes, spans: &[HeaderSpan]) -> Result<Fields, Error>
-    requires { All (IsHeaderWithin (length bytes.now)) spans.now }
-    ensures ok { IfOk result (λ fields. fields ≡ map (header_bytes bytes.now) spans.now) }
-    ensures err { IsOkUnless result no_memory }
-{
-    Fields::of_head(alloc, bytes, spans)
+    header.put_read(method, target, head.version, bytes, lines)
 }

@@ -134,7 +134,6 @@ pub fn find_head_end(search: &mut HeadSearch, bytes: &[u8]) -> HeadEnd
 /// the spans hold has no meaning before and after.
 #[inline(always)]
 pub fn judge_front(
-    alloc: Global,
     bytes: &[u8],
     room: &mut Room,
     spans: &mut [HeaderSpan; FEW_HEADERS],
@@ -148,7 +147,7 @@ pub fn judge_front(
         return Ok(None);
     };
     *raw = room.copy(&bytes[..front.len])?;
-    put_request(alloc, raw, spans, front, header)?;
+    put_request(raw, spans, front, header)?;
     Ok(Some((settle(header), front.len)))
 }
 
@@ -168,7 +167,7 @@ pub fn judge_head(
     ensures err { IsOkUnless result no_memory }
 {
     *raw = room.copy(head)?;
-    if parse_head(alloc, raw, header)? || parse_escape(alloc, head, header, raw)? {
+    if parse_head(raw, header)? || parse_escape(alloc, head, header, raw)? {
         Ok(settle(header))
     } else {
         Ok(Verdict::Refused(HeadFault::NotAHead))
@@ -191,7 +190,7 @@ fn parse_escape(
         return Ok(false);
     };
     *raw = Bytes::from_vec(escaped)?;
-    parse_head(alloc, raw, header)
+    parse_head(raw, header)
 }
 
 /// Drops Content-Length lines beside Transfer-Encoding, and judges what is left.

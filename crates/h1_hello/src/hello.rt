@@ -7,8 +7,11 @@ ghost use Rattle.h1_app.specs.View.{entries};
 ghost use Rattle.h1_hello.specs.Gate.{gated};
 ghost use Rattle.h1_hello.specs.Hello.{hello_terms};
 
-use crate::{Gate, Respond, Responds, reply_of};
-use h1_app::{Connection, History, HttpServer, HttpServerOptions, Reply};
+use crate::Gate;
+use h1_app::{
+    Connection, HeadModule, History, HttpServer, HttpServerOptions, Reply, Respond, Responds,
+    reply_of,
+};
 use h1_error::Error;
 use h1_head::RequestHeader;
 use h1_link::{MemLink, SetClock};
@@ -31,7 +34,7 @@ impl Respond for Hello {
 }
 
 /// A connection that [`Hello`] serves behind [`Gate`].
-pub type Greeted = Connection<MemLink, Responds<Hello>, Gate, ()>;
+pub type Greeted = Connection<MemLink, Responds<Hello>, HeadModule<Gate>, ()>;
 
 /// Serves a peer that sends these bytes and no more, and forgets each exchange once it is over.
 pub fn say_hello(alloc: Global, given: &[u8]) -> Result<Greeted, Error>
@@ -40,7 +43,7 @@ pub fn say_hello(alloc: Global, given: &[u8]) -> Result<Greeted, Error>
     ensures err { IfErr result (λ error. error ≡ no_memory) }
 {
     let mut server = HttpServer::new_app(alloc, Responds(Hello));
-    server.add_module(Gate)?;
+    server.add_module(HeadModule::new(Gate, 1))?;
     server.server_options = Some(HttpServerOptions {
         history: History::Forgotten,
         ..HttpServerOptions::default()

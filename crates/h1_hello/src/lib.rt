@@ -4,13 +4,9 @@
 
 mod gate;
 mod hello;
-mod reply;
-mod respond;
 
 pub use gate::Gate;
 pub use hello::{Greeted, Hello, say_hello};
-pub use reply::reply_of;
-pub use respond::{Respond, Responds};
 
 #[cfg(test)]
 mod tests;

@@ -1,4 +1,5 @@
 pub mod AcceptorState
+pub mod ClockState
 pub mod Counts
 pub mod DialerState
 pub mod DummyState

@@ -1,6 +1,6 @@
 -- What a link gave and took, and how often it was called: the transport connection of RFC 9112,
 -- section 9, as its user sees it.
-use Rattle.std.specs.Prelude.{ℕ, List, [], Bool, false, Option, Some}
+use Rattle.std.specs.Prelude.{◌≡◌, ℕ, List, [], Bool, false, Option, None, Some}
 
 pub record LinkState : Type 0 where
   -- the bytes that its reads handed out, where the link tells them
@@ -45,3 +45,17 @@ fresh_state = record {
   flushed = 0;
   shut = false;
 }
+
+-- told bytes are none
+abbrev pub NoBytes : Option (List ℕ) → Type 0
+NoBytes None = Unit {0}
+NoBytes (Some bytes) = bytes ≡ []
+
+-- no byte passed the link yet either way, and neither side ended it
+pub record IsFresh (s : LinkState) : Type 0 where
+  pub given : NoBytes s.given
+  pub written : NoBytes s.written
+  pub bytes_in : s.bytes_in ≡ 0
+  pub bytes_out : s.bytes_out ≡ 0
+  pub ended : s.ended ≡ false
+  pub shut : s.shut ≡ false

@@ -6,8 +6,11 @@
 #![tactic(auto)]
 
 mod acceptor;
+mod asked;
 mod clock;
+mod closing;
 mod dialer;
+mod handed_back;
 mod laws;
 mod link;
 mod memory;
@@ -21,10 +24,13 @@ mod tcp;
 
 pub use acceptor::Acceptor;
 pub use clock::Clock;
+pub use closing::{CLOSE_BYTES, CLOSE_PIECE, CLOSE_WAITS};
 pub use dialer::{DialStep, Dialer};
 pub use laws::{calls_add_up, calls_only_add, later_states_go_on};
 pub use link::{FlushStep, Link, ReadStep, WriteStep};
-pub use memory::{DummyIO, Gate, MemAcceptor, MemDialer, MemLink, MemSink, MemSource, SetClock};
+pub use memory::{
+    DummyIO, Gate, MemAcceptor, MemDialer, MemLink, MemSink, MemSource, SetClock, Tally,
+};
 pub use sink::{Sink, SinkStep};
 pub use source::{Source, SourceStep};
 pub use standard::{StdSink, StdSource};

@@ -74,7 +74,12 @@ pub trait Link {
         ensures state { state self.new ≡ after_flush (state self.old) result }
         ensures plan { same_plan self.old self.new };
 
-    /// Closes the stream for both sides.
+    /// Closes the stream for both sides, once what was taken is sent as far as that can be waited
+    /// for.
+    ///
+    /// The owner of a link whose connection is over calls it, whatever the end was. Where a
+    /// connection isn't kept alive its session has called it by then; it may be called again, and a
+    /// further call closes nothing further.
     fn shutdown(&mut self)
         ensures state { state self.new ≡ after_shutdown (state self.old) }
         ensures plan { same_plan self.old self.new };

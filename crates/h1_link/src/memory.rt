@@ -1,4 +1,5 @@
-//! The outside in memory: what a test or a script puts ahead and reads back.
+//! The outside in memory: what a test or a script puts ahead and reads back, and the tally that a link
+//! of one's own keeps.
 mod ahead;
 mod counts;
 mod dummy_io;

@@ -1,28 +1,33 @@
 //! Links over TCP (RFC 9112, section 9).
-ghost use Rattle.std.specs.Prelude.{◌≡◌, ◌<◌, length, IfSome};
+ghost use Rattle.std.specs.Prelude.{◌≡◌, ◌<◌, length, IfSome, IsTrue};
 ghost use Rattle.std.specs.Io.KnownBytes.{Keeps};
 ghost use Rattle.std.specs.Net.Socket.{socket_port};
+ghost use Rattle.h1_link.specs.AcceptorState.{AcceptsFresh, new_acceptor};
 ghost use Rattle.h1_link.specs.Steps.{FitsRead, FitsWrite, after_read, after_write};
 ghost use Rattle.h1_link.specs.Steps.{after_flush, after_shutdown};
 ghost use Rattle.h1_link.specs.TcpState.{TcpState, new_tcp_state, contents};
 ghost use Rattle.h1_link.specs.TcpState.{ReadsStream, WritesStream, HoldsNothing};
 
 use crate::acceptor::Acceptor;
+use crate::closing::{WAIT, close, is_wait};
 use crate::dialer::{DialStep, Dialer};
+use crate::handed_back::HandedBack;
 use crate::link::{FlushStep, Link, ReadStep, WriteStep};
 use crate::memory::{Tally, raise};
 use std::alloc::Global;
-use std::io::{self, BufWriter, ErrorKind, Read, Write};
+use std::io::{BufWriter, Read, Write};
 use std::marker::Model;
-use std::net::{Ipv4Addr, Net, OpenListener, OpenStream, Shutdown, SocketAddr, SocketAddrV4};
+use std::net::{Ipv4Addr, Net, OpenListener, OpenStream, SocketAddr, SocketAddrV4};
 use std::time::Duration;
-
-/// How long a read or a write waits for the peer, in milliseconds.
-const WAIT: u64 = 20;
 
 /// A link over a TCP stream. It holds up to 8,192 bytes of what it took until a flush, so that the
 /// parts of a message that are there together leave in one write. A piece of that length or more
-/// goes through at once behind what is held. A shutdown and a drop try once to send what is held.
+/// goes through at once behind what is held. A drop tries once to send what is held.
+///
+/// A shutdown sends what is held, closes the way out, reads and drops what the peer still sends
+/// until its end, and then closes both ways. It waits at most [`CLOSE_WAITS`](crate::CLOSE_WAITS)
+/// times for a flush and as often for the peer's bytes, and drops at most
+/// [`CLOSE_BYTES`](crate::CLOSE_BYTES). Contracts see none of the dropped bytes as given.
 ///
 /// Contracts see the bytes that the stream's reads returned and its writes took; that these are the
 /// bytes on the wire is trusted.
@@ -65,14 +70,6 @@ impl<S: Read + Write + OpenStream + Drop> TcpLink<S> {
             tally: Tally::new(),
         })
     }
-}
-
-/// Whether the peer may be ready at a later call.
-fn is_wait(error: &io::Error) -> bool {
-    matches!(
-        error.kind(),
-        ErrorKind::WouldBlock | ErrorKind::TimedOut | ErrorKind::Interrupted
-    )
 }
 
 impl<S: Read + Write + OpenStream + Drop> Link for TcpLink<S> {
@@ -127,11 +124,14 @@ impl<S: Read + Write + OpenStream + Drop> Link for TcpLink<S> {
     fn shutdown(&mut self)
         ensures stream { Keeps (contents self.old) (contents self.new) }
         ensures state { self.new.state ≡ after_shutdown self.old.state }
+
+        // A link that was shut down sends nothing further.
+        ensures again { IsTrue self.old.state.shut
+            → self.new ≡ record self.old { state = after_shutdown self.old.state } }
     {
-        // What can't be sent now is lost, and a stream that the peer has closed can't be shut down
-        // again: neither is a fault.
-        let _ = self.stream.flush();
-        let _ = self.stream.get_ref().shutdown(Shutdown::Both);
+        if !self.tally.is_shut() {
+            close(&mut self.stream);
+        }
         self.tally.count_shutdown();
     }
 
@@ -202,8 +202,10 @@ impl<R: Net + AllocGlobal + Drop> Dialer for TcpDialer<R> {
 pub struct TcpAcceptor<R: Net + Drop> {
     rt: R,
     listener: Option<R::Listener>,
+    port: Option<u16>,
     faults: u64,
     accepted: u64,
+    handed_back: HandedBack<TcpLink<R::Stream>>,
 }
 
 impl<R: Net + Drop> Model for TcpAcceptor<R> {
@@ -211,19 +213,26 @@ impl<R: Net + Drop> Model for TcpAcceptor<R> {
 
     ghost Value = { AcceptorState };
 
-    ghost view = { λ a. record { accept_faults = a.faults; accepted = a.accepted } };
+    ghost view = { λ a. record {
+      port = a.port;
+      accept_faults = a.faults;
+      accepted = a.accepted;
+      handed_back = a.handed_back;
+    } };
 }
 
 impl<R: Net + Drop> TcpAcceptor<R> {
     /// An acceptor over this runtime, which holds no port yet.
     pub fn new(rt: R) -> Self
-        ensures { result ≡ record { accept_faults = 0; accepted = 0 } }
+        ensures { result ≡ new_acceptor }
     {
         TcpAcceptor {
             rt,
             listener: None,
+            port: None,
             faults: 0,
             accepted: 0,
+            handed_back: HandedBack::new(),
         }
     }
 }
@@ -237,6 +246,7 @@ impl<R: Net + AllocGlobal + Drop> Acceptor for TcpAcceptor<R> {
         match self.rt.bind(local(port)) {
             Ok(listener) => {
                 self.listener = Some(listener);
+                self.port = Some(port);
                 true
             }
             Err(_) => {
@@ -258,12 +268,17 @@ impl<R: Net + AllocGlobal + Drop> Acceptor for TcpAcceptor<R> {
             }
         }
     }
+
+    fn hand_back(&mut self, link: TcpLink<R::Stream>) {
+        self.handed_back.take(link);
+    }
 }
 
 /// The next peer's link, where a port is held.
 fn accept_on<N: OpenListener>(alloc: Global, listener: &Option<N>) -> Option<TcpLink<N::Stream>>
 where
     N::Stream: Read + Write + OpenStream + Drop,
+    ensures fresh { AcceptsFresh (λ link. link.state) result }
 {
     let (stream, _peer) = listener.as_ref()?.accept().ok()?;
     TcpLink::new(alloc, stream)

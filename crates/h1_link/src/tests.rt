@@ -88,10 +88,14 @@ fn an_acceptor_hands_out_its_links_in_order(rt: HostRuntime) -> Result<(), Fail>
     assert!(rt; !acceptor.bind(80));
     assert!(rt; acceptor.bind(80));
     let mut link = MemLink::new(rt.alloc());
-    link.shutdown();
+    link.give(b"GET")?;
     acceptor.plan(link)?;
-    assert!(rt; acceptor.accept().is_some_and(|link| link.is_shut()));
+    let mut link = acceptor.accept().ok_or("no link")?;
     assert!(rt; acceptor.accept().is_none());
+    let mut buf = [0u8; 8];
+    assert_eq!(rt; link.poll_read(&mut buf), ReadStep::Got(3));
+    link.shutdown();
+    acceptor.hand_back(link);
     Ok(())
 }
 
@@ -167,6 +171,24 @@ fn links_over_tcp_carry_bytes(rt: HostRuntime) -> Result<(), Fail> {
     near.shutdown();
     assert_eq!(rt; far.poll_read(&mut buf), ReadStep::Got(1));
     assert_eq!(rt; far.poll_read(&mut buf), ReadStep::End);
+    Ok(())
+}
+
+#[test]
+fn a_peer_whose_bytes_are_not_read_reads_the_reply_to_its_end(rt: HostRuntime) -> Result<(), Fail> {
+    let mut acceptor = TcpAcceptor::new(rt.clone()?);
+    let mut dialer = TcpDialer::new(rt.clone()?);
+    assert!(rt; acceptor.bind(47_814));
+    let mut near = connected(dialer.poll_dial(47_814)).ok_or("no dialed link")?;
+    let mut far = acceptor.accept().ok_or("no accepted link")?;
+    assert_eq!(rt; near.poll_write(&[b'a'; 5_000]), WriteStep::Took(5_000));
+    assert_eq!(rt; near.poll_flush(), FlushStep::Done);
+    assert_eq!(rt; far.poll_write(b"HTTP/1.1"), WriteStep::Took(8));
+    far.shutdown();
+    acceptor.hand_back(far);
+    let mut buf = [0u8; 16];
+    assert_eq!(rt; near.poll_read(&mut buf), ReadStep::Got(8));
+    assert_eq!(rt; near.poll_read(&mut buf), ReadStep::End);
     Ok(())
 }
 

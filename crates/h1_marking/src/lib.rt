@@ -2,10 +2,8 @@
 //! one refuses the requests for one target.
 #![tactic(auto)]
 
-mod builder;
 mod marking;
 #[cfg(test)]
 mod tests;
 
-pub use builder::MarkingBuilder;
-pub use marking::Marking;
+pub use marking::{Marking, MarkingModule};

@@ -1,16 +1,14 @@
-//! The modules: one marks the header of each reply, one refuses the requests for one target.
-ghost use Rattle.std.specs.Prelude.{◌≡◌, Ok, None, OnOk, OnErr, IsOkUnless};
+//! The filters: one marks the header of each reply, one refuses the requests for one target.
+ghost use Rattle.std.specs.Prelude.{◌≡◌, OnOk, OnErr, IsOkUnless};
 ghost use Rattle.h1_error.specs.Memory.{no_memory};
 ghost use Rattle.h1_marking.specs.Marking.{asks_refusal, marked, filtered_request, filtered_header};
 
-use bytes::Bytes;
+use h1_app::{HeadFilter, HeadModule, LawfulFilter};
 use h1_error::{Error, ErrorType};
-use h1_head::{Fields, RequestHeader, ResponseHeader};
-use h1_modules::HttpModule;
+use h1_head::{RequestHeader, ResponseHeader};
 use std::alloc::Global;
 
-/// A module. Neither ever changes, and both leave bodies, trailers and the end of a response as they
-/// are.
+/// A filter of heads.
 #[derive(Clone, Copy, Debug, PartialEq, Eq)]
 pub enum Marking {
     /// Adds the line `x-mark` with this number, in decimal, behind all others of a reply's header.
@@ -19,20 +17,15 @@ pub enum Marking {
     Refuse(u32),
 }
 
-impl HttpModule for Marking {
-    ghost request_header = { filtered_request };
+/// The module of one of them, which begins each exchange as it was added.
+pub type MarkingModule = HeadModule<Marking>;
 
-    ghost request_body = { λ end marking body. Ok (marking, body) };
+impl HeadFilter for Marking {
+    ghost request = { filtered_request };
 
-    ghost response_header = { filtered_header };
+    ghost response = { filtered_header };
 
-    ghost response_body = { λ end marking body. Ok (marking, body) };
-
-    ghost response_trailer = { λ marking trailers. Ok (marking, (trailers, None)) };
-
-    ghost response_done = { λ marking. Ok (marking, None) };
-
-    fn request_header_filter(&mut self, _: Global, req: &mut RequestHeader) -> Result<(), Error> {
+    fn filter_request(&self, _: Global, req: &mut RequestHeader) -> Result<(), Error> {
         match *self {
             Marking::Mark(_) => Ok(()),
             Marking::Refuse(number) => {
@@ -44,47 +37,23 @@ impl HttpModule for Marking {
         }
     }
 
-    fn request_body_filter(
-        &mut self,
-        _: Global,
-        _: &mut Option<Bytes>,
-        _: bool,
-    ) -> Result<(), Error> {
-        Ok(())
-    }
-
-    fn response_header_filter(
-        &mut self,
-        alloc: Global,
-        resp: &mut ResponseHeader,
-        _: bool,
-    ) -> Result<(), Error> {
+    fn filter_response(&self, alloc: Global, resp: &mut ResponseHeader) -> Result<(), Error> {
         match *self {
             Marking::Mark(number) => mark(alloc, resp, number),
             Marking::Refuse(_) => Ok(()),
         }
     }
+}
 
-    fn response_body_filter(
-        &mut self,
-        _: Global,
-        _: &mut Option<Bytes>,
-        _: bool,
-    ) -> Result<(), Error> {
-        Ok(())
-    }
+impl LawfulFilter for Marking {
+    ghost use Rattle.std.specs.Prelude.{codes, decimal, refl};
+    ghost use Rattle.h1_app.specs.LawfulHeads.{line_keeps};
+    ghost use Rattle.h1_marking.specs.declared.marking.Marking.TheVariants.{Mark, Refuse};
 
-    fn response_trailer_filter(
-        &mut self,
-        _: Global,
-        _: &mut Option<Fields>,
-    ) -> Result<Option<Bytes>, Error> {
-        Ok(None)
-    }
-
-    fn response_done_filter(&mut self, _: Global) -> Result<Option<Bytes>, Error> {
-        Ok(None)
-    }
+    ghost keeps = { elim [
+      | Mark number ↦ line_keeps (codes "x-mark") (decimal number) refl
+      | Refuse number ↦ λ header lawful. lawful
+    ] };
 }
 
 /// Whether a request is for the target that is refused.

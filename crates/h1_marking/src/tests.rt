@@ -1,25 +1,27 @@
 //! What the modules make of heads, by example.
 use crate::Marking;
 use bytes::BytesMut;
+use h1_app::{HeadModule, HttpModule};
 use h1_error::{Error, ErrorType};
 use h1_head::{RequestHeader, ResponseHeader};
-use h1_modules::HttpModule;
 use std::alloc::Global;
 
 /// The lines of a header of one line, behind this module.
-fn lines_behind(alloc: Global, mut marking: Marking) -> Result<BytesMut, Error> {
+fn lines_behind(alloc: Global, marking: Marking) -> Result<BytesMut, Error> {
     let mut resp = ResponseHeader::build(alloc, 200, None)?;
     resp.append_header(b"content-length", b"6")?;
-    marking.response_header_filter(alloc, &mut resp, false)?;
+    let mut module = HeadModule::new(marking, 1);
+    module.response_header_filter(alloc, &mut resp, false)?;
     let mut lines = BytesMut::new(alloc);
     resp.header_to_h1_wire(&mut lines)?;
     Ok(lines)
 }
 
 /// Why this module refuses a request for this target, if it does.
-fn refusal_of(alloc: Global, mut marking: Marking, target: &[u8]) -> Result<Option<Error>, Error> {
+fn refusal_of(alloc: Global, marking: Marking, target: &[u8]) -> Result<Option<Error>, Error> {
     let mut req = RequestHeader::build(alloc, b"GET", target, None)?;
-    let refused = marking.request_header_filter(alloc, &mut req).err();
+    let mut module = HeadModule::new(marking, 1);
+    let refused = module.request_header_filter(alloc, &mut req).err();
     Ok(refused)
 }
 

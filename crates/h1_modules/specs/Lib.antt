@@ -1,5 +1,6 @@
 pub mod Outcome
 pub mod Filters
+pub mod Heads
 pub mod Keeping
 pub mod Context
 pub mod Builders

@@ -10,6 +10,7 @@ mod filters;
 mod grpc_web;
 #[cfg(test)]
 mod grpc_web_tests;
+mod head_filter;
 mod http_module;
 mod laws;
 #[cfg(test)]
@@ -25,6 +26,7 @@ pub use bridge::{GrpcWeb, GrpcWebBridge};
 pub use builders::HttpModules;
 pub use context::HttpModuleCtx;
 pub use grpc_web::GrpcWebCtx;
+pub use head_filter::{HeadFilter, HeadModule};
 pub use http_module::{HttpModule, HttpModuleBuilder};
 pub use laws::modules_stand_in_order;
 pub use no_modules::NoModules;

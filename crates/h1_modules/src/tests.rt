@@ -4,7 +4,7 @@ use crate::noting::{
     FILTERS, NEVER, Note, Noting, REQUEST_BODY, REQUEST_HEADER, RESPONSE_BODY, RESPONSE_HEADER,
     RESPONSE_TRAILER,
 };
-use crate::{HttpModuleCtx, HttpModules, NoModules};
+use crate::{HeadModule, HttpModuleCtx, HttpModules, NoModules};
 use bytes::Bytes;
 use h1_error::{Error, ErrorType};
 use h1_head::{Fields, RequestHeader, ResponseHeader};
@@ -132,43 +132,43 @@ fn ten_modules_run_in_order_however_they_are_added(rt: HostRuntime) -> Result<()
     Ok(())
 }
 
-const COUNTS_EARLY: SetsMyFilter = SetsMyFilter {
+const COUNTS_EARLY: HeadModule<SetsMyFilter> = HeadModule {
+    filter: SetsMyFilter { counts: true },
     order: 1,
     key: 2,
-    counts: true,
 };
 
-const SETS_EARLY: SetsMyFilter = SetsMyFilter {
+const SETS_EARLY: HeadModule<SetsMyFilter> = HeadModule {
+    filter: SetsMyFilter { counts: false },
     order: 1,
     key: 2,
-    counts: false,
 };
 
-const COUNTS_LATE: SetsMyFilter = SetsMyFilter {
+const COUNTS_LATE: HeadModule<SetsMyFilter> = HeadModule {
+    filter: SetsMyFilter { counts: true },
     order: -1,
     key: 1,
-    counts: true,
 };
 
-const SETS_LATE: SetsMyFilter = SetsMyFilter {
+const SETS_LATE: HeadModule<SetsMyFilter> = HeadModule {
+    filter: SetsMyFilter { counts: false },
     order: -1,
     key: 1,
-    counts: false,
 };
 
 /// Modules as they are added, and what they set.
-const MY_FILTERS: [([SetsMyFilter; 2], &[u8]); 3] = [
+const MY_FILTERS: [([HeadModule<SetsMyFilter>; 2], &[u8]); 3] = [
     ([COUNTS_LATE, COUNTS_EARLY], b"2"),
     ([COUNTS_LATE, SETS_EARLY], b"2"),
     ([SETS_LATE, COUNTS_EARLY], b"1"),
 ];
 
-fn my_filters<'a>() -> [([SetsMyFilter; 2], &'a [u8]); 3] {
+fn my_filters<'a>() -> [([HeadModule<SetsMyFilter>; 2], &'a [u8]); 3] {
     MY_FILTERS
 }
 
 /// A request that went through these modules.
-fn filtered(alloc: Global, added: [SetsMyFilter; 2]) -> Result<RequestHeader, Error> {
+fn filtered(alloc: Global, added: [HeadModule<SetsMyFilter>; 2]) -> Result<RequestHeader, Error> {
     let mut modules = HttpModules::new(alloc);
     for filter in added {
         modules.add_module(filter)?;

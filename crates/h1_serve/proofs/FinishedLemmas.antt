@@ -28,8 +28,7 @@ use Rattle.h1_app.specs.Timely.{EndsInTime, IsLateHead}
 use Rattle.h1_app.specs.Work.{head_since}
 use Rattle.h1_serve.specs.PollLine.{AnswerCause, AnswersInTime, Polls, poll_line, work_before}
 use Rattle.h1_serve.specs.ExchangeText.{exchanges_lines, wrote_line}
-use Rattle.h1_marking.specs.Marking.{marking_rules}
-use Rattle.h1_marking.specs.declared.builder.MarkingBuilder.{MarkingBuilder}
+use Rattle.h1_marking.specs.Marking.{MarkingModule, marking_rules}
 use Rattle.h1_serve.specs.Report.{Obeys, Lines, IsTextOf, limit_in, modules_in}
 use Rattle.h1_serve.specs.Finished.{ArePolledAt, IsFinished, IsBehindPolls}
 use Rattle.h1_serve.proofs.SinceLemmas.{IsSinceHere, never_late, since_before, since_behind}
@@ -303,7 +302,7 @@ modules_kept [] s text t h = ap (λ (s : State). s.modules) h.1
 modules_kept (c ∷ more) s text t h = modules_kept more h.1 h.2 t h.5 ∙ modules_once s c h.0 h.1 h.4
 
 -- the exchanges of a connection with these modules that finished, and what it wrote
-record Finish (modules : List MarkingBuilder) (moment : ℕ) (polled : List ℕ) (s : State)
+record Finish (modules : List MarkingModule) (moment : ℕ) (polled : List ℕ) (s : State)
     (written : List ℕ) : Type 0 where
   entries : transcript s ≡ s.done
   ended : AreEnded (marking_rules modules).filters (moment / 1000) polled (FlushedBy new_link s.link)
@@ -332,7 +331,7 @@ finish moment polled s written holds is told =
           refl told cause.0.written;
     }
 
-first_holds : (moment : ℕ) (limit : Option ℕ) (modules : List MarkingBuilder)
+first_holds : (moment : ℕ) (limit : Option ℕ) (modules : List MarkingModule)
     → Holds moment [] (start_with limit modules)
 first_holds moment limit modules = record {
   dated = tt;
@@ -351,7 +350,7 @@ finish_of moment asked text x at is =
     let whole = finish moment (polled_in [] [] asked) x.last x.written
     (lines_hold moment asked first [] x.polls x.last
     at (first_holds moment (limit_in asked) (modules_in asked)) x.lines) is x.told in
-    subst (λ (modules : List MarkingBuilder). Finish modules moment (polled_in [] [] asked) x.last
+    subst (λ (modules : List MarkingModule). Finish modules moment (polled_in [] [] asked) x.last
     x.written) (modules_kept asked first x.polls x.last x.lines) whole
 
 same_lines : (s t : State) (one other : List ℕ)

@@ -4,7 +4,7 @@ use Rattle.h1_link.specs.Counts.{raised}
 use Rattle.h1_link.specs.declared.memory.gate.Gate.TheVariants.{Room, Blocked}
 use Rattle.h1_words.specs.declared.command.Command.{Command}
 use Rattle.h1_words.specs.declared.command.Command.TheVariants as command
-use Rattle.h1_marking.specs.declared.builder.MarkingBuilder.{MarkingBuilder}
+use Rattle.h1_marking.specs.Marking.{MarkingModule}
 use Rattle.h1_serve.specs.State.{State, start_with}
 use Rattle.h1_serve.specs.Report.{Obeys, Lines}
 use Rattle.h1_serve.specs.Planned.{read_fault_of, write_fault_of, read_fault_lines, write_fault_lines}
@@ -87,7 +87,7 @@ few_lines s (c ∷ more) text t h reads writes =
     }
 
 -- so no more reads and writes fail than lines planned
-pub few_faults : (limit : Option ℕ) (modules : List MarkingBuilder) (asked : List Command)
+pub few_faults : (limit : Option ℕ) (modules : List MarkingModule) (asked : List Command)
     (text : List ℕ) (t : State) → Lines (start_with limit modules) asked text t
     → (t.link.read_faults ≤ read_fault_lines asked) × (t.link.write_faults ≤ write_fault_lines asked)
 few_faults limit modules asked text t lines =

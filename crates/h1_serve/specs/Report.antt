@@ -1,12 +1,12 @@
 -- What a script is reported as: a line for each poll, then what was read and written in the end.
-use Rattle.std.specs.Prelude.{◌≡◌, ℕ, ◌+◌, List, [], ◌∷◌, ◌++◌, true, Option, Some, None}
+use Rattle.std.specs.Prelude.{◌≡◌, ℕ, ◌+◌, pos, List, [], ◌∷◌, ◌++◌, true, Option, Some, None}
 use Rattle.h1_error.specs.declared.progress.Progress.{Progress}
 use Rattle.h1_link.specs.Counts.{raised}
 use Rattle.h1_link.specs.declared.memory.gate.Gate.TheVariants.{Room, Blocked}
 use Rattle.h1_words.specs.declared.command.Command.{Command}
 use Rattle.h1_words.specs.declared.command.Command.TheVariants as command
 use Rattle.h1_words.specs.Script.{script_of, commands}
-use Rattle.h1_marking.specs.declared.builder.MarkingBuilder.{MarkingBuilder}
+use Rattle.h1_marking.specs.Marking.{MarkingModule}
 use Rattle.h1_marking.specs.declared.marking.Marking.{Marking}
 use Rattle.h1_marking.specs.declared.marking.Marking.TheVariants as marking
 use Rattle.h1_serve.specs.State.{State, start_with, transcript}
@@ -51,16 +51,17 @@ marking_of (command.Refuse number) = Some (marking.Refuse number)
 marking_of _ = None
 
 -- one module more, where there is one
-abbrev pub with_marking : ℕ → Option Marking → (ℕ → List MarkingBuilder) → List MarkingBuilder
+abbrev pub with_marking : ℕ → Option Marking → (ℕ → List MarkingModule) → List MarkingModule
 with_marking key None more = more key
-with_marking key (Some m) more = (record { key = key; marking = m }) ∷ more (key + 1)
+with_marking key (Some m) more =
+    (record { filter = m; order = pos 0; key = key }) ∷ more (key + 1)
 
 -- the modules that the commands add, with keys from this one on in the order of the lines
-abbrev pub modules_from : ℕ → List Command → List MarkingBuilder
+abbrev pub modules_from : ℕ → List Command → List MarkingModule
 modules_from key [] = []
 modules_from key (c ∷ rest) = with_marking key (marking_of c) (λ next. modules_from next rest)
 
-abbrev pub modules_in : List Command → List MarkingBuilder
+abbrev pub modules_in : List Command → List MarkingModule
 modules_in asked = modules_from 0 asked
 
 -- the text of these commands: their polls, and then the exchanges and the bytes written of the last

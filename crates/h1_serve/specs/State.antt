@@ -12,8 +12,7 @@ use Rattle.h1_transcript.specs.Entry.{Entry}
 use Rattle.h1_transcript.specs.declared.history.History.TheVariants.{Kept}
 use Rattle.h1_echo.specs.declared.echo.EchoApp.{EchoApp}
 use Rattle.h1_echo.specs.declared.echo.EchoJob.{EchoJob}
-use Rattle.h1_marking.specs.Marking.{marking_rules}
-use Rattle.h1_marking.specs.declared.builder.MarkingBuilder.{MarkingBuilder}
+use Rattle.h1_marking.specs.Marking.{MarkingModule, marking_rules}
 use Rattle.h1_transcript.specs.Rules.{Rules}
 use Rattle.h1_app.specs.View.{Served, View, work_of, unlimited}
 use Rattle.h1_app.specs.Work.{Work, reads_head}
@@ -40,7 +39,7 @@ pub record State : Type 0 where
   -- waits
   pub work : Work
   -- the modules of the server, in the order in which they were added
-  pub modules : List MarkingBuilder
+  pub modules : List MarkingModule
   -- what the connection is made with, and whether the server shuts down
   pub terms : Terms
   pub shut : Bool
@@ -52,7 +51,7 @@ abbrev pub new_link : LinkState
 new_link = new_mem_state.state
 
 -- before the first line, with this limit and these modules
-abbrev pub start_with : Option ℕ → List MarkingBuilder → State
+abbrev pub start_with : Option ℕ → List MarkingModule → State
 start_with limit modules = record {
   done = [];
   last = None;
@@ -90,7 +89,7 @@ writes_due_of link = faults_due link.write_fault link.state.write_faults
 
 -- what is seen of a script's connection
 abbrev pub MarkedView : Type 0
-MarkedView = View MemState (Unit {0}) (Served EchoApp MarkingBuilder) EchoJob
+MarkedView = View MemState (Unit {0}) (Served EchoApp MarkingModule) EchoJob
 
 -- what the connection sends: what the application replies, and what the modules make of it
 abbrev pub rules : State → Rules

@@ -13,7 +13,7 @@ ghost use Rattle.h1_words.specs.Script.{script_of, commands, faulty_at};
 ghost use Rattle.h1_serve.specs.Finished.{IsFinished, IsBehindPolls};
 ghost use Rattle.h1_serve.specs.Output.{Wrote, usage_line};
 ghost use Rattle.h1_serve.specs.Planned.{read_fault_lines, write_fault_lines};
-ghost use Rattle.h1_marking.specs.declared.builder.MarkingBuilder.{MarkingBuilder};
+ghost use Rattle.h1_marking.specs.Marking.{MarkingModule};
 ghost use Rattle.h1_serve.specs.Report.{Lines};
 ghost use Rattle.h1_serve.specs.State.{State, start_with};
 ghost use Rattle.h1_serve.specs.Polled.{Tells, AreSpent, state_behind};
@@ -91,7 +91,7 @@ pub fn finished_reports_are_alike()
 /// Of the calls of a script's link no more reads fail than lines `fault read` stood before, and no
 /// more writes than lines `fault write`; `asked` are the lines up to any of them.
 pub fn faults_are_planned()
-    ensures { (limit : Option ℕ) (modules : List MarkingBuilder) (asked : List Command)
+    ensures { (limit : Option ℕ) (modules : List MarkingModule) (asked : List Command)
         (text : List ℕ) (now : State) → Lines (start_with limit modules) asked text now
         → (now.link.read_faults ≤ read_fault_lines asked)
         × (now.link.write_faults ≤ write_fault_lines asked) }

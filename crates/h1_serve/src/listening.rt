@@ -5,7 +5,8 @@ ghost use Rattle.h1_serve.specs.Listening.{listen_line, IsServed, IsServedLine, 
 use crate::output::{Written, write_whole};
 use crate::scripted::options_of;
 use crate::status::Status;
-use h1_app::{Connection, EchoApp, History, HttpServer};
+use h1_app::{Connection, History, HttpServer};
+use h1_echo::EchoApp;
 use h1_error::{Error, Progress};
 use h1_link::{Acceptor, Clock, Link, Sink};
 use h1_serving::{Echoed, serve_link};

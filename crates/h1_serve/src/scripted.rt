@@ -13,16 +13,17 @@ ghost use Rattle.h1_serve.specs.Done.{ObeysOnce};
 
 use crate::exchange::{all_exchanges, push_exchanges, push_written};
 use crate::link_lines::{give, plan_read_fault, plan_write_fault, say_end, set_block, set_room};
-use h1_app::{Connection, EchoApp, History, HttpServer, HttpServerOptions};
+use h1_app::{Connection, HeadModule, History, HttpServer, HttpServerOptions};
+use h1_echo::EchoApp;
 use h1_error::{End, Error, ErrorType, Progress};
 use h1_link::MemLink;
-use h1_marking::{Marking, MarkingBuilder};
+use h1_marking::{Marking, MarkingModule};
 use h1_words::{Command, LAST_MOMENT, Text};
 use std::alloc::Global;
 use std::sync::Arc;
 
 /// A connection of the echo application in memory, with the modules of a script.
-pub(crate) type Marked = Connection<MemLink, EchoApp, MarkingBuilder, ()>;
+pub(crate) type Marked = Connection<MemLink, EchoApp, MarkingModule, ()>;
 
 /// A script as it runs: its connection, and whether the server shuts down.
 #[derive(Drop)]
@@ -70,7 +71,7 @@ fn limit_in(commands: &[Command]) -> Option<u32>
     None
 }
 
-fn connect(alloc: Global, server: HttpServer<EchoApp, MarkingBuilder>) -> Result<Scripted, Error>
+fn connect(alloc: Global, server: HttpServer<EchoApp, MarkingModule>) -> Result<Scripted, Error>
     requires { holding_of server.server_options true ≡ unlimited Kept true }
     ensures state { IfOk result (λ made. state_of made
         ≡ start_with (limit_of server.server_options) server.modules) }
@@ -88,7 +89,7 @@ fn connect(alloc: Global, server: HttpServer<EchoApp, MarkingBuilder>) -> Result
 fn server_for(
     alloc: Global,
     commands: &[Command],
-) -> Result<HttpServer<EchoApp, MarkingBuilder>, Error>
+) -> Result<HttpServer<EchoApp, MarkingModule>, Error>
     requires { length commands.now < 2 ^ 32 }
     ensures limit { IfOk result (λ server. limit_of server.server_options ≡ limit_in commands.now) }
     ensures holding { IfOk result
@@ -100,7 +101,7 @@ fn server_for(
     let mut key = 0;
     for command in commands {
         if let Some(marking) = marking_of(command) {
-            server.add_module(MarkingBuilder { key, marking })?;
+            server.add_module(HeadModule::new(marking, key))?;
             key += 1;
         }
     }

@@ -2,7 +2,8 @@
 ghost use Rattle.std.specs.Prelude.{◌<◌};
 
 use crate::run;
-use h1_app::{Connection, EchoApp, HttpServer, NoModules};
+use h1_app::{Connection, HttpServer, NoModules};
+use h1_echo::EchoApp;
 use h1_error::{End, Error};
 use h1_link::{MemAcceptor, MemLink, MemSink, MemSource, SetClock};
 use std::alloc::Global;

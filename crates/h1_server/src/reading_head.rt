@@ -35,7 +35,7 @@ impl Head for RequestPlace {
         }
         // Most heads are whole at the first look, and the grammar tells their end without a search.
         if search.at() == 0 {
-            if let Some(known) = judge_first(alloc, bytes, room, found)? {
+            if let Some(known) = judge_first(bytes, room, found)? {
                 return Ok(known);
             }
         }
@@ -50,7 +50,6 @@ impl Head for RequestPlace {
 /// Accepts or refuses the head at the front of the bytes, where the grammar tells its end.
 #[inline(always)]
 fn judge_first(
-    alloc: Global,
     bytes: &[u8],
     room: &mut Room,
     place: &mut RequestPlace,
@@ -60,7 +59,7 @@ fn judge_first(
     ensures err { IsOkUnless result no_memory }
 {
     let (request, spans) = (&mut place.request, &mut place.spans);
-    match request.read_front(alloc, bytes, room, spans)? {
+    match request.read_front(bytes, room, spans)? {
         Some((None, len)) => Ok(Some(HeadFound::Whole(len))),
         Some((Some(fault), _)) => Ok(Some(HeadFound::Refused(fault))),
         None => Ok(None),

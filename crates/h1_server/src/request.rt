@@ -88,7 +88,6 @@ impl Request {
     #[inline(always)]
     pub(crate) fn read_front(
         &mut self,
-        alloc: Global,
         bytes: &[u8],
         room: &mut Room,
         spans: &mut [HeaderSpan; FEW_HEADERS],
@@ -97,7 +96,7 @@ impl Request {
         ensures err { IsOkUnless result no_memory }
     {
         let (header, raw) = (&mut self.header, &mut self.raw);
-        match judge_front(alloc, bytes, room, spans, header, raw)? {
+        match judge_front(bytes, room, spans, header, raw)? {
             Some((Verdict::Accepted { both, length }, len)) => {
                 self.note(both, length);
                 Ok(Some((None, len)))

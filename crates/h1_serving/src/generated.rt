@@ -4,7 +4,8 @@ ghost use Rattle.h1_error.specs.declared.error.ErrorType.TheVariants.{NoMemory};
 ghost use Rattle.h1_serving.specs.Whole.{failure_of, IsReady, IsServedWhole};
 
 use crate::serving::{Echoed, serve_link};
-use h1_app::{Connection, EchoApp, History, HttpServer, HttpServerOptions};
+use h1_app::{Connection, History, HttpServer, HttpServerOptions};
+use h1_echo::EchoApp;
 use h1_error::{End, Error, Progress};
 use h1_generator::generate;
 use h1_link::{MemLink, SetClock};

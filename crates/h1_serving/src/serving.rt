@@ -7,7 +7,8 @@ ghost use Rattle.h1_app.specs.Filtering.{rules_of};
 ghost use Rattle.h1_app.specs.View.{entries};
 ghost use Rattle.h1_serving.specs.Served.{IsUnpolled, KeptInCall, LeavesInCall, BeganInCall, AnswersBy, AnswersInTime};
 
-use h1_app::{Connection, EchoApp, LawfulFor, NoModules, ServeHttp};
+use h1_app::{Connection, LawfulFor, NoModules, ServeHttp};
+use h1_echo::EchoApp;
 use h1_error::Progress;
 use h1_link::{Clock, Link};
 

@@ -200,8 +200,8 @@ impl Entry {
         self.owed = false;
     }
 
-    /// Lets the payload and the reply go. The reply's header stays in its place until the next one
-    /// comes there.
+    /// Lets the payload and the reply go. The reply's header, and a block of its body that nobody
+    /// shares and that has at most 64 KiB, stay in their places until the next reply comes there.
     #[inline(always)]
     pub(crate) fn release(&mut self)
         ensures { self.new ≡ record self.old { body = []; reply = None } }

@@ -10,8 +10,9 @@ use h1_body::Gathering;
 pub enum History {
     /// Each exchange is kept, with copies of its heads and of what was sent.
     Kept,
-    /// An exchange leaves memory as it ends. Meanwhile there is no copy of its heads and of what was
-    /// sent, nor of payload that isn't gathered.
+    /// An exchange leaves memory as it ends. Until then there is no copy of its heads, of what was
+    /// sent, or of payload that isn't gathered; what its own reply is made of stays, and so does the
+    /// block of gathered payload, which the next exchange takes.
     Forgotten,
 }
 

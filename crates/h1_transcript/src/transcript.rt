@@ -17,7 +17,7 @@ use std::marker::Model;
 pub const KEEPALIVE_SECONDS: u64 = 60;
 
 /// The exchanges of a connection, in order. Contracts see those that ended as `done`, and the one
-/// that goes on as `last`; where they are forgotten, memory has the last alone.
+/// that goes on as `last`; where they are forgotten, memory has one place, of the last.
 #[derive(Drop)]
 pub struct Transcript {
     holding: Holding,

@@ -103,7 +103,7 @@ not_large error starved large = never (sym (ap (λ (e : Error). e.kind) starved)
 -- a body of which no more was taken, though there was memory, goes on past its limit
 past_for : (kept : Option Payload) (reader : BodyReader) (old : List ℕ) (error : Error)
     → FaultOf kept reader old error → error.kind ≡ kind.ContentTooLarge → GoesPast kept reader old
-past_for None reader old error starved large = absurd (not_large error starved large)
+past_for None reader old error starved large = absurd (not_large error starved.0 large)
 past_for (Some kept) reader old error fault large = elim fault.fault [
   | inl starved ↦ absurd (not_large error starved.0 large)
   | inr past ↦ (fault.run, fault.next, past.1)
@@ -113,9 +113,9 @@ past_for (Some kept) reader old error fault large = elim fault.fault [
 starved_for : (kept : Option Payload) (reader : BodyReader) (old : List ℕ) (error : Error)
     → FaultOf kept reader old error → error.kind ≢ kind.ContentTooLarge
     → (error ≡ no_memory) × StaysWithin kept reader old
-starved_for None reader old error starved other = (starved, tt)
+starved_for None reader old error starved other = starved
 starved_for (Some kept) reader old error fault other = elim fault.fault [
-  | inl starved ↦ (starved.0, (fault.run, fault.next, starved.1))
+  | inl starved ↦ (starved.0, (fault.run, fault.next, starved.1, starved.2))
   | inr past ↦ absurd (other (ap (λ (e : Error). e.kind) past.0))
 ]
 

@@ -16,7 +16,7 @@ RefusesBody before now kept reader received kind = SaysOfBody (reads reader [] �
     ((now.ended ≡ true) × Lacks reader received)
     (Rose before.read_faults now.read_faults × Lacks reader received)
     (Rose before.read_waits now.read_waits × Lacks reader received)
-    (GoesPast kept reader received) (MayStarve kept reader received) kind
+    (GoesPast kept reader received) (MayStarve before now kept reader received) kind
 
 -- every refusal but out of memory is answered again
 abbrev pub refused_for_good : Error → Option Error

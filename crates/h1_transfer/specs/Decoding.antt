@@ -2,7 +2,7 @@
 use Rattle.std.specs.Prelude.{◌≡◌, ℕ, ◌<◌, ◌≤◌, ◌⊎◌, List, [], ◌++◌, length, true, Option, Some, None, option_map}
 use Rattle.h1_transfer.specs.Words.{LinkState, Rose, Body, whole, unfinished, broken, ahead, reads, BodyReader, BodyRead, BodyStop, Payload, grown}
 use Rattle.h1_body.specs.Payload.{held_in}
-use Rattle.h1_body.specs.Takes.{IsNextRun}
+use Rattle.h1_body.specs.Takes.{HasNextRun, IsNextRun}
 use Rattle.h1_transfer.specs.Moved.{Received}
 use Rattle.h1_transfer.specs.declared.reading_body.BodyRead.TheVariants as b
 use Rattle.h1_transfer.specs.declared.reading_body.BodyStop.TheVariants as s
@@ -38,15 +38,16 @@ GoesPast None reader received = ⊥
 GoesPast (Some kept) reader received = (run : List ℕ) × IsNextRun reader received run
     × (kept.gathering.limit < length (kept.bytes ++ run))
 
--- it stays within the limit
+-- a run of payload comes next, and it stays within the limit
 abbrev pub StaysWithin : Option Payload → BodyReader → List ℕ → Type 0
-StaysWithin None reader received = Unit {0}
+StaysWithin None reader received = HasNextRun reader received
 StaysWithin (Some kept) reader received = (run : List ℕ) × IsNextRun reader received run
-    × (length (kept.bytes ++ run) ≤ kept.gathering.limit)
+    × (0 < length run) × (length (kept.bytes ++ run) ≤ kept.gathering.limit)
 
--- memory ran out for more bytes of the link, or for a run within the limit
-abbrev pub MayStarve : Option Payload → BodyReader → List ℕ → Type 0
-MayStarve kept reader received = Lacks reader received ⊎ StaysWithin kept reader received
+-- memory ran out for more bytes of the link, whose end wasn't met, or for a run within the limit
+abbrev pub MayStarve : LinkState → LinkState → Option Payload → BodyReader → List ℕ → Type 0
+MayStarve before now kept reader received =
+    ((now.ended ≡ before.ended) × Lacks reader received) ⊎ StaysWithin kept reader received
 
 -- when the reading of a body stops, with the bytes that are received and not used then
 abbrev pub StopCause : LinkState → LinkState → Option Payload → BodyReader → List ℕ → ℕ → BodyStop
@@ -66,13 +67,13 @@ StopCause before now kept reader received left s.Failed =
 StopCause before now kept reader received left s.TooLarge =
     GoesPast kept reader received × (now.read_waits ≡ before.read_waits)
 StopCause before now kept reader received left s.NoMemory =
-    MayStarve kept reader received × (now.read_waits ≡ before.read_waits)
+    MayStarve before now kept reader received × (now.read_waits ≡ before.read_waits)
 
 -- when each answer of a body read comes
 abbrev pub BodyCause : LinkState → LinkState → Option Payload → BodyReader → List ℕ → ℕ → BodyRead
     → Type 0
 BodyCause before now kept reader received left (b.Piece bytes) =
-    (0 < length bytes) × (now.read_waits ≡ before.read_waits)
+    (0 < length bytes) × (now.read_waits ≡ before.read_waits) × (now.ended ≡ before.ended)
 BodyCause before now kept reader received left (b.Stopped stop) =
     StopCause before now kept reader received left stop
 

@@ -14,12 +14,14 @@ cost f.NoMemory = 0
 
 abbrev pub FillCause : LinkState → LinkState → List ℕ → Filled → Type 0
 FillCause before now piece f.Got = (0 < length piece) × (now.read_waits ≡ before.read_waits)
+    × (now.ended ≡ before.ended)
 FillCause before now piece f.End =
     (piece ≡ []) × (now.ended ≡ true) × (now.read_waits ≡ before.read_waits)
 FillCause before now piece f.NotReady = (piece ≡ []) × Rose before.read_waits now.read_waits
 FillCause before now piece f.Failed = (piece ≡ []) × Rose before.read_faults now.read_faults
     × (now.read_waits ≡ before.read_waits)
 FillCause before now piece f.NoMemory = (piece ≡ []) × (now.read_waits ≡ before.read_waits)
+    × (now.ended ≡ before.ended)
 
 pub record FillsBy (before now : LinkState) (old new : List ℕ) (filled : Filled) : Type 0 where
   pub piece : List ℕ

@@ -3,7 +3,7 @@ use Rattle.std.specs.Prelude.{◌≡◌, ℕ, ◌<◌, List, [], ◌++◌, lengt
 use Rattle.h1_error.specs.Memory.{no_memory}
 use Rattle.h1_transfer.specs.Words.{Error, whole, broken, reads, BodyReader, FeedState, TakeStep, Payload, grown}
 use Rattle.h1_body.specs.Payload.{TakeFault}
-use Rattle.h1_body.specs.Takes.{Takes, payload_bytes}
+use Rattle.h1_body.specs.Takes.{HasNextRun, Takes, payload_bytes}
 use Rattle.h1_body.specs.declared.fed.Taken.{Taken}
 use Rattle.h1_body.specs.declared.fed.FeedState.TheVariants as s
 use Rattle.h1_transfer.specs.Decoding.{Decoded, GoesPast, Lacks, StaysWithin}
@@ -33,9 +33,10 @@ IsJudged state payload t.Broken = (payload ≡ None) × (state ≡ s.Broken)
 IsJudged state payload t.Lacks = (payload ≡ None) × (state ≡ s.More)
 IsJudged state payload t.TooLarge = ⊥
 
--- why no payload was taken: memory ran out, or what comes next goes past the limit of what is kept
+-- why no payload was taken: memory ran out for what comes next, or it goes past the limit of what
+-- is kept
 abbrev pub FaultOf : Option Payload → BodyReader → List ℕ → Error → Type 0
-FaultOf None reader received error = error ≡ no_memory
+FaultOf None reader received error = (error ≡ no_memory) × HasNextRun reader received
 FaultOf (Some kept) reader received error = TakeFault kept reader received error
 
 -- payload is taken and kept where payload is kept, or nothing changes

@@ -10,7 +10,8 @@ use std::alloc::Global;
 #[derive(Drop)]
 pub struct BodyState {
     pub reader: BodyReader,
-    /// What was read since it was handed in, where a caller keeps it.
+    /// What was read of it, where a caller keeps that. One that is handed in again brings along what
+    /// was read before.
     pub kept: Kept,
     /// The refusal that each later read of the body answers.
     pub refused: Option<Error>,

@@ -11,8 +11,9 @@ use std::alloc::Global;
 use std::marker::Model;
 use std::mem;
 
-/// The payload that was read of a body since it was handed in, where a caller keeps it. It stands in
-/// its place whether it is kept or not, so that none is moved for a body that has none.
+/// The payload that was read of a body, where a caller keeps it. One that is handed in brings along
+/// what was read before. It stands in its place whether it is kept or not, so that none is moved for
+/// a body that has none.
 #[derive(Drop)]
 pub struct Kept {
     is_kept: bool,

@@ -1,6 +1,7 @@
 //! Threads that serve links in memory.
 use crate::{Peers, serve_workers};
-use h1_app::{EchoApp, History, HttpServer, HttpServerOptions, NoModules};
+use h1_app::{History, HttpServer, HttpServerOptions, NoModules};
+use h1_echo::EchoApp;
 use h1_error::{End, Progress};
 use h1_link::{MemAcceptor, MemLink, SetClock};
 use std::sync::Arc;

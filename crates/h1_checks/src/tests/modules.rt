@@ -1,6 +1,7 @@
 //! Modules in a connection: what becomes of a request and of its reply.
 use crate::tests::acts::{Acts, BODY, HEADER, REQUEST};
-use h1_app::{Connection, EchoApp, End, Error, ErrorType, HttpServer};
+use h1_app::{Connection, End, Error, ErrorType, HttpServer};
+use h1_echo::EchoApp;
 use h1_link::MemLink;
 use std::alloc::Global;
 use std::sync::Arc;

@@ -1,7 +1,6 @@
 //! What is set on a server, and what goes from one session to the next.
-use h1_app::{
-    EchoApp, HttpPersistentSettings, HttpServerApp, HttpServerOptions, HttpSession, Plain,
-};
+use h1_app::{HttpPersistentSettings, HttpServerApp, HttpServerOptions, HttpSession, Plain};
+use h1_echo::EchoApp;
 use h1_link::MemLink;
 use std::test::Fail;
 

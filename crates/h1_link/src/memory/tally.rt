@@ -63,6 +63,13 @@ impl Tally {
         }
     }
 
+    /// Whether the link was shut down.
+    pub fn is_shut(&self) -> bool
+        ensures { result ≡ self.now.shut }
+    {
+        self.shut
+    }
+
     /// A read into this buffer answered this.
     pub fn count_read(&mut self, buf: &[u8], step: ReadStep)
         requires { FitsRead buf.now step }

@@ -129,6 +129,20 @@ fn a_shutdown_sends_what_is_held(rt: HostRuntime) -> Result<(), Fail> {
 }
 
 #[test]
+fn a_shutdown_sends_again_what_waited_and_a_second_sends_nothing(
+    rt: HostRuntime,
+) -> Result<(), Fail> {
+    let mut link = slow_link(rt.alloc(), 3).ok_or("no link")?;
+    assert_eq!(rt; link.poll_write(b"HTTP/1.1"), WriteStep::Took(8));
+    link.shutdown();
+    assert_eq!(rt; taken(&link), b"HTTP/1.1".as_slice());
+    assert_eq!(rt; link.poll_write(b"HTTP/1.1"), WriteStep::Took(8));
+    link.shutdown();
+    assert_eq!(rt; taken(&link), b"HTTP/1.1".as_slice());
+    Ok(())
+}
+
+#[test]
 fn a_link_may_go_to_another_thread(rt: HostRuntime) -> Result<(), Fail> {
     let link = slow_link(rt.alloc(), 1).ok_or("no link")?;
     may_go(&link);

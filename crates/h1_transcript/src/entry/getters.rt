@@ -36,7 +36,8 @@ impl Entry {
         self.head.get()
     }
 
-    /// The head after the request filters, where exchanges are kept. None where one refused.
+    /// The head after the request filters, where exchanges are kept; the head as it was read where no
+    /// filter changed it. None where one refused.
     pub fn filtered(&self) -> Option<&RequestHeader>
         ensures { option_copied result ≡ kept_in self.now.holding.history self.now.filtered }
     {

@@ -1,4 +1,5 @@
-use Rattle.h1_body.proofs.FeedLemmas.{feeds_chunk, feeds_rest, passes, skips_on}
+use Rattle.std.proofs.Common.{◌≡◌, length, refl, arith, inl, inr}
+use Rattle.h1_body.proofs.FeedLemmas.{feeds_chunk, feeds_rest, ended, feeds_still, passes, skips_on}
 use Rattle.h1_body.proofs.reader.feed_chunks.Goals as goal
 
 pub returns-then-more-room : goal.returns-then-more-room
@@ -20,3 +21,14 @@ loop-at-preserved c =
     (skips_on c.args.start c.loop-at.place c.args.piece.now c.loop-at.at c.loop-at-test.true
     c.loop-at.invariant
     (passes c.loop-at.place c.in_default.not-Data c.in_default.not-Done c.in_default.not-Broken))
+
+pub returns-in-Done : goal.returns-in-Done
+returns-in-Done c =
+    rw (c.of-in-Done.ensures, c.state_of.ensures) (feeds_still c.args.start c.loop-at.place
+    c.args.piece.now c.loop-at.at (omega arith) c.loop-at.invariant (inr (ended c.loop-at.place c.in-Done.is)))
+
+pub returns : goal.returns
+returns c =
+    let is : c.loop-at.at ≡ length c.args.piece.now = omega arith in
+    rw (c.of-2.ensures, c.state_of-2.ensures) (feeds_still c.args.start c.loop-at.place
+    c.args.piece.now (length c.args.piece.now) (omega arith) (rw is at c.loop-at.invariant) (inl refl))

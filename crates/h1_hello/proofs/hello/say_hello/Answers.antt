@@ -1,15 +1,16 @@
 -- The server has one gate, and its link was new.
-use Rattle.std.proofs.Common.{◌≡◌, List, Some, pos, ap, refl, false, ◌∙◌, subst}
+use Rattle.std.proofs.Common.{◌≡◌, List, [], ◌∷◌, Some, ap, refl, false, ◌∙◌, subst}
 use Rattle.h1_link.specs.LinkState.{LinkState}
 use Rattle.h1_link.specs.MemState.{MemState, new_mem_state}
 use Rattle.h1_modules.specs.Builders.{placed}
+use Rattle.h1_modules.specs.declared.head_filter.HeadModule.{HeadModule}
 use Rattle.h1_transcript.specs.Agrees.{Agrees}
 use Rattle.h1_transcript.specs.Begun.{Terms}
 use Rattle.h1_transcript.specs.declared.history.History.TheVariants.{Forgotten}
 use Rattle.h1_app.specs.Accounted.{Accounted}
 use Rattle.h1_app.specs.Filtering.{rules_with}
 use Rattle.h1_app.specs.View.{entries, terms_of}
-use Rattle.h1_hello.specs.AnyLawful.{AnyLawful}
+use Rattle.h1_application.specs.AnyLawful.{AnyLawful}
 use Rattle.h1_hello.specs.declared.gate.Gate.{Gate}
 use Rattle.h1_hello.specs.Gate.{gate_chain}
 use Rattle.h1_hello.specs.Hello.{hello_terms}
@@ -26,7 +27,8 @@ returns-clause-agrees c =
     let gates =
     ap (λ s. s.builders) (kept.served ∙ fresh.served) ∙ ap (λ s. s.modules) server
     ∙ ap (λ s. s.modules) c.in_ok-add_module.ensures.ok
-    ∙ ap (placed (λ (gate : Gate). pos 0) _) c.new_app-server.ensures.modules in
+    ∙ ap (placed (λ (m : HeadModule Gate). m.order) _) c.new_app-server.ensures.modules
+    ∙ ap (λ m. m ∷ []) c.new-gate.ensures in
     let unset : terms_of (Some (record set { history = Forgotten })) false ≡ hello_terms =
     rw c.default.ensures.0 refl in
     let terms =
@@ -38,7 +40,7 @@ returns-clause-agrees c =
     let accounted =
     subst (λ (s : LinkState). Accounted (λ (l : MemState). l.state) s made.session made.done
     made.last) state c.in_ok-connection.ensures.accounted in
-    subst (λ (gates : List Gate). Agrees (rules_with AnyLawful (gate_chain gates)) hello_terms
+    subst (λ (gates : List (HeadModule Gate)). Agrees (rules_with AnyLawful (gate_chain gates)) hello_terms
     new_mem_state.state to.session.link.state (entries to)) gates
     (subst (λ (terms : Terms). Agrees (rules_with AnyLawful (gate_chain to.served.builders)) terms
     new_mem_state.state to.session.link.state (entries to)) terms

@@ -3,7 +3,7 @@ use Rattle.std.specs.Prelude.{⊤}
 use Rattle.h1_link.specs.MemRule.{Rule}
 use Rattle.h1_app.specs.View.{Served}
 use Rattle.h1_echo.specs.declared.echo.EchoApp.{EchoApp}
-use Rattle.h1_marking.specs.declared.builder.MarkingBuilder.{MarkingBuilder}
+use Rattle.h1_marking.specs.Marking.{MarkingModule}
 use Rattle.h1_serve.specs.State.{new_link}
 use Rattle.h1_serve.specs.PollLine.{poll_line}
 use Rattle.h1_serve.proofs.LineLemmas.{on_ok}
@@ -25,7 +25,7 @@ returns c =
     (record {
       later = polled.later;
       plan = polled.plan;
-      modules = ap (λ (s : Served EchoApp MarkingBuilder). s.builders) polled.served.0;
+      modules = ap (λ (s : Served EchoApp MarkingModule). s.builders) polled.served.0;
       terms = polled.served.1;
       shut = refl;
       accounted = polled.accounted new_link running.accounted;

@@ -14,7 +14,7 @@ loop-command-preserved c =
             limit = c.loop-command.invariant.limit;
             holding = c.loop-command.invariant.holding;
             adds = adds_one_more all i c.command-item.result key made w.in-Some.marking
-                c.loop-command-test.true c.command-item.is w.in-Some.ensures c.loop-command.invariant.adds;
+                w.new.result w.new.ensures c.loop-command-test.true c.command-item.is w.in-Some.ensures c.loop-command.invariant.adds;
           })
       | in_default w ↦
           rw (w.server-is, w.key-is) (record {

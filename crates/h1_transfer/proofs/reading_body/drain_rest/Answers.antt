@@ -8,6 +8,7 @@ pub drains-init : goal.drains-init
 drains-init g c = record {
   moved = ([], reads_body_itself _ _ _ _ _);
   waits = refl;
+  alive = refl;
   parsed = λ less. absurd (omega (arith, less));
   calls = called_itself _;
   plan = g.met.L.Link.plan_itself _;
@@ -20,6 +21,7 @@ drains-preserved g c =
     record {
       moved = (before.moved.0 ++ c.in-Piece.payload, reads_body_on before.moved.1 read.reads);
       waits = read.cause.1 ∙ before.waits;
+      alive = read.cause.2 ∙ before.alive;
       parsed = parsed_behind before.moved.1 before.parsed read.parsed;
       calls = called_on _ _ _ _ _ before.calls read.calls;
       plan = g.met.L.Link.plan_on _ _ _ before.plan read.plan;

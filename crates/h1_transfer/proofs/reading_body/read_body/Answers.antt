@@ -9,6 +9,7 @@ pub reads-init : goal.reads-init
 reads-init g c = record {
   moved = reads_body_itself _ _ _ _ _;
   waits = refl;
+  alive = refl;
   parsed = λ less. absurd (omega (arith, less));
   calls = called_itself _;
   plan = g.met.L.Link.plan_itself _;
@@ -23,6 +24,7 @@ reads-preserved g c =
     record {
       moved = body_filled before.moved step.field-0-is step.ensures c.in-Got.ensures.fills (omega arith);
       waits = c.in-Got.ensures.fills.cause.1 ∙ before.waits;
+      alive = c.in-Got.ensures.fills.cause.2 ∙ before.alive;
       parsed = λ _. elim (cases_lt c.reads.budget c.args.budget.now) [
         | inl less ↦ before.parsed less
         | inr first ↦ parsed_first took first lacks

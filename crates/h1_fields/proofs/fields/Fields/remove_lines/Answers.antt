@@ -7,14 +7,7 @@ use Rattle.h1_fields.proofs.fields.Fields.remove_lines.Goals as goal
 
 pub returns-in-Read : goal.returns-in-Read
 returns-in-Read c =
-    hidden_in _ _ _ _ _ _ c.hide-self-inside-in-Read.ensures (c.parts-in-Read.ensures.lines ∙ c.deref-in-Read.ensures)
-    ∙ ap (λ held. without c.args.name.now (living c.self.inside.gone (lines_in held)))
-    (sym c.in-Read.is)
-    ∙ ap (without c.args.name.now) c.self.view_is
-
-pub returns-in-Few : goal.returns-in-Few
-returns-in-Few c =
     hidden_in _ _ _ _ _ _ c.hide-self-inside.ensures (c.parts.ensures.lines ∙ c.deref.ensures)
     ∙ ap (λ held. without c.args.name.now (living c.self.inside.gone (lines_in held)))
-    (sym c.in-Few.is)
+    (sym c.in-Read.is)
     ∙ ap (without c.args.name.now) c.self.view_is
