@@ -7,6 +7,3 @@ mod workers;
 
 pub use peer::{Peers, ServePeer};
 pub use workers::{Answers, serve_workers};
-
-#[cfg(test)]
-mod tests;

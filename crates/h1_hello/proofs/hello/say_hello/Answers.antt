@@ -28,7 +28,7 @@ returns-clause-agrees c =
     ap (λ s. s.builders) (kept.served ∙ fresh.served) ∙ ap (λ s. s.modules) server
     ∙ ap (λ s. s.modules) c.in_ok-add_module.ensures.ok
     ∙ ap (placed (λ (m : HeadModule Gate). m.order) _) c.new_app-server.ensures.modules
-    ∙ ap (λ m. m ∷ []) c.new-gate.ensures in
+    ∙ ap (λ m. m ∷ []) c.new.ensures in
     let unset : terms_of (Some (record set { history = Forgotten })) false ≡ hello_terms =
     rw c.default.ensures.0 refl in
     let terms =
