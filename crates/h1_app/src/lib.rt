@@ -18,7 +18,7 @@ mod steps;
 
 pub use connection::Connection;
 pub use exchange::{Outcome, Stage};
-pub use h1_application::{Respond, Responds, ServeHttp, reply_of};
+pub use h1_application::{REPLY_TIME, Respond, Responds, ServeHttp, reply_of};
 pub use h1_body::BodyBytes;
 pub use h1_error::{End, Error, ErrorType, HeadFault, Progress, Waiting};
 pub use h1_modules::{

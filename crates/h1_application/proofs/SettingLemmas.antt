@@ -1,5 +1,5 @@
 -- What an application sets is no matter to what it reads.
-use Rattle.std.proofs.Common.{◌≡◌, ◌∙◌, ℕ, refl}
+use Rattle.std.proofs.Common.{◌≡◌, ◌∙◌, ℕ, ap, refl}
 use Rattle.h1_application.specs.Words.{LinkState, SessionView, Settings}
 use Rattle.h1_application.proofs.Words.{ReadsOnly}
 use Rattle.h1_application.specs.Application.{ReadsInTime}
@@ -35,6 +35,13 @@ only_settings state old new settings same r = record {
   undrained = r.undrained;
   waits = r.waits;
 }
+
+-- what is set twice is set once
+pub set_twice : {L C : Type 0} (old once twice : SessionView L C) (first second : Settings)
+    → once ≡ record old { settings = first } → twice ≡ record once { settings = second }
+    → twice ≡ record old { settings = second }
+set_twice {L} {C} old once twice first second is then = then ∙ ap (λ (s : SessionView L C).
+    record s { settings = second }) is
 
 -- a refusal reads nothing, and only sets what may be set
 pub refusal_reads : {L C : Type 0} (state : L → LinkState) (old closing new : SessionView L C)

@@ -1,6 +1,6 @@
 -- What an application notes of the time that its reads wait.
 use Rattle.h1_body.specs.Payload.{Payload}
-use Rattle.std.proofs.Common.{◌≡◌, ℕ, ◌+◌, ◌≤◌, nat_le, nat_lt, inl, inr, List, Bool, true, false, Option, Some, None, IfSome, IfNone, IsSome, refl, sym, ◌∙◌, ap, subst, arith}
+use Rattle.std.proofs.Common.{◌≡◌, ℕ, ◌+◌, ◌≤◌, nat_le, nat_lt, inl, inr, List, Bool, true, false, Option, Some, None, IfSome, IfNone, IsSome, refl, sym, ◌∙◌, subst, arith}
 use Rattle.std.proofs.lemmas.Bool.{false≢true}
 use Rattle.std.proofs.lemmas.Bool.Decides.{nat_tests}
 use Rattle.std.specs.Prelude.{Result, Ok, Err}

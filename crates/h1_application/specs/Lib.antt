@@ -1,5 +1,5 @@
-pub mod AnyLawful
 pub mod Application
+pub mod AtOnce
 pub mod LengthLine
 pub mod Reply
 pub mod Words

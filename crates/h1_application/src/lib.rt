@@ -8,4 +8,4 @@ mod respond;
 
 pub use application::ServeHttp;
 pub use reply::reply_of;
-pub use respond::{Respond, Responds};
+pub use respond::{REPLY_TIME, Respond, Responds};

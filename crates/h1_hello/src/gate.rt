@@ -1,4 +1,4 @@
-//! The filter: it lets requests pass that have a key, and marks the replies to them.
+//! The filter: it lets nobody to `/private` without a key, and marks each reply.
 ghost use Rattle.std.specs.Prelude.{Ok};
 ghost use Rattle.h1_hello.specs.Gate.{asked, marked};
 
@@ -7,8 +7,9 @@ use h1_error::{Error, ErrorType};
 use h1_head::{RequestHeader, ResponseHeader};
 use std::alloc::Global;
 
-/// Refuses each request without a line `authorization`, with the number 401, and puts the line
-/// `x-gate: passed` behind all others of the header of each reply.
+/// Refuses each request for `/private` without a line `authorization`, with the number 401, and puts
+/// the line `x-gate: passed` behind all others of the header of each reply. A request that is
+/// refused gets no reply: its connection ends.
 #[derive(Clone, Copy, Debug, PartialEq, Eq)]
 pub struct Gate;
 
@@ -18,10 +19,11 @@ impl HeadFilter for Gate {
     ghost response = { λ _ header. Ok (marked header) };
 
     fn filter_request(&self, _: Global, req: &mut RequestHeader) -> Result<(), Error> {
-        if req.get(b"authorization").is_some() {
-            Ok(())
-        } else {
+        let private = req.raw_path() == b"/private".as_slice();
+        if private && req.get(b"authorization").is_none() {
             Err(Error::from(ErrorType::ModuleFailed(401)))
+        } else {
+            Ok(())
         }
     }
 

@@ -4,9 +4,11 @@
 
 mod gate;
 mod hello;
+mod server;
 
 pub use gate::Gate;
-pub use hello::{Greeted, Hello, say_hello};
+pub use hello::Hello;
+pub use server::{Greeted, HelloServer, REQUEST_LIMIT, hello_server, say_hello};
 
 #[cfg(test)]
 mod tests;

@@ -7,7 +7,7 @@ use std::test::Fail;
 fn hello_is_said_behind_the_gate(rt: HostRuntime) -> Result<(), Fail> {
     let connection = say_hello(
         rt.alloc(),
-        b"GET / HTTP/1.1\r\nAuthorization: me\r\n\r\nGET /x HTTP/1.1\r\nAuthorization: me\r\n\r\n",
+        b"GET / HTTP/1.1\r\n\r\nGET /private HTTP/1.1\r\nAuthorization: me\r\n\r\n",
     )?;
     assert_eq!(rt; connection.end(), Some(End::Finished));
     assert_eq!(rt;
@@ -23,7 +23,7 @@ fn hello_is_said_behind_the_gate(rt: HostRuntime) -> Result<(), Fail> {
 
 #[test]
 fn the_gate_refuses_a_request_without_a_key(rt: HostRuntime) -> Result<(), Fail> {
-    let connection = say_hello(rt.alloc(), b"GET / HTTP/1.1\r\n\r\n")?;
+    let connection = say_hello(rt.alloc(), b"GET /private HTTP/1.1\r\n\r\n")?;
     let Some(End::Failed(error)) = connection.end() else {
         panic!(rt; "not refused");
     };

@@ -4,12 +4,11 @@ ghost use Rattle.std.specs.Prelude.{◌≡◌, ◌++◌, ◌∷◌, []};
 use crate::link::Link;
 use http_server::Log;
 use std::marker::Model;
-use std::snapshot::Snapshot;
 
 /// All links that were handed back, in order. It takes no memory. Contracts see their states.
 #[derive(Drop)]
 pub struct HandedBack<L: Link + Drop> {
-    links: Log<Snapshot<L>, ()>,
+    links: Log<L, ()>,
 }
 
 impl<L: Link + Drop> Model for HandedBack<L> {
@@ -18,7 +17,7 @@ impl<L: Link + Drop> Model for HandedBack<L> {
 
     ghost Value = { List LinkState };
 
-    ghost view = { λ h. map (λ p. L.state p.0.value) h.links.items };
+    ghost view = { λ h. map (λ p. L.state p.0) h.links.items };
 }
 
 impl<L: Link + Drop> HandedBack<L> {
@@ -33,6 +32,6 @@ impl<L: Link + Drop> HandedBack<L> {
     pub fn take(&mut self, link: L)
         ensures { self.new ≡ self.old ++ L.state link ∷ [] }
     {
-        self.links = self.links.and(&Snapshot::of(&link), &());
+        self.links = self.links.and(&link, &());
     }
 }

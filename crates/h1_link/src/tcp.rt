@@ -197,24 +197,31 @@ impl<R: Net + AllocGlobal + Drop> Dialer for TcpDialer<R> {
     ghost plan_on = { λ _ _ _ _ _. tt };
 }
 
+/// A port that is held, and what listens on it.
+#[derive(Drop)]
+struct Held<N> {
+    port: u16,
+    listener: N,
+}
+
 /// An acceptor of this machine's peers.
 #[derive(Drop)]
 pub struct TcpAcceptor<R: Net + Drop> {
     rt: R,
-    listener: Option<R::Listener>,
-    port: Option<u16>,
+    held: Option<Held<R::Listener>>,
     faults: u64,
     accepted: u64,
     handed_back: HandedBack<TcpLink<R::Stream>>,
 }
 
 impl<R: Net + Drop> Model for TcpAcceptor<R> {
+    ghost use Rattle.std.specs.Prelude.{option_map};
     ghost use Rattle.h1_link.specs.AcceptorState.{AcceptorState};
 
     ghost Value = { AcceptorState };
 
     ghost view = { λ a. record {
-      port = a.port;
+      port = option_map (λ held. held.port) a.held;
       accept_faults = a.faults;
       accepted = a.accepted;
       handed_back = a.handed_back;
@@ -228,8 +235,7 @@ impl<R: Net + Drop> TcpAcceptor<R> {
     {
         TcpAcceptor {
             rt,
-            listener: None,
-            port: None,
+            held: None,
             faults: 0,
             accepted: 0,
             handed_back: HandedBack::new(),
@@ -245,8 +251,7 @@ impl<R: Net + AllocGlobal + Drop> Acceptor for TcpAcceptor<R> {
     fn bind(&mut self, port: u16) -> bool {
         match self.rt.bind(local(port)) {
             Ok(listener) => {
-                self.listener = Some(listener);
-                self.port = Some(port);
+                self.held = Some(Held { port, listener });
                 true
             }
             Err(_) => {
@@ -257,7 +262,7 @@ impl<R: Net + AllocGlobal + Drop> Acceptor for TcpAcceptor<R> {
     }
 
     fn accept(&mut self) -> Option<TcpLink<R::Stream>> {
-        match accept_on(self.rt.alloc(), &self.listener) {
+        match accept_on(self.rt.alloc(), &self.held) {
             Some(link) => {
                 self.accepted = raise(self.accepted);
                 Some(link)
@@ -275,12 +280,12 @@ impl<R: Net + AllocGlobal + Drop> Acceptor for TcpAcceptor<R> {
 }
 
 /// The next peer's link, where a port is held.
-fn accept_on<N: OpenListener>(alloc: Global, listener: &Option<N>) -> Option<TcpLink<N::Stream>>
+fn accept_on<N: OpenListener>(alloc: Global, held: &Option<Held<N>>) -> Option<TcpLink<N::Stream>>
 where
     N::Stream: Read + Write + OpenStream + Drop,
     ensures fresh { AcceptsFresh (λ link. link.state) result }
 {
-    let (stream, _peer) = listener.as_ref()?.accept().ok()?;
+    let (stream, _peer) = held.as_ref()?.listener.accept().ok()?;
     TcpLink::new(alloc, stream)
 }
 

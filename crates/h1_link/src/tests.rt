@@ -200,3 +200,17 @@ fn the_runtimes_clock_is_past_the_year_2000(rt: HostRuntime) -> Result<(), Fail>
     assert!(rt; first <= clock.now());
     Ok(())
 }
+
+/// What is handed to a thread.
+fn sent<T: Send>(value: T) -> T {
+    value
+}
+
+#[test]
+fn an_acceptor_is_sent_to_a_thread(rt: HostRuntime) -> Result<(), Fail> {
+    let mut memory = sent(MemAcceptor::new(rt.alloc()));
+    assert!(rt; memory.accept().is_none());
+    let mut tcp = sent(TcpAcceptor::new(rt.clone()?));
+    assert!(rt; tcp.accept().is_none());
+    Ok(())
+}

@@ -1,4 +1,5 @@
 pub mod OutputLemmas
+pub mod EchoedLemmas
 pub mod ListenLemmas
 pub mod OrderLemmas
 pub mod PollLemmas
@@ -10,6 +11,7 @@ pub mod ExchangeLemmas
 pub mod GeneratedLemmas
 pub mod StatusLemmas
 pub mod CauseLemmas
+pub mod EndsLemmas
 pub mod PolledLemmas
 pub mod AlikeLemmas
 pub mod FinishedLemmas

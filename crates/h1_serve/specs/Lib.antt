@@ -8,6 +8,7 @@ pub mod Report
 pub mod Finished
 pub mod Planned
 pub mod Generated
+pub mod ListenPeer
 pub mod Listening
 pub mod Status
 pub mod Polled

@@ -2,7 +2,7 @@
 use Rattle.std.specs.Prelude.{◌≡◌, ℕ, ◌≤◌, List, ◌++◌, true, Option, Some, None}
 use Rattle.h1_link.specs.AcceptorState.{AcceptorState}
 use Rattle.h1_link.specs.Counts.{Rose}
-use Rattle.h1_link.specs.LinkState.{LinkState}
+use Rattle.h1_link.specs.ClockState.{ClockState}
 use Rattle.h1_link.specs.SourceState.{SourceState}
 use Rattle.h1_link.specs.SinkState.{SinkState}
 use Rattle.h1_words.specs.Script.{script_of, faulty_at}
@@ -16,7 +16,8 @@ use Rattle.h1_serve.specs.Input.{Gave, ReadsScript}
 use Rattle.h1_serve.specs.Output.{Wrote, usage_line, fault_line}
 use Rattle.h1_serve.specs.Report.{Report}
 use Rattle.h1_serve.specs.Generated.{IsGenText}
-use Rattle.h1_serve.specs.Listening.{Serves, Accepts, ListenCause}
+use Rattle.h1_serve.specs.ListenPeer.{Peer}
+use Rattle.h1_serve.specs.Listening.{Serves, Listens, GoesOn, ListenCause}
 
 -- The source was read to its end, and the sink took a report of what it gave and flushed it.
 pub record Reported (source_before source_now : SourceState)
@@ -76,17 +77,19 @@ WordsCause source source' sink sink' status.Script = ⊥
 WordsCause source source' sink sink' status.Source = ⊥
 WordsCause source source' sink sink' status.Acceptor = ⊥
 
--- the cause of each status, by what the words ask for; `state` is that of the acceptor's links
-abbrev pub CauseBy : {L : Type 0} → (L → LinkState) → Option Task → SourceState → SourceState
-    → SinkState → SinkState → AcceptorState → AcceptorState → Status → Type 0
-CauseBy state None source source' sink sink' net net' status =
+-- the cause of each status, by what the words ask for; `is_peer` tells what comes of a peer
+abbrev pub CauseBy : (Peer → Type 0) → Option Task → SourceState → SourceState
+    → SinkState → SinkState → AcceptorState → AcceptorState → ClockState → ClockState → Status
+    → Type 0
+CauseBy is_peer None source source' sink sink' net net' clock clock' status =
     WordsCause source source' sink sink' status
-CauseBy state (Some task.Script) source source' sink sink' net net' status =
+CauseBy is_peer (Some task.Script) source source' sink sink' net net' clock clock' status =
     ScriptCause source source' sink sink' status
-CauseBy state (Some (task.Gen count)) source source' sink sink' net net' status =
+CauseBy is_peer (Some (task.Gen count)) source source' sink sink' net net' clock clock' status =
     (source' ≡ source) × GenCause count sink sink' status
-CauseBy state (Some (task.Listen port count)) source source' sink sink' net net' status =
-    (source' ≡ source) × ListenCause state count sink sink' net net' status
+CauseBy is_peer (Some (task.Listen port count)) source source' sink sink' net net' clock clock'
+    status =
+    (source' ≡ source) × ListenCause is_peer port count sink sink' net net' clock clock' status
 
 -- the number of a status
 abbrev pub number_of : Status → ℕ
@@ -99,48 +102,50 @@ number_of status.Memory = 6
 number_of status.Acceptor = 8
 
 -- a run ends with the number of a status whose cause is there
-abbrev pub Ends : {L : Type 0} → (L → LinkState) → Option Task → SourceState → SourceState
-    → SinkState → SinkState → AcceptorState → AcceptorState → ℕ → Type 0
-Ends state found source source' sink sink' net net' number =
+abbrev pub Ends : (Peer → Type 0) → Option Task → SourceState → SourceState
+    → SinkState → SinkState → AcceptorState → AcceptorState → ClockState → ClockState → ℕ
+    → Type 0
+Ends is_peer found source source' sink sink' net net' clock clock' number =
     (status : Status) × (number ≡ number_of status)
-    × CauseBy state found source source' sink sink' net net' status
+    × CauseBy is_peer found source source' sink sink' net net' clock clock' status
 
 -- what status 0 tells, by what the words ask for
-abbrev pub DoneBy : {L : Type 0} → (L → LinkState) → Option Task → SourceState → SourceState
-    → SinkState → SinkState → AcceptorState → AcceptorState → Type 0
-DoneBy state None source source' sink sink' net net' = ⊥
-DoneBy state (Some task.Script) source source' sink sink' net net' =
+abbrev pub DoneBy : (Peer → Type 0) → Option Task → SourceState → SourceState
+    → SinkState → SinkState → AcceptorState → AcceptorState → ClockState → ClockState → Type 0
+DoneBy is_peer None source source' sink sink' net net' clock clock' = ⊥
+DoneBy is_peer (Some task.Script) source source' sink sink' net net' clock clock' =
     Reported source source' sink sink'
-DoneBy state (Some (task.Gen count)) source source' sink sink' net net' =
+DoneBy is_peer (Some (task.Gen count)) source source' sink sink' net net' clock clock' =
     (source' ≡ source) × ToldInNumbers count sink sink'
-DoneBy state (Some (task.Listen port count)) source source' sink sink' net net' =
-    (source' ≡ source) × Serves state count 0 sink sink' net net'
+DoneBy is_peer (Some (task.Listen port count)) source source' sink sink' net net' clock clock' =
+    (source' ≡ source) × (net'.port ≡ Some port)
+    × Serves is_peer count 0 sink sink' net net' clock clock'
 
 -- what status 8 tells: the task, that the acceptor failed in this call, and how many peers were
 -- served before
-pub record StopsListening {L : Type 0} (state : L → LinkState) (found : Option Task)
-    (sink sink' : SinkState) (net net' : AcceptorState) : Type 0 where
+pub record StopsListening (is_peer : Peer → Type 0) (found : Option Task)
+    (sink sink' : SinkState) (net net' : AcceptorState) (clock clock' : ClockState) : Type 0 where
   pub port : ℕ
   pub count : ℕ
   pub is : found ≡ Some (task.Listen port count)
   pub rose : Rose net.accept_faults net'.accept_faults
   pub served : ℕ
   pub few : served ≤ count
-  pub told : Serves state served 1 sink sink' net net'
+  pub told : Serves is_peer served 1 sink sink' net net' clock clock'
 
 -- the network is used by `listen` alone
 abbrev pub NetBy : Option Task → AcceptorState → AcceptorState → Type 0
 NetBy None net net' = net' ≡ net
 NetBy (Some task.Script) net net' = net' ≡ net
 NetBy (Some (task.Gen count)) net net' = net' ≡ net
-NetBy (Some (task.Listen port count)) net net' = Accepts count net net'
+NetBy (Some (task.Listen port count)) net net' = Listens port count net net'
 
--- the clock is read by `listen` alone
-abbrev pub ClockBy : Option Task → ℕ → ℕ → Type 0
-ClockBy None moment moment' = moment' ≡ moment
-ClockBy (Some task.Script) moment moment' = moment' ≡ moment
-ClockBy (Some (task.Gen count)) moment moment' = moment' ≡ moment
-ClockBy (Some (task.Listen port count)) moment moment' = moment ≤ moment'
+-- the clock is asked by `listen` alone
+abbrev pub ClockBy : Option Task → ClockState → ClockState → Type 0
+ClockBy None clock clock' = clock' ≡ clock
+ClockBy (Some task.Script) clock clock' = clock' ≡ clock
+ClockBy (Some (task.Gen count)) clock clock' = clock' ≡ clock
+ClockBy (Some (task.Listen port count)) clock clock' = GoesOn clock clock'
 
 -- the status once a text was written, which is this one where all of it was taken and flushed
 abbrev pub status_after : Status → Written → Status

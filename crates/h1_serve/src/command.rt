@@ -1,6 +1,8 @@
 //! The top call.
 ghost use Rattle.std.specs.Prelude.{◌≡◌, ◌≤◌, map, string_bytes, IfOk};
 ghost use Rattle.h1_words.specs.Words.{task_of};
+ghost use Rattle.h1_serving.specs.Peer.{clock_of};
+ghost use Rattle.h1_serve.specs.ListenPeer.{IsPeer};
 ghost use Rattle.h1_serve.specs.Output.{fault_line};
 ghost use Rattle.h1_serve.specs.Status.{CauseBy, ScriptCause, GenCause, Ends, NetBy, ClockBy, number_of, status_after};
 
@@ -25,8 +27,8 @@ const USAGE: &[u8] = b"usage: h1_serve script | gen N | sub | listen PORT COUNT\
 /// With the one word `script`, the source is read to its end as a script, which runs over a
 /// connection in memory, and the report is written to the sink. With `gen N`, N requests are made
 /// and served over such a connection, and four lines are written that tell it in numbers. With
-/// `listen PORT COUNT`, so many peers are served at this port, one after another, and a line is
-/// written for each.
+/// `listen PORT COUNT`, so many peers are served at this port, one after another, each link is handed
+/// back, and a line is written for each.
 pub fn run<
     R: Wait + Threads + Sync + Send + Clone + Drop,
     S: Source,
@@ -42,14 +44,15 @@ pub fn run<
     net: &mut A,
     clock: &mut T,
 ) -> u8
-    ensures status { Ends A.Link.state (task_of (map string_bytes words.now)) (S.state source.old)
-        (S.state source.new) (K.state sink.old) (K.state sink.new) (A.state net.old)
-        (A.state net.new) result }
+    ensures status { Ends (IsPeer A.Link.state A.Link.same_plan)
+        (task_of (map string_bytes words.now)) (S.state source.old) (S.state source.new)
+        (K.state sink.old) (K.state sink.new) (A.state net.old) (A.state net.new)
+        (clock_of T.moment T.asked clock.old) (clock_of T.moment T.asked clock.new) result }
 
     // `listen` alone uses the network and the clock.
     ensures net { NetBy (task_of (map string_bytes words.now)) (A.state net.old) (A.state net.new) }
-    ensures clock { ClockBy (task_of (map string_bytes words.now)) (T.moment clock.old)
-        (T.moment clock.new) }
+    ensures clock { ClockBy (task_of (map string_bytes words.now))
+        (clock_of T.moment T.asked clock.old) (clock_of T.moment T.asked clock.new) }
 {
     number_of(perform(alloc, words, source, sink, net, clock))
 }
@@ -76,12 +79,13 @@ fn perform<S: Source, K: Sink, A: Acceptor, T: Clock>(
     net: &mut A,
     clock: &mut T,
 ) -> Status
-    ensures status { CauseBy A.Link.state (task_of (map string_bytes words.now))
-        (S.state source.old) (S.state source.new) (K.state sink.old) (K.state sink.new)
-        (A.state net.old) (A.state net.new) result }
+    ensures status { CauseBy (IsPeer A.Link.state A.Link.same_plan)
+        (task_of (map string_bytes words.now)) (S.state source.old) (S.state source.new)
+        (K.state sink.old) (K.state sink.new) (A.state net.old) (A.state net.new)
+        (clock_of T.moment T.asked clock.old) (clock_of T.moment T.asked clock.new) result }
     ensures net { NetBy (task_of (map string_bytes words.now)) (A.state net.old) (A.state net.new) }
-    ensures clock { ClockBy (task_of (map string_bytes words.now)) (T.moment clock.old)
-        (T.moment clock.new) }
+    ensures clock { ClockBy (task_of (map string_bytes words.now))
+        (clock_of T.moment T.asked clock.old) (clock_of T.moment T.asked clock.new) }
 {
     match parse_words(words) {
         Some(Task::Script) => run_script(alloc, source, sink),

@@ -2,6 +2,7 @@
 //! faults a script plans, and how many polls wait for their budget.
 ghost use Rattle.std.specs.Prelude.{◌≡◌, ◌⊎◌, ℕ, ◌+◌, ◌*◌, ◌≤◌, List, ◌++◌, length, Option, Some, None};
 ghost use Rattle.h1_link.specs.AcceptorState.{AcceptorState};
+ghost use Rattle.h1_link.specs.ClockState.{ClockState};
 ghost use Rattle.h1_link.specs.Counts.{Rose};
 ghost use Rattle.h1_link.specs.LinkState.{LinkState};
 ghost use Rattle.h1_link.specs.SourceState.{SourceState};
@@ -10,6 +11,7 @@ ghost use Rattle.h1_words.specs.declared.command.Command.{Command};
 ghost use Rattle.h1_words.specs.declared.words.Task.{Task};
 ghost use Rattle.h1_words.specs.declared.words.Task.TheVariants as task;
 ghost use Rattle.h1_words.specs.Script.{script_of, commands, faulty_at};
+ghost use Rattle.h1_serve.specs.ListenPeer.{IsPeer};
 ghost use Rattle.h1_serve.specs.Finished.{IsFinished, IsBehindPolls};
 ghost use Rattle.h1_serve.specs.Output.{Wrote, usage_line};
 ghost use Rattle.h1_serve.specs.Planned.{read_fault_lines, write_fault_lines};
@@ -24,28 +26,30 @@ use h1_link::Link;
 /// What each status tells.
 pub fn statuses_have_causes<L: Link>()
     ensures done { (found : Option Task) (source source' : SourceState) (sink sink' : SinkState)
-        (net net' : AcceptorState)
-        → Ends L.state found source source' sink sink' net net' 0
-        → DoneBy L.state found source source' sink sink' net net' }
+        (net net' : AcceptorState) (clock clock' : ClockState)
+        → Ends (IsPeer L.state L.same_plan) found source source' sink sink' net net' clock clock' 0
+        → DoneBy (IsPeer L.state L.same_plan) found source source'
+        sink sink' net net' clock clock' }
     ensures words { (found : Option Task) (source source' : SourceState) (sink sink' : SinkState)
-        (net net' : AcceptorState)
-        → Ends L.state found source source' sink sink' net net' 2
+        (net net' : AcceptorState) (clock clock' : ClockState)
+        → Ends (IsPeer L.state L.same_plan) found source source' sink sink' net net' clock clock' 2
         → (found ≡ None) × Wrote sink sink' usage_line }
     ensures script { (found : Option Task) (source source' : SourceState) (sink sink' : SinkState)
-        (net net' : AcceptorState)
-        → Ends L.state found source source' sink sink' net net' 3
+        (net net' : AcceptorState) (clock clock' : ClockState)
+        → Ends (IsPeer L.state L.same_plan) found source source' sink sink' net net' clock clock' 3
         → (found ≡ Some task.Script) × Refused source source' sink sink' }
     ensures source { (found : Option Task) (source source' : SourceState) (sink sink' : SinkState)
-        (net net' : AcceptorState)
-        → Ends L.state found source source' sink sink' net net' 4
+        (net net' : AcceptorState) (clock clock' : ClockState)
+        → Ends (IsPeer L.state L.same_plan) found source source' sink sink' net net' clock clock' 4
         → (found ≡ Some task.Script) × Rose source.faults source'.faults }
     ensures sink { (found : Option Task) (source source' : SourceState) (sink sink' : SinkState)
-        (net net' : AcceptorState)
-        → Ends L.state found source source' sink sink' net net' 5 → Rose sink.faults sink'.faults }
+        (net net' : AcceptorState) (clock clock' : ClockState)
+        → Ends (IsPeer L.state L.same_plan) found source source' sink sink' net net' clock clock' 5
+        → Rose sink.faults sink'.faults }
     ensures acceptor { (found : Option Task) (source source' : SourceState) (sink sink' : SinkState)
-        (net net' : AcceptorState)
-        → Ends L.state found source source' sink sink' net net' 8
-        → StopsListening L.state found sink sink' net net' }
+        (net net' : AcceptorState) (clock clock' : ClockState)
+        → Ends (IsPeer L.state L.same_plan) found source source' sink sink' net net' clock clock' 8
+        → StopsListening (IsPeer L.state L.same_plan) found sink sink' net net' clock clock' }
 {}
 
 /// Which statuses the words and the script leave: where the words are no task 2, with a script
@@ -53,29 +57,34 @@ pub fn statuses_have_causes<L: Link>()
 /// fault of the source, the sink or the acceptor and where memory ran out.
 pub fn few_statuses_are_left<L: Link>()
     ensures no_task { (source source' : SourceState) (sink sink' : SinkState)
-        (net net' : AcceptorState) (number : ℕ)
-        → Ends L.state None source source' sink sink' net net' number
+        (net net' : AcceptorState) (clock clock' : ClockState) (number : ℕ)
+        → Ends (IsPeer L.state L.same_plan) None source source'
+        sink sink' net net' clock clock' number
         → (number ≡ 2) ⊎ ((number ≡ 5) × Rose sink.faults sink'.faults) ⊎ (number ≡ 6) }
     ensures faulty { (source source' : SourceState) (sink sink' : SinkState)
-        (net net' : AcceptorState) (number line : ℕ) (script : List ℕ)
+        (net net' : AcceptorState) (clock clock' : ClockState) (number line : ℕ) (script : List ℕ)
         → GaveScript source source' script → script_of script ≡ faulty_at line
-        → Ends L.state (Some task.Script) source source' sink sink' net net' number
+        → Ends (IsPeer L.state L.same_plan) (Some task.Script) source source'
+        sink sink' net net' clock clock' number
         → (number ≡ 3) ⊎ ((number ≡ 4) × Rose source.faults source'.faults)
         ⊎ ((number ≡ 5) × Rose sink.faults sink'.faults) ⊎ (number ≡ 6) }
     ensures lawful { (source source' : SourceState) (sink sink' : SinkState)
-        (net net' : AcceptorState) (number : ℕ) (script : List ℕ)
+        (net net' : AcceptorState) (clock clock' : ClockState) (number : ℕ) (script : List ℕ)
         (asked : List Command)
         → GaveScript source source' script → script_of script ≡ commands asked
-        → Ends L.state (Some task.Script) source source' sink sink' net net' number
+        → Ends (IsPeer L.state L.same_plan) (Some task.Script) source source'
+        sink sink' net net' clock clock' number
         → (number ≡ 0) ⊎ ((number ≡ 4) × Rose source.faults source'.faults)
         ⊎ ((number ≡ 5) × Rose sink.faults sink'.faults) ⊎ (number ≡ 6) }
     ensures generated { (source source' : SourceState) (sink sink' : SinkState)
-        (net net' : AcceptorState) (number count : ℕ)
-        → Ends L.state (Some (task.Gen count)) source source' sink sink' net net' number
+        (net net' : AcceptorState) (clock clock' : ClockState) (number count : ℕ)
+        → Ends (IsPeer L.state L.same_plan) (Some (task.Gen count)) source source'
+        sink sink' net net' clock clock' number
         → (number ≡ 0) ⊎ ((number ≡ 5) × Rose sink.faults sink'.faults) ⊎ (number ≡ 6) }
     ensures listened { (source source' : SourceState) (sink sink' : SinkState)
-        (net net' : AcceptorState) (number port count : ℕ)
-        → Ends L.state (Some (task.Listen port count)) source source' sink sink' net net' number
+        (net net' : AcceptorState) (clock clock' : ClockState) (number port count : ℕ)
+        → Ends (IsPeer L.state L.same_plan) (Some (task.Listen port count)) source source'
+        sink sink' net net' clock clock' number
         → (number ≡ 0) ⊎ ((number ≡ 5) × Rose sink.faults sink'.faults) ⊎ (number ≡ 6)
         ⊎ ((number ≡ 8) × Rose net.accept_faults net'.accept_faults) }
 {}

@@ -150,6 +150,59 @@ fn a_sink_that_fails_at_the_second_line_has_status_5(rt: HostRuntime) -> Result<
     Ok(())
 }
 
+/// An acceptor in memory that counts the links that come back flushed and shut down.
+#[derive(Drop)]
+struct Counting {
+    net: MemAcceptor,
+    closed: u32,
+}
+
+impl Acceptor for Counting {
+    type Link = MemLink;
+
+    ghost state = { λ counting. counting.net.state };
+
+    fn bind(&mut self, port: u16) -> bool {
+        self.net.bind(port)
+    }
+
+    fn accept(&mut self) -> Option<MemLink> {
+        self.net.accept()
+    }
+
+    fn hand_back(&mut self, link: MemLink) {
+        if link.is_shut() && link.flushed() == link.written().len() as u64 {
+            self.closed = self.closed.saturating_add(1);
+        }
+        self.net.hand_back(link);
+    }
+}
+
+#[test]
+fn each_link_comes_back_flushed_and_shut_down(rt: HostRuntime) -> Result<(), Fail> {
+    let mut sink = MemSink::new(rt.alloc());
+    let mut counting = Counting {
+        net: MemAcceptor::new(rt.alloc()),
+        closed: 0,
+    };
+    let mut clock = SetClock::new(0);
+    plan(rt.alloc(), &mut counting.net, KEPT)?;
+    plan(rt.alloc(), &mut counting.net, CLOSED)?;
+    counting.net.plan(MemLink::new(rt.alloc()))?;
+    let words = ["listen", "8080", "3"];
+    let status = status_of(
+        &rt,
+        rt.alloc(),
+        &words,
+        &mut sink,
+        &mut counting,
+        &mut clock,
+    )?;
+    assert_eq!(rt; status, 0);
+    assert_eq!(rt; counting.closed, 3);
+    Ok(())
+}
+
 #[test]
 fn no_connection_is_served_where_none_is_asked_for(rt: HostRuntime) -> Result<(), Fail> {
     let mut sink = MemSink::new(rt.alloc());

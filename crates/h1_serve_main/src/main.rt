@@ -2,6 +2,9 @@
 //! output, TCP and the runtime's clock.
 #![tactic(auto)]
 
+mod announced;
+
+use crate::announced::Announced;
 use h1_link::{StdSink, StdSource, SystemClock, TcpAcceptor};
 use h1_serve::run;
 use std::process::ExitCode;
@@ -20,7 +23,7 @@ fn main(rt: HostRuntime) -> io::Result<ExitCode> {
     };
     let mut source = StdSource::new(&rt);
     let mut sink = StdSink::new(rt.clone()?);
-    let mut net = TcpAcceptor::new(rt.clone()?);
+    let mut net = Announced::new(rt.stderr(), TcpAcceptor::new(rt.clone()?));
     let mut clock = SystemClock::new(rt.clone()?);
     let status = run(
         &rt,
@@ -31,7 +34,23 @@ fn main(rt: HostRuntime) -> io::Result<ExitCode> {
         &mut net,
         &mut clock,
     );
+    if let Some(reason) = reason(status) {
+        eprintln!(rt; "{reason}")?;
+    }
     Ok(ExitCode::from(status))
+}
+
+/// What an exit status other than 0 tells.
+fn reason(status: u8) -> Option<&'static str> {
+    match status {
+        0 => None,
+        2 => Some("no task has these words"),
+        3 => Some("the script is outside of its grammar"),
+        4 => Some("standard input failed"),
+        5 => Some("standard output failed"),
+        6 => Some("there is no memory"),
+        _ => Some("no peer can be waited for"),
+    }
 }
 
 /// The words after the program's name.

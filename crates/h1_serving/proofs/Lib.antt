@@ -2,4 +2,5 @@ pub mod WaitLemmas
 pub mod SinceLemmas
 pub mod ServeLemmas
 pub mod PlainCalls
+pub mod PeerLemmas
 pub mod WholeLemmas

@@ -23,7 +23,7 @@ use Rattle.h1_app.specs.Accounted.{Accounted}
 use Rattle.h1_app.specs.Causes.{Cause}
 use Rattle.h1_app.specs.Timely.{IsTimely}
 use Rattle.h1_app.specs.View.{View, entries, work_of}
-use Rattle.h1_serving.specs.Served.{IsUnpolled, KeptInCall, LeavesInCall, BeganInCall, WaitedBy, WaitsFrom, AnswersBy, AnswersInTime}
+use Rattle.h1_serving.specs.Served.{IsUnpolled, KeptInCall, LeavesInCall, MadePolls, LeavesByPolls, BeganInCall, WaitedBy, WaitsFrom, AnswersBy, AnswersInTime}
 use Rattle.h1_serving.proofs.SinceLemmas.{waits_on}
 use Rattle.h1_serving.proofs.WaitLemmas.{PollLeaves, at_none, leaves_none, leaves_on, waited_on, waited_none, waits_in_call}
 
@@ -256,11 +256,11 @@ pub record IsServing {L C A J : Type 0} (state : L → LinkState) (same_plan : L
 
 -- what the call gives after its last poll
 pub record IsCall {L C A J : Type 0} (rules : A → Rules) (state : L → LinkState)
-    (same_plan : L → L → Type 0) (pends : J → ℕ) (polls first now : ℕ)
+    (same_plan : L → L → Type 0) (pends : J → ℕ) (polls asked asked' first now : ℕ)
     (from to : View L C A J) (answer : Progress) : Type 0 where
   pub kept : KeptInCall same_plan first now from to
-  pub leaves : LeavesInCall polls (state from.session.link) (state to.session.link) (entries to)
-      to.end
+  pub leaves : LeavesByPolls polls asked asked' (state from.session.link) (state to.session.link)
+      (entries to) to.end answer
   pub accounted : (before : LinkState) → Accounted state before from.session from.done from.last
       → Accounted state before to.session to.done to.last
   pub agrees : (before : LinkState) → Accounted state before from.session from.done from.last
@@ -419,22 +419,34 @@ answers_of rules state same_plan begins pends polls most first mid now from at t
           (state to.session.link) at to what s.leaves.later p.later cause.1,
     )
 
+-- one poll more, where it was the last
+made_of : (most polls : ℕ) (answer : Progress) → (IsWaiting answer → polls + 1 ≡ most)
+    → polls + 1 ≤ most → MadePolls most (polls + 1) answer
+made_of most polls (progress.Pending what) last few = last tt
+made_of most polls (progress.Ready reason) last few = (omega arith, few)
+
 -- what the call gives
 pub call_of : {L C A J : Type 0} (rules : A → Rules) (state : L → LinkState)
     (same_plan : L → L → Type 0) (begins : J → Type 0) (pends : J → ℕ)
-    (polls most first mid now : ℕ)
+    (polls most asked asked' first mid now : ℕ)
     (from at to : View L C A J) (answer : Progress)
     → ((a b c : L) → same_plan a b → same_plan b c → same_plan a c) → mid ≤ now
+    → asked' ≡ polls + 1 + asked
     → (IsWaiting answer → polls + 1 ≡ most) → polls + 1 ≤ most
     → IsServing state same_plan pends polls first mid from at
     → IsPoll rules state same_plan begins pends now at to answer
-    → IsCall rules state same_plan pends most first now from to answer
-call_of rules state same_plan begins pends polls most first mid now from at to answer
-    plan_on high last few s p =
+    → IsCall rules state same_plan pends most asked asked' first now from to answer
+call_of rules state same_plan begins pends polls most asked asked' first mid now from at to answer
+    plan_on high told last few s p =
     record {
       kept = kept_on plan_on high s p;
-      leaves = leaves_on state polls most now (state from.session.link) at to answer few s.leaves
-          p.later p.extends p.leaves;
+      leaves = record {
+        polls = polls + 1;
+        made = made_of most polls answer last few;
+        told = told;
+        leaves = leaves_on state polls (polls + 1) now (state from.session.link) at to answer
+            (omega arith) s.leaves p.later p.extends p.leaves;
+      };
       accounted = λ before h. p.accounted before (s.accounted before h);
       agrees = λ before h. p.agrees before (s.accounted before h);
       served = served_on first mid now (state from.session.link) (state at.session.link)
@@ -444,9 +456,6 @@ call_of rules state same_plan begins pends polls most first mid now from at to a
           answers_of rules state same_plan begins pends polls most first mid now from at to answer
           last s p;
       timely = λ before h. record {
-        now = now;
-        after = omega (arith, s.kept.clock, high);
-        before = omega arith;
         at = at;
         on = s.leaves.later;
         waits = s.waits before h;

@@ -1,2 +1,3 @@
+pub mod Peer
 pub mod Served
 pub mod Whole

@@ -66,6 +66,20 @@ pub record LeavesInCall (polls : ℕ) (old now : LinkState) (es : List Entry)
   pub reads_not_ready : now.read_waits ≤ old.read_waits + replies es + polls
   pub others : now.others ≤ old.others + 3 * length es + 4 * polls
 
+-- a call that waits made so many polls, and one that ends at most as many, and one at least
+abbrev pub MadePolls : ℕ → ℕ → Progress → Type 0
+MadePolls most polls (progress.Pending what) = polls ≡ most
+MadePolls most polls (progress.Ready reason) = (1 ≤ polls) × (polls ≤ most)
+
+-- What the polls of a call leave of the link. The clock was asked once for each of them: its count
+-- rose by as many.
+pub record LeavesByPolls (most asked asked' : ℕ) (old now : LinkState) (es : List Entry)
+    (reason : Option End) (answer : Progress) : Type 0 where
+  pub polls : ℕ
+  pub made : MadePolls most polls answer
+  pub told : asked' ≡ polls + asked
+  pub leaves : LeavesInCall polls old now es reason
+
 -- The exchange began with keep-alive on. Its header has the second of a moment between these two,
 -- and its body was refused for a failed read only where a read failed between the link's states.
 pub record BeganInCall (first last : ℕ) (before behind : LinkState) (e : Entry) : Type 0 where
@@ -144,14 +158,11 @@ WaitsFrom first (drains times since) =
 WaitsFrom first (writes_piece limit since) = IfSome since (λ at. first ≤ at)
 WaitsFrom first untimed = Unit {0}
 
--- The last poll of the call was at a moment between these two, and came in time: `at` is the
--- connection before it, which waited since moments of this call.
+-- The last poll of the call was at the moment `last`, and came in time: `at` is the connection before
+-- it, which waited since moments of this call.
 pub record AnswersInTime {L C A J : Type 0} (state : L → LinkState) (first last : ℕ)
     (from to : View L C A J) (answer : Progress) : Type 0 where
-  pub now : ℕ
-  pub after : first ≤ now
-  pub before : now ≤ last
   pub at : View L C A J
   pub on : Later (state from.session.link) (state at.session.link)
   pub waits : WaitsFrom first (work_of at)
-  pub timely : IsTimely state now at to answer
+  pub timely : IsTimely state last at to answer

@@ -2,7 +2,9 @@
 #![tactic(auto)]
 
 mod generated;
+mod peer;
 mod serving;
 
 pub use generated::serve_gen;
+pub use peer::{close_link, serve_peer};
 pub use serving::{Echoed, MOST_POLLS, serve_link};

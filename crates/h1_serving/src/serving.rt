@@ -5,7 +5,7 @@ ghost use Rattle.h1_transcript.specs.Agrees.{Agrees};
 ghost use Rattle.h1_app.specs.Accounted.{Accounted};
 ghost use Rattle.h1_app.specs.Filtering.{rules_of};
 ghost use Rattle.h1_app.specs.View.{entries};
-ghost use Rattle.h1_serving.specs.Served.{IsUnpolled, KeptInCall, LeavesInCall, BeganInCall, AnswersBy, AnswersInTime};
+ghost use Rattle.h1_serving.specs.Served.{IsUnpolled, KeptInCall, LeavesByPolls, BeganInCall, AnswersBy, AnswersInTime};
 
 use h1_app::{Connection, LawfulFor, NoModules, ServeHttp};
 use h1_echo::EchoApp;
@@ -18,8 +18,8 @@ pub const MOST_POLLS: u32 = 1_000_000;
 /// A connection that [`EchoApp`] serves.
 pub type Echoed<L> = Connection<L, EchoApp, NoModules, ()>;
 
-/// Polls a connection at the clock's moments until it ends, at most [`MOST_POLLS`] times, and
-/// answers what the last poll answered.
+/// Polls a connection until it ends, at most [`MOST_POLLS`] times, and answers what the last poll
+/// answered. The clock is asked before each poll, which is at the moment that it tells.
 pub fn serve_link<L, SV, B, C, T>(
     connection: &mut Connection<L, SV, B, C>,
     clock: &mut T,
@@ -33,8 +33,9 @@ where
     requires { IsUnpolled connection.old }
     ensures kept { KeptInCall L.same_plan (T.moment clock.old) (T.moment clock.new) connection.old
         connection.new }
-    ensures leaves { LeavesInCall MOST_POLLS (L.state connection.old.session.link)
-        (L.state connection.new.session.link) (entries connection.new) connection.new.end }
+    ensures leaves { LeavesByPolls MOST_POLLS (T.asked clock.old) (T.asked clock.new)
+        (L.state connection.old.session.link) (L.state connection.new.session.link)
+        (entries connection.new) connection.new.end result }
     ensures accounted { (before : LinkState)
         → Accounted L.state before connection.old.session connection.old.done connection.old.last
         → Accounted L.state before connection.new.session connection.new.done

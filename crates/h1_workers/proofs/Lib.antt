@@ -1,1 +1,2 @@
-pub mod PeerLemmas
+pub mod TurnLemmas
+pub mod ZipLemmas

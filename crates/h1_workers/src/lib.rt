@@ -3,7 +3,12 @@
 
 mod door;
 mod peer;
+mod served;
 mod workers;
 
 pub use peer::{Peers, ServePeer};
-pub use workers::{Answers, serve_workers};
+pub use served::Served;
+pub use workers::serve_workers;
+
+#[cfg(test)]
+mod tests;

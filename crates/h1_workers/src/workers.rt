@@ -1,33 +1,35 @@
 //! Threads that serve one connection after another.
-ghost use Rattle.std.specs.Prelude.{◌≡◌, ◌≤◌, IfOk, vec_len};
-ghost use Rattle.std.specs.List.{All};
+ghost use Rattle.std.specs.Prelude.{◌≡◌, ◌≤◌, IfOk, length, vec_len};
+ghost use Rattle.std.specs.List.{AllZip};
 ghost use Rattle.std.specs.Arc.{arc_value};
 ghost use Rattle.h1_app.specs.Filtering.{rules_of};
 ghost use Rattle.h1_app.specs.View.{served_by, terms_of};
-ghost use Rattle.h1_workers.specs.Workers.{IsServedBy};
+ghost use Rattle.h1_serving.specs.Peer.{clock_of};
+ghost use Rattle.h1_workers.specs.Workers.{AnswersFrom, IsAnsweredBy, IsFreshNext};
 
-use crate::door::Door;
+use crate::door::{Done, Door, Next};
 use crate::peer::{Peers, ServePeer};
+use crate::served::Served;
 use h1_app::{LawfulFor, ServeHttp};
-use h1_error::{Error, Progress};
 use h1_link::{Acceptor, Clock};
 use std::alloc::{AllocError, Global};
 use std::sync::{Mutex, Wait};
 use std::thread::{self, Threads};
 
-/// What each connection of one thread answered, in order; or the error that ended the thread.
-pub type Answers = Result<Vec<Progress>, Error>;
-
-/// Serves `count` links of one acceptor, in a thread for each clock: a thread takes the next link
-/// as soon as it has served one to its end. One that fails for want of memory takes no more.
+/// Serves `count` links of one acceptor, or those that come until [`Peers::stop`], in a thread for
+/// each clock: a thread takes the next link as soon as it has served one to its end, and hands each
+/// back to the acceptor. An accept that fails counts as a link, and the thread goes on. A peer that
+/// there is no memory to serve is turned away alone. What is told
+/// of each thread stands in the order of the clocks. An error is want of memory for the threads;
+/// some of them may have served peers by then.
 pub fn serve_workers<R, A, SV, B, T>(
     rt: &R,
     alloc: Global,
     peers: &Peers<SV, B>,
     acceptor: A,
-    count: u32,
+    count: u64,
     clocks: Vec<T>,
-) -> Result<Vec<Answers>, AllocError>
+) -> Result<Vec<Served>, AllocError>
 where
     R: Threads + Wait + Sync,
     A: Acceptor + Drop + Send,
@@ -38,12 +40,13 @@ where
     B::Module: Send,
     T: Clock + Drop + Send,
     ensures len { IfOk result (λ workers. vec_len workers ≡ vec_len clocks) }
-    ensures served { IfOk result (λ workers. All (λ worker. IfOk worker (λ answers.
-        All (IsServedBy (rules_of SV.gives B.HttpModuleBuilder B.Module.HttpModule) A.Link.state
-        SV.pends
-        (served_by (arc_value peers.now.server).app (arc_value peers.now.server).modules)
+    ensures served { IfOk result (λ workers. AllZip (λ clock served.
+        AnswersFrom A.Link.state (IsAnsweredBy
+        (rules_of SV.gives B.HttpModuleBuilder B.Module.HttpModule) A.Link.state A.Link.same_plan
+        SV.pends (served_by (arc_value peers.now.server).app (arc_value peers.now.server).modules)
         (terms_of (arc_value peers.now.server).server_options
-        (SV.takes_whole (arc_value peers.now.server).app))) answers.items)) workers.items) }
+        (SV.takes_whole (arc_value peers.now.server).app))) (clock_of T.moment T.asked clock)
+        served) clocks.items workers.items) }
 {
     serve_in_threads(rt, alloc, peers, acceptor, count, clocks)
 }
@@ -54,9 +57,9 @@ fn serve_in_threads<R, A, P, T>(
     alloc: Global,
     peers: &P,
     acceptor: A,
-    count: u32,
+    count: u64,
     clocks: Vec<T>,
-) -> Result<Vec<Answers>, AllocError>
+) -> Result<Vec<Served>, AllocError>
 where
     R: Threads + Wait + Sync,
     A: Acceptor + Drop + Send,
@@ -64,8 +67,9 @@ where
     P: ServePeer<A::Link, T> + Sync,
     T: Clock + Drop + Send,
     ensures len { IfOk result (λ workers. vec_len workers ≡ vec_len clocks) }
-    ensures served { IfOk result (λ workers. All (λ worker. IfOk worker (λ answers.
-        All (P.stands peers.now) answers.items)) workers.items) }
+    ensures served { IfOk result (λ workers. AllZip (λ clock served.
+        AnswersFrom A.Link.state (P.stands peers.now) (clock_of T.moment T.asked clock)
+        served) clocks.items workers.items) }
 {
     let door = Mutex::new(Door::new(acceptor, count));
     thread::map_vec(
@@ -82,29 +86,43 @@ fn work<R, A, P, T>(
     peers: &P,
     door: &Mutex<Door<A>>,
     clock: T,
-    most: u32,
-) -> Answers
+    most: u64,
+) -> Served
 where
     R: Wait,
     A: Acceptor + Drop,
     P: ServePeer<A::Link, T>,
     T: Clock + Drop,
-    ensures few { IfOk result (λ answers. vec_len answers ≤ most) }
-    ensures served { IfOk result (λ answers. All (P.stands peers.now) answers.items) }
+    ensures few { length result ≤ most }
+    ensures served { AnswersFrom A.Link.state (P.stands peers.now)
+        (clock_of T.moment T.asked clock) result }
 {
     let mut clock = clock;
-    let mut answers = Vec::new(alloc);
+    let mut served = Served::new();
     for _ in 0..most {
-        let Some(link) = next_link(rt, door) else {
+        if peers.is_stopped() {
             break;
-        };
-        let answer = peers.serve_peer(alloc, link, &mut clock)?;
-        answers.push(answer)?;
+        }
+        match next_link(rt, door) {
+            Next::Link(taken) => {
+                let done = taken.serve(alloc, peers, &mut clock, &mut served);
+                hand_back(rt, door, done);
+            }
+            Next::Failed => {}
+            Next::Over => break,
+        }
     }
-    Ok(answers)
+    served
 }
 
 /// The next link: one thread at a time waits for it.
-fn next_link<R: Wait, A: Acceptor + Drop>(rt: &R, door: &Mutex<Door<A>>) -> Option<A::Link> {
+fn next_link<R: Wait, A: Acceptor + Drop>(rt: &R, door: &Mutex<Door<A>>) -> Next<A::Link>
+    ensures fresh { IsFreshNext A.Link.state result }
+{
     door.lock(rt).next()
+}
+
+/// Hands back a link whose peer was served.
+fn hand_back<R: Wait, A: Acceptor + Drop>(rt: &R, door: &Mutex<Door<A>>, done: Done<A::Link>) {
+    door.lock(rt).hand_back(done);
 }
