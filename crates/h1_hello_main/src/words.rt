@@ -12,7 +12,8 @@ pub struct Told {
 }
 
 /// The words behind the program's name: PORT WORKERS COUNT, where 0 connections are as many as
-/// come. `None` where they are no three numbers, or no thread is asked for.
+/// come. `None` where they are no three numbers, or no thread is asked for. No clause says so: std
+/// tells nothing of the words that the system hands in.
 pub fn read_words(rt: &(impl Env + AllocGlobal)) -> io::Result<Option<Told>> {
     let mut words = env::args(rt)?;
     let _ = words.next();

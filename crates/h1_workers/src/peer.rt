@@ -52,7 +52,8 @@ impl<SV: Drop, B: HttpModuleBuilder + Drop> Peers<SV, B> {
     }
 
     /// Lets no thread take another link. A thread that waits for one takes it still, and each
-    /// connection goes on to its end. Any thread may call this.
+    /// connection goes on to its end. Any thread may call this. No clause says so, since what threads
+    /// share has no value that a contract sees.
     pub fn stop(&self) {
         self.stopped.store(true, Ordering::SeqCst);
     }
