@@ -196,8 +196,8 @@ module _ {L C J : Type 0} (state : L → LinkState)
       behind : LinkState
       behind = state new.link
 
-      shut_as : (kept : Bool) → keeps_alive x.session ≡ kept → ShutUnless kept before.shut behind.shut
-      shut_as kept is = subst (λ t. ShutUnless t before.shut behind.shut) is called.shut
+      shut_as : (kept : Bool) → keeps_alive x.session ≡ kept → ShutUnless kept before.shut behind
+      shut_as kept is = subst (λ t. ShutUnless t before.shut behind) is called.shut
 
       by_answer : (answer : Poll (Result Bool Error)) (alive : Bool) → keeps_alive new ≡ alive
           → Answered state x.session new (payload_in f) answer

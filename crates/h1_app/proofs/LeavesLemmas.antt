@@ -43,7 +43,7 @@ leaves_on a b c last behind reason first noted second = record {
     | inl same ↦ subst (λ n. ReadsHeld n c.read_faults behind reason) same second.reads
     | inr met ↦ held_noted a.read_faults c.read_faults behind reason (noted met)
   ];
-  shut = subst (λ t. ShutBy t c.shut reason) first.shut second.shut;
+  shut = subst (λ t. ShutBy t c reason) first.shut second.shut;
 }
 
 pub leaves_itself : (s : LinkState) (last : Option Entry) → Leaves s s last None
@@ -163,7 +163,7 @@ called_reuse {L} {C} state now old asked behind kept answer lent_is replied reus
         → CalledForReuse (state asked.link) (state behind.link) t (is_reused answer)
         (read_fault_of answer)
     by_alive true is r = let c = called is in record { others = c.others; faults = c.faults; shut = c.shut }
-    by_alive false is r = rw (r.0, r.1) (record { others = omega arith; faults = (refl, refl); shut = refl })
+    by_alive false is r = rw (r.0, r.1) (record { others = omega arith; faults = (refl, refl); shut = (refl, refl) })
 
 -- a write that was refused ends the connection
 writes_failed : (before now : LinkState) (last : Option Entry) (k : ErrorType)

@@ -18,17 +18,18 @@ pub record ReusesAs {L C : Type 0} (state : L → LinkState) (now : ℕ) (old ne
   pub entry : noted ≡ record e { body = payload_of behind }
   pub within : length noted.body ≤ e.holding.limit
 
--- a link that isn't kept is shut, and no other
-abbrev pub ShutUnless : Bool → Bool → Bool → Type 0
-ShutUnless true before now = now ≡ before
-ShutUnless false before now = now ≡ true
+-- a link that isn't kept is shut behind its last flush, and no other is shut; `before` tells
+-- whether it was
+abbrev pub ShutUnless : Bool → Bool → LinkState → Type 0
+ShutUnless true before now = now.shut ≡ before
+ShutUnless false before now = (now.shut ≡ true) × (now.shut_at ≡ now.flushed)
 
 -- what asking for the reuse of a link did to it beside moving bytes
 pub record CalledForReuse (before now : LinkState) (alive done : Bool)
     (fault : Fault) : Type 0 where
   pub others : CallsFew before now done
   pub faults : FaultsBy before now fault
-  pub shut : ShutUnless alive before.shut now.shut
+  pub shut : ShutUnless alive before.shut now
 
 -- where an exchange stands after the call for its link's reuse; `alive` tells whether the
 -- connection is kept

@@ -30,17 +30,18 @@ abbrev pub ReadsHeld : ℕ → ℕ → Option Entry → Option End → Type 0
 ReadsHeld before now last (Some (end.Failed error)) = ReadsHeldBy before now last error.kind
 ReadsHeld before now last _ = (now ≡ before) ⊎ NotesFault last
 
--- the link is shut exactly where the connection ends since it isn't kept
-abbrev pub ShutBy : Bool → Bool → Option End → Type 0
-ShutBy before now (Some end.NotKept) = now ≡ true
-ShutBy before now _ = now ≡ before
+-- the link is shut exactly where the connection ends since it isn't kept, and behind its last
+-- flush; `before` tells whether it was
+abbrev pub ShutBy : Bool → LinkState → Option End → Type 0
+ShutBy before now (Some end.NotKept) = (now.shut ≡ true) × (now.shut_at ≡ now.flushed)
+ShutBy before now _ = now.shut ≡ before
 
 -- `last` is the last exchange then, and `reason` the end, where one came
 pub record Leaves (before now : LinkState) (last : Option Entry)
     (reason : Option End) : Type 0 where
   pub writes : WritesHeld before.write_faults now.write_faults reason
   pub reads : ReadsHeld before.read_faults now.read_faults last reason
-  pub shut : ShutBy before.shut now.shut reason
+  pub shut : ShutBy before.shut now reason
 
 -- what a connection leaves of its link on the way from one view to the other
 pub record LeavesOn {L C A J : Type 0} (state : L → LinkState)

@@ -1,5 +1,5 @@
 //! Applications that answer at once, by the head of a request alone.
-ghost use Rattle.std.specs.Prelude.{◌≡◌, IfOk, IfErr, false};
+ghost use Rattle.std.specs.Prelude.{◌≡◌, [], IfOk, IfErr, false};
 ghost use Rattle.h1_error.specs.Memory.{no_memory};
 ghost use Rattle.h1_transcript.specs.Lawful.{IsLawful};
 ghost use Rattle.h1_head.specs.Views.{RequestView};
@@ -49,7 +49,7 @@ impl<L: Link + Drop, C: Drop, A: Respond + Drop> ServeHttp<L, C> for Responds<A>
 
     ghost pends = { λ _. 0 };
 
-    ghost runs = { λ _ job head began now payload limit. Unit {0} };
+    ghost runs = { λ _ job head began now payload limit. (now ≡ began) × (payload ≡ []) };
 
     ghost takes_whole = { λ _. false };
 

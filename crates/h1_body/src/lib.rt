@@ -12,8 +12,6 @@ mod laws;
 mod payload;
 mod reader;
 mod size_line;
-#[cfg(test)]
-mod tests;
 mod wire;
 mod writer;
 mod writing_laws;

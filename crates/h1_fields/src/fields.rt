@@ -5,20 +5,19 @@ ghost use Rattle.httparse.specs.Spans.{IsHeaderWithin, header_bytes};
 ghost use Rattle.h1_error.specs.Memory.{no_memory};
 ghost use Rattle.h1_fields.specs.declared.held.TheConstants.{MAX_SHARED_LINES};
 ghost use Rattle.h1_fields.specs.Held.{lines_in};
-ghost use Rattle.h1_fields.specs.Kinds.{AreKnown, name_of};
+ghost use Rattle.h1_fields.specs.Kinds.{name_of};
 ghost use Rattle.h1_fields.specs.Lone.{IsLone};
 ghost use Rattle.h1_fields.specs.Lines.{has_line, values_of, first_value, without, with_line};
 ghost use Rattle.h1_fields.specs.Living.{living};
-ghost use Rattle.h1_fields.specs.Spans.{AllFit, lines_of};
 
 use crate::block::Block;
 use crate::gone::{count_lines, count_values, first_value, hide};
-use crate::held::{Held, MAX_SHARED_LINES};
+use crate::held::{Held, MAX_SHARED_LINES, known_of, parts_of};
 use crate::iter::{FieldsIter, ValuesIter};
-use crate::kinds::{Kind, Kinds};
+use crate::kinds::Kind;
 use crate::lone::{Lone, lone_in};
 use crate::short::ShortLine;
-use crate::span::{FEW_LINES, MAX_TEXT, Span};
+use crate::span::{FEW_LINES, MAX_TEXT};
 use bytes::Bytes;
 use h1_error::Error;
 use httparse::spans::HeaderSpan;
@@ -479,36 +478,6 @@ fn remove_from(owner: &mut Arc<Block>, gone: u64, name: &[u8]) -> u64
             let (text, spans) = block.parts();
             hide(text, spans, gone, name)
         }
-    }
-}
-
-/// The text that lines lie in, and their places in it.
-#[inline(always)]
-fn parts_of(held: &Held) -> (&[u8], &[Span])
-    ensures fit { AllFit result.0.now result.1.now }
-    ensures lines { lines_of result.0.now result.1.now ≡ lines_in held.now }
-{
-    match held {
-        Held::Nothing => (&[], &[]),
-        Held::One(line) => line.parts(),
-        Held::Shared(owner) => owner.parts(),
-        Held::Read(owner) => owner.parts(),
-        Held::Own(block) => block.parts(),
-    }
-}
-
-/// The text that lines lie in, their places in it, and where those of each kind stand.
-#[inline(always)]
-fn known_of(held: &Held) -> (&[u8], &[Span], Kinds)
-    ensures known { AreKnown result.0.now result.1.now result.2 }
-    ensures lines { lines_of result.0.now result.1.now ≡ lines_in held.now }
-{
-    match held {
-        Held::Nothing => (&[], &[], Kinds::none()),
-        Held::One(line) => line.known(),
-        Held::Shared(owner) => owner.known(),
-        Held::Read(owner) => owner.known(),
-        Held::Own(block) => block.known(),
     }
 }
 

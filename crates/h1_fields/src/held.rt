@@ -5,11 +5,14 @@ ghost use Rattle.h1_error.specs.Memory.{no_memory};
 ghost use Rattle.h1_fields.specs.declared.held.TheConstants.{MAX_SHARED_LINES};
 ghost use Rattle.h1_fields.specs.declared.span.TheConstants.{MAX_TEXT};
 ghost use Rattle.h1_fields.specs.Held.{lines_in, AreFlags};
+ghost use Rattle.h1_fields.specs.Kinds.{AreKnown};
+ghost use Rattle.h1_fields.specs.Spans.{AllFit, lines_of};
 
 use crate::block::Block;
 use crate::head::HeadLines;
+use crate::kinds::Kinds;
 use crate::short::ShortLine;
-use crate::span::{FEW_LINES, MAX_TEXT};
+use crate::span::{FEW_LINES, MAX_TEXT, Span};
 use bytes::Bytes;
 use h1_error::Error;
 use httparse::spans::HeaderSpan;
@@ -86,5 +89,35 @@ impl Held {
         } else {
             Ok(Held::Own(Box::new(alloc, block)?))
         }
+    }
+}
+
+/// The text that lines lie in, and their places in it.
+#[inline(always)]
+pub(crate) fn parts_of(held: &Held) -> (&[u8], &[Span])
+    ensures fit { AllFit result.0.now result.1.now }
+    ensures lines { lines_of result.0.now result.1.now ≡ lines_in held.now }
+{
+    match held {
+        Held::Nothing => (&[], &[]),
+        Held::One(line) => line.parts(),
+        Held::Shared(owner) => owner.parts(),
+        Held::Read(owner) => owner.parts(),
+        Held::Own(block) => block.parts(),
+    }
+}
+
+/// The text that lines lie in, their places in it, and where those of each kind stand.
+#[inline(always)]
+pub(crate) fn known_of(held: &Held) -> (&[u8], &[Span], Kinds)
+    ensures known { AreKnown result.0.now result.1.now result.2 }
+    ensures lines { lines_of result.0.now result.1.now ≡ lines_in held.now }
+{
+    match held {
+        Held::Nothing => (&[], &[], Kinds::none()),
+        Held::One(line) => line.known(),
+        Held::Shared(owner) => owner.known(),
+        Held::Read(owner) => owner.known(),
+        Held::Own(block) => block.known(),
     }
 }

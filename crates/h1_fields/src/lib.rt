@@ -20,8 +20,6 @@ mod meaning;
 mod name;
 mod short;
 mod span;
-#[cfg(test)]
-mod tests;
 mod text;
 
 pub use content_length::ContentLength;

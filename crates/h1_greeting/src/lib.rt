@@ -9,6 +9,3 @@ mod stamp;
 pub use greeting::{Greeted, Greets, greet};
 pub use serving::{MOST_POLLS, serve};
 pub use stamp::{Stamp, Stamped, greet_stamped};
-
-#[cfg(test)]
-mod tests;

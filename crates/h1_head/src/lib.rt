@@ -9,8 +9,6 @@ mod laws;
 mod limits;
 mod parts;
 mod reading_laws;
-#[cfg(test)]
-mod reading_tests;
 mod request;
 mod request_checks;
 mod request_grammar;
@@ -18,8 +16,6 @@ mod request_head;
 mod response;
 mod room;
 mod syntax;
-#[cfg(test)]
-mod tests;
 mod version;
 mod wire;
 

@@ -9,6 +9,3 @@ mod server;
 pub use gate::Gate;
 pub use hello::Hello;
 pub use server::{Greeted, HelloServer, REQUEST_LIMIT, hello_server, say_hello};
-
-#[cfg(test)]
-mod tests;

@@ -1,11 +1,11 @@
 //! The server: the application, the gate before it, and what a connection may hold.
-ghost use Rattle.std.specs.Prelude.{◌≡◌, ◌∷◌, [], IfOk, IfErr, false};
+ghost use Rattle.std.specs.Prelude.{◌≡◌, ◌∷◌, [], IfOk, IfErr, Some, take, false};
 ghost use Rattle.h1_error.specs.Memory.{no_memory};
 ghost use Rattle.h1_link.specs.MemState.{new_mem_state};
 ghost use Rattle.h1_transcript.specs.Agrees.{Agrees};
 ghost use Rattle.h1_app.specs.View.{entries, terms_of};
 ghost use Rattle.h1_hello.specs.Gate.{gate, gated};
-ghost use Rattle.h1_hello.specs.Hello.{hello_terms};
+ghost use Rattle.h1_hello.specs.Hello.{IsServed, hello_terms};
 
 use crate::{Gate, Hello};
 use h1_app::{Connection, HeadModule, History, HttpServer, HttpServerOptions, Responds};
@@ -43,6 +43,10 @@ pub type Greeted = Connection<MemLink, Responds<Hello>, HeadModule<Gate>, ()>;
 
 /// Serves a peer that sends these bytes and no more.
 pub fn say_hello(alloc: Global, given: &[u8]) -> Result<Greeted, Error>
+    // The peer's bytes, or the first of them, are what the link gave.
+    ensures given { IfOk result (λ served. served.session.link.state.given
+        ≡ Some (take served.session.link.state.bytes_in given.now)) }
+    ensures served { IfOk result (IsServed gated.filters (λ job. 0)) }
     ensures agrees { IfOk result (λ served. Agrees gated hello_terms new_mem_state.state
         served.session.link.state (entries served)) }
     ensures err { IfErr result (λ error. error ≡ no_memory) }
@@ -53,5 +57,6 @@ pub fn say_hello(alloc: Global, given: &[u8]) -> Result<Greeted, Error>
     link.end();
     let mut connection = Connection::new(alloc, Arc::new(alloc, server)?, link)?;
     serve_link(&mut connection, &mut SetClock::new(0));
+    connection.link().rule();
     Ok(connection)
 }

@@ -27,6 +27,8 @@ pub record LinkState : Type 0 where
   pub flushed : ℕ
   -- the link was shut down for both sides
   pub shut : Bool
+  -- `flushed` when the link was last shut down, 0 before
+  pub shut_at : ℕ
 
 -- a link that tells its bytes, before its first call
 abbrev pub fresh_state : LinkState
@@ -44,6 +46,7 @@ fresh_state = record {
   others = 0;
   flushed = 0;
   shut = false;
+  shut_at = 0;
 }
 
 -- told bytes are none

@@ -42,6 +42,7 @@ link_state_of inlet outlet counts shut = record {
   others = counts.others;
   flushed = outlet.flushed;
   shut = shut;
+  shut_at = outlet.shut_at;
 }
 
 abbrev pub mem_state_of : Inlet → Outlet → Counts → Bool → MemState

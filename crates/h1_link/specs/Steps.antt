@@ -87,6 +87,6 @@ after_flush s flush.Failed = record s {
   others = raised s.others 1;
 }
 
--- a shutdown, the only call that shuts the link
+-- a shutdown, the only call that shuts the link: what was flushed before it can reach the peer
 abbrev pub after_shutdown : LinkState → LinkState
-after_shutdown s = record s { shut = true; others = raised s.others 1 }
+after_shutdown s = record s { shut = true; shut_at = s.flushed; others = raised s.others 1 }

@@ -24,7 +24,8 @@ const ROOM: usize = 8_192;
 /// Each read drops a piece or counts as a wait, so more of them are never needed.
 const READS: usize = CLOSE_BYTES / CLOSE_PIECE + CLOSE_WAITS as usize;
 
-/// Whether the peer may be ready at a later call.
+/// Whether the peer may be ready at a later call. The system's errors have no meaning in contracts,
+/// so it promises nothing.
 pub fn is_wait(error: &io::Error) -> bool {
     matches!(
         error.kind(),
@@ -67,7 +68,8 @@ fn send_held<W: Write + Drop>(stream: &mut BufWriter<W>)
 }
 
 /// Reads and drops what the peer sends until its end, a fault, [`CLOSE_WAITS`] waits or
-/// [`CLOSE_BYTES`] bytes.
+/// [`CLOSE_BYTES`] bytes. A reader's state says nothing of what it is still to give, so no promise
+/// could tell these ends apart.
 pub fn drop_rest<S: Read>(stream: &mut S) {
     let mut room = [0u8; ROOM];
     let mut left = CLOSE_BYTES;
@@ -87,6 +89,3 @@ pub fn drop_rest<S: Read>(stream: &mut S) {
         }
     }
 }
-
-#[cfg(test)]
-mod tests;

@@ -38,6 +38,3 @@ pub use stream_laws::{counts_add_up, streams_only_add};
 pub use system_clock::SystemClock;
 pub use tap::Tap;
 pub use tcp::{TcpAcceptor, TcpDialer, TcpLink};
-
-#[cfg(test)]
-mod tests;

@@ -288,6 +288,3 @@ where
     let (stream, _peer) = held.as_ref()?.listener.accept().ok()?;
     TcpLink::new(alloc, stream)
 }
-
-#[cfg(test)]
-mod tests;

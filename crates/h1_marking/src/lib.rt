@@ -3,7 +3,5 @@
 #![tactic(auto)]
 
 mod marking;
-#[cfg(test)]
-mod tests;
 
 pub use marking::{Marking, MarkingModule};

@@ -8,18 +8,10 @@ mod content_type;
 mod context;
 mod filters;
 mod grpc_web;
-#[cfg(test)]
-mod grpc_web_tests;
 mod head_filter;
 mod http_module;
 mod laws;
-#[cfg(test)]
-mod my_filter;
 mod no_modules;
-#[cfg(test)]
-mod noting;
-#[cfg(test)]
-mod tests;
 mod trailer_frame;
 
 pub use bridge::{GrpcWeb, GrpcWebBridge};

@@ -23,8 +23,3 @@ pub use laws::{
     faults_are_planned, few_statuses_are_left, finished_reports_are_alike,
     polls_for_the_budget_are_few, statuses_have_causes,
 };
-
-#[cfg(test)]
-mod listen_tests;
-#[cfg(test)]
-mod tests;

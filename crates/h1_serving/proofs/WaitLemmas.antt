@@ -324,7 +324,7 @@ leaves_on {L} {C} {A} {J} state polls most now a at to answer few first later ex
     Held view reason = WritesHeld a.write_faults (state view.session.link).write_faults reason
         × (NotedIn (entries view)
         ⊎ ReadsHeld a.read_faults (state view.session.link).read_faults None reason)
-        × ShutBy a.shut (state view.session.link).shut reason
+        × ShutBy a.shut (state view.session.link) reason
 
     by_reads : NotedIn (entries at)
         ⊎ ReadsHeld a.read_faults (state at.session.link).read_faults None None
@@ -347,7 +347,7 @@ leaves_on {L} {C} {A} {J} state polls most now a at to answer few first later ex
         p.leaves in (
           subst (λ n. WritesHeld n (state to.session.link).write_faults to.end) was.0 second.writes,
           by_reads was.1 second.reads,
-          subst (λ t. ShutBy t (state to.session.link).shut to.end) was.2 second.shut,
+          subst (λ t. ShutBy t (state to.session.link) to.end) was.2 second.shut,
         )
     by_end (Some reason) is =
         let same =

@@ -159,7 +159,7 @@ pub record IsCalled {C A J : Type 0} (count first last : ℕ) (view : View MemSt
   pub served : AllByRecursion (BeganInCall first last new_mem_state.state view.session.link.state)
       (entries view)
   pub answers : AnswersFor link_state MOST_POLLS new_mem_state.state new_mem_state.state view answer
-  pub shut : ShutBy false view.session.link.state.shut view.end
+  pub shut : ShutBy false view.session.link.state view.end
 
 over : {C A J : Type 0} (count first last : ℕ) (view : View MemState C A J) (answer : Progress)
     → IsCalled count first last view answer
@@ -236,7 +236,7 @@ whole_of count first last view (progress.Ready end.Finished) c none =
       end = c.answers.0;
       given = o.gave.now_is ∙ ap Some front;
       ended = ended;
-      shut = subst (ShutBy false view.session.link.state.shut) c.answers.0 c.shut;
+      shut = subst (ShutBy false view.session.link.state) c.answers.0 c.shut;
       many = ap length last_none ∙ served_many view.done (messages count) all.1 ∙ many count;
       served_all = all.1;
       complete = all.0;
@@ -280,7 +280,7 @@ pub record IsCall (count first last : ℕ) (from to : EchoedView MemState)
   pub rule : Rule to.session.link
   pub terms : to.terms ≡ from.terms
   pub plan : SamePlan from.session.link to.session.link
-  pub shut : ShutBy from.session.link.state.shut to.session.link.state.shut to.end
+  pub shut : ShutBy from.session.link.state.shut to.session.link.state to.end
   pub accounted : (before : LinkState)
       → Accounted link_state before from.session from.done from.last
       → Accounted link_state before to.session to.done to.last
@@ -307,7 +307,7 @@ called count first last from to answer c = record {
   answers =
       subst (λ s. AnswersFor link_state MOST_POLLS new_mem_state.state s to answer) c.ready.state
       (c.answers new_mem_state.state c.ready.accounted);
-  shut = subst (λ (s : LinkState). ShutBy s.shut to.session.link.state.shut to.end) c.ready.state
+  shut = subst (λ (s : LinkState). ShutBy s.shut to.session.link.state to.end) c.ready.state
       c.shut;
 }
 

@@ -52,16 +52,17 @@ NotedIn (e ∷ more) = NotesFault (Some e) ⊎ NotedIn more
 
 -- What at most so many polls leave of the link; `es` are the exchanges then, and `reason` the end,
 -- where one came. A failed write is told in the end, and a failed read there or by an exchange. The
--- mark that the link was shut changes only where the end is `NotKept`, which sets it. The counts of
--- calls rise by no more than so many polls may make: `CALL_BUDGET` each that move bytes, one read
--- each that is not ready and one for each reply, and four each that move no byte and three for each
--- exchange. So the number of polls is bounded as far as they make these calls.
+-- mark that the link was shut changes only where the end is `NotKept`, which sets it behind the last
+-- flush. The counts of calls rise by no more than so many polls may make: `CALL_BUDGET` each that
+-- move bytes, one read each that is not ready and one for each reply, and four each that move no
+-- byte and three for each exchange. So the number of polls is bounded as far as they make these
+-- calls.
 pub record LeavesInCall (polls : ℕ) (old now : LinkState) (es : List Entry)
     (reason : Option End) : Type 0 where
   pub later : Later old now
   pub writes : WritesHeld old.write_faults now.write_faults reason
   pub reads : NotedIn es ⊎ ReadsHeld old.read_faults now.read_faults None reason
-  pub shut : ShutBy old.shut now.shut reason
+  pub shut : ShutBy old.shut now reason
   pub moves : now.moves ≤ old.moves + CALL_BUDGET * polls
   pub reads_not_ready : now.read_waits ≤ old.read_waits + replies es + polls
   pub others : now.others ≤ old.others + 3 * length es + 4 * polls

@@ -9,6 +9,3 @@ mod workers;
 pub use peer::{Peers, ServePeer};
 pub use served::Served;
 pub use workers::serve_workers;
-
-#[cfg(test)]
-mod tests;

@@ -38,45 +38,17 @@ pub struct Acts {
     pub told: bool,
 }
 
+/// One that refuses nothing and puts its line alone.
+pub const ACTS: Acts = Acts {
+    key: 1,
+    refuses_at: NEVER,
+    blanks: false,
+    empties: false,
+    exclaims: false,
+    told: false,
+};
+
 impl Acts {
-    /// One that refuses nothing and puts its line alone.
-    pub fn new(key: u32) -> Self
-        ensures { result ≡ record {
-          key = key;
-          refuses_at = 3;
-          blanks = Bool.false;
-          empties = Bool.false;
-          exclaims = Bool.false;
-          told = Bool.false;
-        } }
-    {
-        Acts {
-            key,
-            refuses_at: NEVER,
-            blanks: false,
-            empties: false,
-            exclaims: false,
-            told: false,
-        }
-    }
-
-    /// The same, but that it refuses in this filter.
-    pub fn refusing(key: u32, refuses_at: u8) -> Self
-        ensures { result ≡ record {
-          key = key;
-          refuses_at = refuses_at;
-          blanks = Bool.false;
-          empties = Bool.false;
-          exclaims = Bool.false;
-          told = Bool.false;
-        } }
-    {
-        Acts {
-            refuses_at,
-            ..Acts::new(key)
-        }
-    }
-
     fn word(&self, end: bool) -> &'static [u8]
         ensures { result.now ≡ (if self.now.told then codes "again"
             else (if end then codes "end" else codes "more")) }

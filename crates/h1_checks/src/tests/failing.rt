@@ -1,75 +1,101 @@
 //! A link that fails.
 use crate::tests::play::Step::*;
-use crate::tests::play::{play_echo, play_refusing};
-use crate::tests::{REPLY, REQUEST, ended_link_of, link_of};
+use crate::tests::play::{Row, play, play_all};
+use crate::tests::served::{App, ECHO, Server};
+use crate::tests::{CUT_BODY, REFUSED, REPLY, REQUEST};
 use h1_app::{Error, ErrorType, Waiting};
-use std::test::Fail;
+use std::process::Abort;
 
-/// A request whose body lacks a byte.
-const CUT_BODY: &[u8] = b"POST /p HTTP/1.1\r\nContent-Length: 3\r\n\r\nab";
+/// An application that refuses each request at once.
+const REFUSES: Server<'static> = Server {
+    app: App::Refuses(0),
+    ..ECHO
+};
 
-#[test]
-fn a_link_that_ends_inside_a_drain_ends_the_connection(rt: HostRuntime) -> Result<(), Fail> {
-    let link = ended_link_of(rt.alloc(), CUT_BODY)?;
-    let steps = [Fails(ErrorType::ConnectionClosed), Counts(0, 108, 2)];
-    play_refusing(&rt, 0, link, &steps)?;
-    Ok(())
-}
+const READ_ERROR: Error = Error {
+    kind: ErrorType::ReadError,
+    retry: false,
+};
 
-#[test]
-fn a_read_that_fails_ends_the_connection(rt: HostRuntime) -> Result<(), Fail> {
-    let refused =
-        b"HTTP/1.1 400 Bad Request\r\ncontent-length: 0\r\nDate: Thu, 01 Jan 1970 00:00:00 GMT\r\n\
-            Connection: close\r\n\r\n";
-    let failed = Error::from(ErrorType::ReadError);
-    let cases: [(&[u8], Option<Error>, &[u8]); 2] = [
-        (b"GET /a HT", None, b""),
-        (CUT_BODY, Some(failed), refused),
-    ];
-    for (bytes, noted, sent) in cases {
-        let link = link_of(rt.alloc(), bytes)?;
-        let steps = [
+const ROWS: &[Row<'static>] = &[
+    Row {
+        shows: "a link that ends inside a drain ends the connection",
+        server: REFUSES,
+        steps: &[
+            Give(CUT_BODY),
+            NoMore,
+            Fails(ErrorType::ConnectionClosed),
+            Counts(0, 108, 2),
+        ],
+    },
+    Row {
+        shows: "a read that fails in a head ends the connection",
+        server: ECHO,
+        steps: &[
+            Give(b"GET /a HT"),
             Waits(Waiting::Read),
             ReadFails,
             Fails(ErrorType::ReadError),
             Fails(ErrorType::ReadError),
-            Wrote(sent),
-            BodyError(0, noted),
+            Wrote(b""),
+            BodyError(0, None),
             IsShut(false),
-        ];
-        play_echo(&rt, None, link, &steps)?;
-    }
-    Ok(())
-}
+        ],
+    },
+    Row {
+        shows: "a read that fails in a body ends the connection",
+        server: ECHO,
+        steps: &[
+            Give(CUT_BODY),
+            Waits(Waiting::Read),
+            ReadFails,
+            Fails(ErrorType::ReadError),
+            Fails(ErrorType::ReadError),
+            Wrote(REFUSED),
+            BodyError(0, Some(READ_ERROR)),
+            IsShut(false),
+        ],
+    },
+    Row {
+        shows: "a drain that fails ends the connection after its reply",
+        server: REFUSES,
+        steps: &[
+            Give(CUT_BODY),
+            Waits(Waiting::Read),
+            ReadFails,
+            Fails(ErrorType::ReadError),
+            WroteLen(108),
+        ],
+    },
+];
 
 #[test]
-fn a_drain_that_fails_ends_the_connection_after_its_reply(rt: HostRuntime) -> Result<(), Fail> {
-    let link = link_of(rt.alloc(), CUT_BODY)?;
-    let steps = [
-        Waits(Waiting::Read),
-        ReadFails,
-        Fails(ErrorType::ReadError),
-        WroteLen(108),
-    ];
-    play_refusing(&rt, 0, link, &steps)?;
-    Ok(())
+fn a_link_that_fails_ends_the_connection(rt: HostRuntime) {
+    play_all(&rt, ROWS);
 }
 
-// 99 bytes of the reply are its head.
-#[test]
-fn a_write_that_fails_ends_the_connection(rt: HostRuntime) -> Result<(), Fail> {
-    for taken in [0, 40, 99, 105] {
-        let mut link = link_of(rt.alloc(), REQUEST)?;
-        link.room(taken as u64);
-        let steps = [
+/// A write fails behind these bytes.
+fn fail_behind(rt: &(impl Abort + AllocGlobal), sent: &[u8]) {
+    let row = Row {
+        shows: "a write that fails ends the connection",
+        server: ECHO,
+        steps: &[
+            Give(REQUEST),
+            Room(sent.len() as u64),
             Waits(Waiting::Write),
             WriteFails,
             Fails(ErrorType::WriteError),
             Fails(ErrorType::WriteError),
-            Wrote(&REPLY[..taken]),
+            Wrote(sent),
             IsShut(false),
-        ];
-        play_echo(&rt, None, link, &steps)?;
+        ],
+    };
+    play(rt, &row);
+}
+
+#[test]
+fn a_write_that_fails_ends_the_connection(rt: HostRuntime) {
+    for taken in 0..REPLY.len() {
+        fail_behind(&rt, &REPLY[..taken]);
     }
-    Ok(())
 }

@@ -1,67 +1,85 @@
 //! Modules in a connection: what becomes of a request and of its reply.
-use crate::tests::acts::{Acts, BODY, HEADER, REQUEST};
-use h1_app::{Connection, End, Error, ErrorType, HttpServer};
-use h1_echo::EchoApp;
-use h1_link::MemLink;
-use std::alloc::Global;
-use std::sync::Arc;
-use std::test::Fail;
+use crate::tests::acts::{ACTS, Acts, BODY, HEADER, REQUEST};
+use crate::tests::play::Step::*;
+use crate::tests::play::{Row, play};
+use crate::tests::served::{ECHO, Server};
+use h1_app::{End, Error, ErrorType};
+use std::process::Abort;
 
-/// Why a connection behind these modules ended, and what its peer was sent, which sends these bytes
-/// and no more. It promises nothing: the proof of a test carries none of its modules and lines.
-fn served(alloc: Global, modules: &[Acts], given: &[u8]) -> Result<(Option<End>, Vec<u8>), Error> {
-    let mut server = HttpServer::new_app(alloc, EchoApp);
-    for acts in modules {
-        server.add_module(*acts)?;
-    }
-    let mut link = MemLink::new(alloc);
-    link.give(given)?;
-    link.end();
-    let mut connection: Connection<MemLink, EchoApp, Acts, ()> = Connection::new(
-        alloc,
-        Arc::new(alloc, server)?,
-        link,
-    )?;
-    connection.poll(0, false);
-    let mut written = Vec::new(alloc);
-    written.extend_from_slice(connection.link().written())?;
-    Ok((connection.end(), written))
+/// A connection behind these modules whose peer sends these bytes and no more ends so, and its peer
+/// was sent these.
+fn expect<'a>(
+    rt: &(impl Abort + AllocGlobal),
+    shows: &'a str,
+    modules: &'a [Acts],
+    given: &'a [u8],
+    (end, sent): (End, &'a [u8]),
+) {
+    let row = Row {
+        shows,
+        server: Server { modules, ..ECHO },
+        steps: &[Give(given), NoMore, Ends(end), Wrote(sent)],
+    };
+    play(rt, &row);
 }
 
-const REFUSED: Option<End> = Some(End::Failed(Error {
+const TWO: &[u8] = b"GET /a HTTP/1.1\r\n\r\nGET /b HTTP/1.1\r\n\r\n";
+
+const SECOND: Acts = Acts { key: 2, ..ACTS };
+
+const THIRD: Acts = Acts { key: 3, ..ACTS };
+
+const IN_REQUEST: Acts = Acts {
+    key: 7,
+    refuses_at: REQUEST,
+    ..ACTS
+};
+
+const IN_HEADER: Acts = Acts {
+    key: 7,
+    refuses_at: HEADER,
+    ..ACTS
+};
+
+const IN_BODY: Acts = Acts {
+    key: 7,
+    refuses_at: BODY,
+    ..ACTS
+};
+
+const REFUSED: End = End::Failed(Error {
     kind: ErrorType::ModuleFailed(7),
     retry: false,
-}));
+});
 
-/// What the peer was sent before a refusal in each filter.
-const SENT_BEFORE: [(u8, &[u8]); 3] = [
-    (REQUEST, b""),
-    (HEADER, b""),
-    (
-        BODY,
-        b"HTTP/1.1 200 OK\r\ncontent-length: 7\r\nx-acts: more\r\nx-acts: more\r\nx-acts: more\r\n\
-            Date: Thu, 01 Jan 1970 00:00:00 GMT\r\nConnection: keep-alive\r\n\r\n",
-    ),
+/// What the peer was sent before a refusal in the filter of a body.
+const HEAD: &[u8] =
+    b"HTTP/1.1 200 OK\r\ncontent-length: 7\r\nx-acts: more\r\nx-acts: more\r\nx-acts: more\r\n\
+        Date: Thu, 01 Jan 1970 00:00:00 GMT\r\nConnection: keep-alive\r\n\r\n";
+
+/// Three modules of which one refuses, and what the peer was sent before.
+const REFUSALS: &[([Acts; 3], &[u8])] = &[
+    ([IN_REQUEST, SECOND, THIRD], b""),
+    ([ACTS, IN_REQUEST, THIRD], b""),
+    ([ACTS, SECOND, IN_REQUEST], b""),
+    ([IN_HEADER, SECOND, THIRD], b""),
+    ([ACTS, IN_HEADER, THIRD], b""),
+    ([ACTS, SECOND, IN_HEADER], b""),
+    ([IN_BODY, SECOND, THIRD], HEAD),
+    ([ACTS, IN_BODY, THIRD], HEAD),
+    ([ACTS, SECOND, IN_BODY], HEAD),
 ];
 
 #[test]
-fn a_refusal_ends_the_connection_where_it_comes(rt: HostRuntime) -> Result<(), Fail> {
-    for (filter, sent) in SENT_BEFORE {
-        for place in 0..3 {
-            let mut modules = [Acts::new(1), Acts::new(2), Acts::new(3)];
-            modules[place] = Acts::refusing(7, filter);
-            let given = b"GET /a HTTP/1.1\r\n\r\nGET /b HTTP/1.1\r\n\r\n";
-            let (end, written) = served(rt.alloc(), &modules, given)?;
-            assert_eq!(rt; end, REFUSED, "{filter} {place}");
-            assert_eq!(rt; written.as_slice(), sent, "{filter} {place}");
-        }
+fn a_refusal_ends_the_connection_where_it_comes(rt: HostRuntime) {
+    for (modules, sent) in REFUSALS {
+        expect(&rt, "refusals", modules, TWO, (REFUSED, sent));
     }
-    Ok(())
 }
 
 /// Requests, why the connection ended behind them, and what the peer was sent, with one module that
 /// puts its line alone.
-const TOLD: [(&[u8], End, &[u8]); 3] = [
+const TOLD: &[(&[u8], End, &[u8])] = &[
     // Each exchange begins with a new module.
     (
         b"GET /a HTTP/1.1\r\n\r\nGET /b HTTP/1.1\r\n\r\n",
@@ -90,17 +108,19 @@ const TOLD: [(&[u8], End, &[u8]); 3] = [
 ];
 
 #[test]
-fn a_header_is_filtered_once_and_told_whether_a_body_follows(rt: HostRuntime) -> Result<(), Fail> {
+fn a_header_is_filtered_once_and_told_whether_a_body_follows(rt: HostRuntime) {
     for (given, end, sent) in TOLD {
-        let (ended, written) = served(rt.alloc(), &[Acts::new(1)], given)?;
-        assert_eq!(rt; ended, Some(end));
-        assert_eq!(rt; written.as_slice(), sent);
+        expect(&rt, "lines", &[ACTS], given, (*end, sent));
     }
-    Ok(())
 }
 
+const BLANKS: Acts = Acts {
+    blanks: true,
+    ..ACTS
+};
+
 /// Requests that are blanked, why the connection ended, and what the peer was sent.
-const BLANKED: [(&[u8], End, &[u8]); 3] = [
+const BLANKED: &[(&[u8], End, &[u8])] = &[
     (
         b"GET /a HTTP/1.1\r\nConnection: close\r\n\r\n",
         End::NotKept,
@@ -124,17 +144,10 @@ const BLANKED: [(&[u8], End, &[u8]); 3] = [
 ];
 
 #[test]
-fn the_application_is_given_what_filters_made_of_the_head(rt: HostRuntime) -> Result<(), Fail> {
+fn the_application_is_given_what_filters_made_of_the_head(rt: HostRuntime) {
     for (given, end, sent) in BLANKED {
-        let blanking = Acts {
-            blanks: true,
-            ..Acts::new(1)
-        };
-        let (ended, written) = served(rt.alloc(), &[blanking], given)?;
-        assert_eq!(rt; ended, Some(end));
-        assert_eq!(rt; written.as_slice(), sent);
+        expect(&rt, "blanked heads", &[BLANKS], given, (*end, sent));
     }
-    Ok(())
 }
 
 const SHORT: End = End::Failed(Error {
@@ -142,40 +155,50 @@ const SHORT: End = End::Failed(Error {
     retry: false,
 });
 
-/// A target, whether the reply's body is taken away or else made longer, why the connection ended,
-/// and what the peer was sent.
-const CHANGED: [(&[u8], bool, End, &[u8]); 6] = [
+const EMPTIES: Acts = Acts {
+    empties: true,
+    ..ACTS
+};
+
+const EXCLAIMS: Acts = Acts {
+    exclaims: true,
+    ..ACTS
+};
+
+/// A request, what becomes of the reply's body, why the connection ended, and what the peer was
+/// sent.
+const CHANGED: &[(&[u8], Acts, End, &[u8])] = &[
     (
         b"GET /a HTTP/1.1\r\n\r\n",
-        true,
+        EMPTIES,
         SHORT,
         b"HTTP/1.1 200 OK\r\ncontent-length: 7\r\nx-acts: more\r\n\
             Date: Thu, 01 Jan 1970 00:00:00 GMT\r\nConnection: keep-alive\r\n\r\n",
     ),
     (
         b"GET /chunk HTTP/1.1\r\n\r\n",
-        true,
+        EMPTIES,
         End::Finished,
         b"HTTP/1.1 200 OK\r\ntransfer-encoding: chunked\r\nx-acts: more\r\n\
             Date: Thu, 01 Jan 1970 00:00:00 GMT\r\nConnection: keep-alive\r\n\r\n0\r\n\r\n",
     ),
     (
         b"GET /a HTTP/1.1\r\n\r\n",
-        false,
+        EXCLAIMS,
         End::Finished,
         b"HTTP/1.1 200 OK\r\ncontent-length: 7\r\nx-acts: more\r\n\
             Date: Thu, 01 Jan 1970 00:00:00 GMT\r\nConnection: keep-alive\r\n\r\nGET /a\n",
     ),
     (
         b"GET /short HTTP/1.1\r\n\r\n",
-        false,
+        EXCLAIMS,
         End::Finished,
         b"HTTP/1.1 200 OK\r\ncontent-length: 12\r\nx-acts: more\r\n\
             Date: Thu, 01 Jan 1970 00:00:00 GMT\r\nConnection: keep-alive\r\n\r\nGET /short\n!",
     ),
     (
         b"GET /chunk HTTP/1.1\r\n\r\n",
-        false,
+        EXCLAIMS,
         End::Finished,
         b"HTTP/1.1 200 OK\r\ntransfer-encoding: chunked\r\nx-acts: more\r\n\
             Date: Thu, 01 Jan 1970 00:00:00 GMT\r\nConnection: keep-alive\r\n\r\n\
@@ -184,7 +207,7 @@ const CHANGED: [(&[u8], bool, End, &[u8]); 6] = [
     // Nothing goes of a body that was empty before the filters.
     (
         b"POST /p HTTP/1.1\r\nTransfer-Encoding: chunked\r\n\r\nZZ\r\n",
-        false,
+        EXCLAIMS,
         End::Failed(Error {
             kind: ErrorType::InvalidBody,
             retry: false,
@@ -195,16 +218,8 @@ const CHANGED: [(&[u8], bool, End, &[u8]); 6] = [
 ];
 
 #[test]
-fn what_filters_made_of_a_body_goes_out(rt: HostRuntime) -> Result<(), Fail> {
-    for (given, empties, end, sent) in CHANGED {
-        let changing = Acts {
-            empties,
-            exclaims: !empties,
-            ..Acts::new(1)
-        };
-        let (ended, written) = served(rt.alloc(), &[changing], given)?;
-        assert_eq!(rt; ended, Some(end));
-        assert_eq!(rt; written.as_slice(), sent);
+fn what_filters_made_of_a_body_goes_out(rt: HostRuntime) {
+    for (given, changes, end, sent) in CHANGED {
+        expect(&rt, "changed bodies", &[*changes], given, (*end, sent));
     }
-    Ok(())
 }

@@ -1,13 +1,12 @@
 //! Connections that are played: a test is a list of steps.
 use crate::tests::applications::Refuses;
-use crate::tests::{
-    Served, body_error, connect, connect_with, counts, end, exchanges, fail_next_read,
-    fail_next_write, give, into_link, is_shut, make_room, polled, polled_at, written,
+use crate::tests::links::TestLink;
+use crate::tests::served::{
+    App, Served, Server, body_error, close, connect, counts, end, exchanges, fail_next_read,
+    fail_next_write, flushed, give, is_shut, make_room, polled, written,
 };
-use h1_app::{End, Error, ErrorType, History, HttpServerOptions, Progress, ServeHttp, Waiting};
+use h1_app::{End, Error, ErrorType, Progress, ServeHttp, Waiting};
 use h1_echo::EchoApp;
-use h1_error::YEAR_10000;
-use h1_link::MemLink;
 use std::process::Abort;
 
 /// What the peer of a connection does, or what is then expected of the connection.
@@ -17,6 +16,8 @@ pub enum Step<'a> {
     Give(&'a [u8]),
     /// The peer sends these bytes one by one, and a poll after each waits for more.
     GiveEach(&'a [u8]),
+    /// The peer sends this byte so often, and a poll after each waits for more.
+    GiveOften(u8, u32),
     /// The peer takes these bytes one by one, and a poll before each waits for it.
     TakeEach(&'a [u8]),
     /// The peer sends no more.
@@ -33,8 +34,8 @@ pub enum Step<'a> {
     Ends(End),
     /// A poll at moment 0 answers that the connection has ended with this fault.
     Fails(ErrorType),
-    /// A poll at this moment answers that the connection has ended.
-    EndsAt(u64, End),
+    /// A poll at moment 1 answers that the connection has ended.
+    EndsLater(End),
     /// A poll in a shutdown answers that the connection has ended.
     EndsInShutdown(End),
     /// Whether the link was shut.
@@ -47,93 +48,74 @@ pub enum Step<'a> {
     BodyError(usize, Option<Error>),
     /// The bytes that the peer was sent.
     Wrote(&'a [u8]),
+    /// The peer was sent the first so many of these bytes.
+    WroteFirst(&'a [u8], usize),
+    /// What the peer was sent ends with these bytes.
+    WroteLast(&'a [u8]),
     /// How many bytes the peer was sent.
     WroteLen(usize),
+    /// How many of them were flushed.
+    Flushed(u64),
 }
 
-/// Plays the steps with `EchoApp` over this link, and gives the link back. It promises nothing: an
-/// expectation that isn't met ends the test.
-pub(crate) fn play_echo(
-    rt: &(impl Abort + AllocGlobal),
-    limit: Option<u32>,
-    link: MemLink,
-    steps: &[Step],
-) -> Result<MemLink, Error> {
-    let served = connect(rt.alloc(), EchoApp, limit, link)?;
-    play(rt, served, steps)
+/// A connection that is played.
+#[derive(Clone, Copy)]
+pub struct Row<'a> {
+    /// What it shows.
+    pub shows: &'a str,
+    pub server: Server<'a>,
+    pub steps: &'a [Step<'a>],
 }
 
-/// Plays the steps with `EchoApp` over this link, on a connection that forgets its exchanges, and
-/// gives the link back. It promises nothing: an expectation that isn't met ends the test.
-pub(crate) fn play_forgetting(
-    rt: &(impl Abort + AllocGlobal),
-    link: MemLink,
-    steps: &[Step],
-) -> Result<MemLink, Error> {
-    let options = HttpServerOptions {
-        history: History::Forgotten,
-        ..HttpServerOptions::default()
-    };
-    let served = connect_with(rt.alloc(), EchoApp, options, link)?;
-    play(rt, served, steps)
-}
-
-/// Plays the steps with `EchoApp`, for which so many bytes of a body are gathered, and gives the
-/// link back. It promises nothing: an expectation that isn't met ends the test.
-pub(crate) fn play_gathering(
-    rt: &(impl Abort + AllocGlobal),
-    history: History,
-    most: u64,
-    link: MemLink,
-    steps: &[Step],
-) -> Result<MemLink, Error> {
-    let options = HttpServerOptions {
-        history,
-        gather_limit: Some(most),
-        ..HttpServerOptions::default()
-    };
-    let served = connect_with(rt.alloc(), EchoApp, options, link)?;
-    play(rt, served, steps)
-}
-
-/// Plays the steps with an application that waits so often and then refuses, over this link. It
-/// promises nothing: an expectation that isn't met ends the test.
-pub(crate) fn play_refusing(
-    rt: &(impl Abort + AllocGlobal),
-    waits: u64,
-    link: MemLink,
-    steps: &[Step],
-) -> Result<MemLink, Error> {
-    let served = connect(rt.alloc(), Refuses { waits }, None, link)?;
-    play(rt, served, steps)
-}
-
-/// Plays the steps, one after the other.
-fn play<SV: ServeHttp<MemLink, ()> + Drop>(
-    rt: &impl Abort,
-    mut served: Served<MemLink, SV>,
-    steps: &[Step],
-) -> Result<MemLink, Error> {
-    for i in 0..steps.len() {
-        act(rt, &mut served, steps[i])?;
-        if let Some((now, shutdown, answer)) = poll_of(steps[i]) {
-            assert!(rt; now < YEAR_10000);
-            assert_eq!(rt; polled_at(&mut served, now, shutdown), answer, "step {i}");
-        }
-        observe(rt, &served, steps[i], i);
+/// Plays each row.
+pub fn play_all(rt: &(impl Abort + AllocGlobal), rows: &[Row]) {
+    for row in rows {
+        play(rt, row);
     }
-    Ok(into_link(served))
+}
+
+/// Plays the steps of a row, one after the other.
+pub fn play(rt: &(impl Abort + AllocGlobal), row: &Row) {
+    match row.server.app {
+        App::Echo => play_with(rt, EchoApp, row),
+        App::Refuses(waits) => play_with(rt, Refuses { waits }, row),
+    }
+}
+
+fn play_with<SV: ServeHttp<TestLink, ()> + Drop>(
+    rt: &(impl Abort + AllocGlobal),
+    app: SV,
+    row: &Row,
+) {
+    let mut served = connect(rt, app, row.server);
+    for i in 0..row.steps.len() {
+        take(rt, &mut served, row.steps[i], row.shows, i);
+    }
+    close(served);
+}
+
+/// Takes a step of the row that shows this, which has this number.
+fn take<SV: ServeHttp<TestLink, ()> + Drop>(
+    rt: &impl Abort,
+    served: &mut Served<SV>,
+    step: Step,
+    shows: &str,
+    i: usize,
+) {
+    act(rt, served, step);
+    let answers = match poll_of(step) {
+        Some((now, shutdown, answer)) => is_answered(served, now, shutdown, answer),
+        None => true,
+    };
+    assert!(rt; answers && is_seen(served, step), "{shows}: step {i}");
 }
 
 /// What the peer does in a step.
-fn act<SV: ServeHttp<MemLink, ()> + Drop>(
-    rt: &impl Abort,
-    served: &mut Served<MemLink, SV>,
-    step: Step,
-) -> Result<(), Error> {
+fn act<SV: ServeHttp<TestLink, ()> + Drop>(rt: &impl Abort, served: &mut Served<SV>, step: Step) {
     match step {
-        Step::Give(bytes) => return give(served, bytes),
-        Step::GiveEach(bytes) => return give_each(rt, served, bytes),
+        Step::Give(bytes) => give(rt, served, bytes),
+        Step::GiveEach(bytes) => give_each(rt, served, bytes),
+        Step::GiveOften(byte, count) => give_often(rt, served, byte, count),
         Step::TakeEach(bytes) => take_each(rt, served, bytes),
         Step::NoMore => end(served),
         Step::Room(count) => make_room(served, count),
@@ -141,37 +123,78 @@ fn act<SV: ServeHttp<MemLink, ()> + Drop>(
         Step::WriteFails => fail_next_write(served),
         _ => {}
     }
-    Ok(())
 }
 
 /// The peer sends these bytes one by one. A poll after each waits for more.
-fn give_each<SV: ServeHttp<MemLink, ()> + Drop>(
+fn give_each<SV: ServeHttp<TestLink, ()> + Drop>(
     rt: &impl Abort,
-    served: &mut Served<MemLink, SV>,
+    served: &mut Served<SV>,
     bytes: &[u8],
-) -> Result<(), Error> {
+) {
     for byte in bytes {
-        give(served, &[*byte])?;
-        assert_eq!(rt; polled(served), Progress::Pending(Waiting::Read));
+        give_one(rt, served, *byte);
     }
-    Ok(())
+}
+
+/// The peer sends this byte so often. A poll after each waits for more.
+fn give_often<SV: ServeHttp<TestLink, ()> + Drop>(
+    rt: &impl Abort,
+    served: &mut Served<SV>,
+    byte: u8,
+    count: u32,
+) {
+    for _ in 0..count {
+        give_one(rt, served, byte);
+    }
+}
+
+fn give_one<SV: ServeHttp<TestLink, ()> + Drop>(
+    rt: &impl Abort,
+    served: &mut Served<SV>,
+    byte: u8,
+) {
+    give(rt, served, &[byte]);
+    assert!(rt; is_answered(served, 0, false, Progress::Pending(Waiting::Read)));
 }
 
 /// The peer takes these bytes one by one. A poll before each waits for it.
-fn take_each<SV: ServeHttp<MemLink, ()> + Drop>(
+fn take_each<SV: ServeHttp<TestLink, ()> + Drop>(
     rt: &impl Abort,
-    served: &mut Served<MemLink, SV>,
+    served: &mut Served<SV>,
     bytes: &[u8],
 ) {
     for taken in 0..bytes.len() {
-        assert_eq!(rt; polled(served), Progress::Pending(Waiting::Write));
-        assert_eq!(rt; written(served), &bytes[..taken]);
-        make_room(served, 1);
+        take_one(rt, served, &bytes[..taken]);
     }
 }
 
+/// The peer took these bytes, and takes one more.
+fn take_one<SV: ServeHttp<TestLink, ()> + Drop>(
+    rt: &impl Abort,
+    served: &mut Served<SV>,
+    taken: &[u8],
+) {
+    assert!(rt; is_answered(served, 0, false, Progress::Pending(Waiting::Write)));
+    assert!(rt; written(served) == taken);
+    make_room(served, 1);
+}
+
+/// Whether a poll answers so, and tells the end that it came to.
+fn is_answered<SV: ServeHttp<TestLink, ()> + Drop>(
+    served: &mut Served<SV>,
+    now: u8,
+    shutdown: bool,
+    answer: Progress,
+) -> bool {
+    let end = match answer {
+        Progress::Pending(_) => None,
+        Progress::Ready(end) => Some(end),
+    };
+    polled(served, now, shutdown) == (answer, end)
+}
+
 /// The poll of a step: its moment, whether it is in a shutdown, and what it has to answer.
-fn poll_of(step: Step) -> Option<(u64, bool, Progress)> {
+fn poll_of(step: Step) -> Option<(u8, bool, Progress)> {
     match step {
         Step::Waits(what) => Some((0, false, Progress::Pending(what))),
         Step::Ends(end) => Some((0, false, Progress::Ready(end))),
@@ -179,28 +202,31 @@ fn poll_of(step: Step) -> Option<(u64, bool, Progress)> {
             let failed = End::Failed(Error::from(kind));
             Some((0, false, Progress::Ready(failed)))
         }
-        Step::EndsAt(now, end) => Some((now, false, Progress::Ready(end))),
+        Step::EndsLater(end) => Some((1, false, Progress::Ready(end))),
         Step::EndsInShutdown(end) => Some((0, true, Progress::Ready(end))),
         _ => None,
     }
 }
 
-/// What a step, of this number, expects of the connection.
-fn observe<SV: ServeHttp<MemLink, ()> + Drop>(
-    rt: &impl Abort,
-    served: &Served<MemLink, SV>,
-    step: Step,
-    i: usize,
-) {
+/// Whether the connection is as a step expects.
+fn is_seen<SV: ServeHttp<TestLink, ()> + Drop>(served: &Served<SV>, step: Step) -> bool {
     match step {
-        Step::IsShut(shut) => assert_eq!(rt; is_shut(served), shut, "step {i}"),
-        Step::Exchanges(count) => assert_eq!(rt; exchanges(served), count, "step {i}"),
-        Step::Counts(at, sent, read) => {
-            assert_eq!(rt; counts(served, at), (sent, read), "step {i}");
-        }
-        Step::BodyError(at, error) => assert_eq!(rt; body_error(served, at), error, "step {i}"),
-        Step::Wrote(bytes) => assert_eq!(rt; written(served), bytes, "step {i}"),
-        Step::WroteLen(len) => assert_eq!(rt; written(served).len(), len, "step {i}"),
-        _ => {}
+        Step::IsShut(shut) => is_shut(served) == shut,
+        Step::Exchanges(count) => exchanges(served) == count,
+        Step::Counts(at, sent, read) => counts(served, at) == (sent, read),
+        Step::BodyError(at, error) => body_error(served, at) == error,
+        _ => is_sent(written(served), flushed(served), step),
+    }
+}
+
+/// Whether the peer was sent what a step expects.
+fn is_sent(written: &[u8], flushed: u64, step: Step) -> bool {
+    match step {
+        Step::Wrote(bytes) => written == bytes,
+        Step::WroteFirst(bytes, len) => written.len() == len && bytes.starts_with(written),
+        Step::WroteLast(bytes) => written.ends_with(bytes),
+        Step::WroteLen(len) => written.len() == len,
+        Step::Flushed(count) => flushed == count,
+        _ => true,
     }
 }

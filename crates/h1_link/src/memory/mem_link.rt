@@ -55,6 +55,7 @@ impl MemLink {
             outlet: Outlet {
                 written: Vec::new(alloc),
                 flushed: 0,
+                shut_at: 0,
                 gate: Gate::Open,
                 fault: false,
                 noted: 0,
@@ -259,6 +260,7 @@ impl Link for MemLink {
         ensures plan { SamePlan self.old self.new }
     {
         self.shut = true;
+        self.outlet.shut_at = self.outlet.flushed;
         self.counts.count_other();
     }
 

@@ -8,6 +8,8 @@ pub struct Outlet {
     pub written: Vec<u8>,
     /// How many of them a flush sent on.
     pub flushed: usize,
+    /// How many were when the link was last shut down.
+    pub shut_at: usize,
     /// How much is taken from here on.
     pub gate: Gate,
     /// The next write fails.

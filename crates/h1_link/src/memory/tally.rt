@@ -21,6 +21,7 @@ pub struct Tally {
     bytes_out: u64,
     flushed: u64,
     shut: bool,
+    shut_at: u64,
 }
 
 impl Model for Tally {
@@ -43,6 +44,7 @@ impl Model for Tally {
       others = t.counts.others;
       flushed = t.flushed;
       shut = t.shut;
+      shut_at = t.shut_at;
     } };
 }
 
@@ -60,6 +62,7 @@ impl Tally {
             bytes_out: 0,
             flushed: 0,
             shut: false,
+            shut_at: 0,
         }
     }
 
@@ -129,6 +132,7 @@ impl Tally {
         ensures { self.new ≡ after_shutdown self.old }
     {
         self.shut = true;
+        self.shut_at = self.flushed;
         self.counts.count_other();
     }
 }

@@ -1,14 +1,25 @@
-//! The peer of a session, and what it sees.
+//! The peer of a session.
 use super::Timed;
-use h1_error::Error;
+use std::process::Abort;
 
-/// The peer sends so many bytes more.
-pub(crate) fn send(timed: &mut Timed, count: usize) -> Result<(), Error> {
+/// The peer sends so many bytes more, where so many are left.
+pub(crate) fn send(rt: &impl Abort, timed: &mut Timed, count: usize) {
     let Some((piece, rest)) = timed.rest.split_at_checked(count) else {
-        return Ok(());
+        return;
     };
     timed.rest = rest;
-    timed.session.with_link(|link| link.give(piece))
+    give(rt, timed, piece);
+}
+
+/// The peer sends these bytes.
+pub(crate) fn give(rt: &impl Abort, timed: &mut Timed, bytes: &[u8]) {
+    let given = timed.session.with_link(|link| link.give(bytes));
+    assert!(rt; given.is_ok());
+}
+
+/// The peer sends nothing more.
+pub(crate) fn close(timed: &mut Timed) {
+    timed.session.with_link(|link| link.end());
 }
 
 /// The peer takes so many bytes more.
@@ -19,14 +30,4 @@ pub(crate) fn make_room(timed: &mut Timed, count: u64) {
 /// The peer takes nothing more, and no flush.
 pub(crate) fn block(timed: &mut Timed) {
     timed.session.with_link(|link| link.block());
-}
-
-/// How many bytes the link gave.
-pub(crate) fn given(timed: &Timed) -> usize {
-    timed.session.link().given().len()
-}
-
-/// Whether the link was shut.
-pub(crate) fn is_shut(timed: &Timed) -> bool {
-    timed.session.link().is_shut()
 }

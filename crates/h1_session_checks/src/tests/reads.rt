@@ -1,14 +1,12 @@
 //! How many bytes the reads of a body ask for, by how many came before.
+use super::calls::{payload, read_head};
+use super::peer::{give, send};
+use super::{Timed, Told, session_of};
 use bytes::Bytes;
-use futures::task::Poll;
-use h1_error::Error;
-use h1_link::MemLink;
-use h1_server::{HttpSession, ReadRequest};
-use std::alloc::Global;
 use std::marker::Model;
 use std::process::Abort;
-use std::test::Fail;
 
+/// A head of 43 bytes.
 const HEAD: &[u8] = b"POST / HTTP/1.1\r\nContent-Length: 300002\r\n\r\n";
 
 /// The length of the body.
@@ -33,12 +31,14 @@ const READS: [(usize, usize); 14] = [
     (1, 1),
 ];
 
-/// A session that reads the body of a request, of which so much is still to be sent. Contracts see
-/// nothing of it.
+/// A session that reads the body of a request, with what is still to be read. Contracts see nothing
+/// of it.
 #[derive(Drop)]
 struct Reading<'a> {
-    session: HttpSession<MemLink, u32>,
-    rest: &'a [u8],
+    timed: Timed<'a>,
+    left: &'a [u8],
+    /// Pieces that were read.
+    held: Vec<Bytes>,
 }
 
 impl<'a> Model for Reading<'a> {
@@ -48,90 +48,89 @@ impl<'a> Model for Reading<'a> {
 }
 
 #[test]
-fn a_body_is_whole_whatever_its_reads_ask_for(rt: HostRuntime) -> Result<(), Fail> {
-    let body = body_of(rt.alloc())?;
-    let mut read = Vec::new(rt.alloc());
-    let mut reading = reading_of(&rt, &body)?;
-    for step in steps() {
-        let piece = read_piece(&rt, &mut reading, *step)?;
-        read.extend_from_slice(piece.as_slice())?;
+fn a_body_is_whole_whatever_its_reads_ask_for(rt: HostRuntime) {
+    let body = body_of(&rt);
+    let mut reading = reading_of(&rt, &body);
+    for i in 0..READS.len() {
+        read_piece(&rt, &mut reading, i);
     }
-    assert!(rt; read == body);
-    Ok(())
+    assert!(rt; reading.left.is_empty());
 }
 
 #[test]
-fn pieces_of_a_body_that_are_held_stay_as_they_were_read(rt: HostRuntime) -> Result<(), Fail> {
-    let body = body_of(rt.alloc())?;
-    let mut pieces = Vec::new(rt.alloc());
-    let mut reading = reading_of(&rt, &body)?;
-    for step in steps() {
-        pieces.push(read_piece(&rt, &mut reading, *step)?)?;
+fn pieces_of_a_body_that_are_held_stay_as_they_were_read(rt: HostRuntime) {
+    let body = body_of(&rt);
+    let mut reading = reading_of(&rt, &body);
+    for i in 0..READS.len() {
+        hold_piece(&rt, &mut reading, i);
     }
-    assert!(rt; joined(rt.alloc(), &pieces)? == body);
-    Ok(())
-}
-
-/// The reads. A test would carry their numbers through its loop, and needs none of them.
-fn steps() -> &'static [(usize, usize)] {
-    &READS
+    for i in 0..READS.len() {
+        judge_held(&rt, &mut reading, i);
+    }
+    assert!(rt; reading.left.is_empty());
 }
 
 /// A body in which no two reads give the same bytes.
-fn body_of(alloc: Global) -> Result<Vec<u8>, Error> {
-    let mut bytes = Vec::new(alloc);
+fn body_of(rt: &(impl Abort + AllocGlobal)) -> Vec<u8> {
+    let mut bytes = Vec::new(rt.alloc());
     for at in 0..LEN {
-        bytes.push((at % 251) as u8)?;
+        assert!(rt; bytes.push((at % 251) as u8).is_ok());
     }
-    Ok(bytes)
+    bytes
 }
 
 /// A session that read the head, and was sent nothing of this body.
-fn reading_of<'a>(rt: &(impl Abort + AllocGlobal), body: &'a [u8]) -> Result<Reading<'a>, Error> {
-    let mut link = MemLink::new(rt.alloc());
-    link.give(HEAD)?;
-    let mut session = HttpSession::new(rt.alloc(), link)?;
-    assert_eq!(rt;
-        session.poll_read_request(0),
-        Poll::Ready(Ok(ReadRequest::Head(HEAD.len())))
-    );
-    Ok(Reading {
-        session,
-        rest: body,
-    })
-}
-
-/// Has the peer send so many bytes more, and reads once, which has to give so many.
-fn read_piece(
-    rt: &impl Abort,
-    reading: &mut Reading,
-    (sent, came): (usize, usize),
-) -> Result<Bytes, Error> {
-    send(reading, sent)?;
-    assert!(rt; reading.session.has_request());
-    let piece = match reading.session.poll_read_body_bytes(0) {
-        Poll::Ready(Ok(piece)) => piece,
-        _ => None,
-    };
-    let piece = piece.expect(rt, "payload is there");
-    assert_eq!(rt; piece.len(), came);
-    Ok(piece)
-}
-
-/// Has the peer send so many bytes more, where so many are left.
-fn send(reading: &mut Reading, count: usize) -> Result<(), Error> {
-    let Some((piece, left)) = reading.rest.split_at_checked(count) else {
-        return Ok(());
-    };
-    reading.session.with_link(|link| link.give(piece))?;
-    reading.rest = left;
-    Ok(())
-}
-
-fn joined(alloc: Global, pieces: &[Bytes]) -> Result<Vec<u8>, Error> {
-    let mut bytes = Vec::new(alloc);
-    for piece in pieces {
-        bytes.extend_from_slice(piece.as_slice())?;
+fn reading_of<'a>(rt: &(impl Abort + AllocGlobal), body: &'a [u8]) -> Reading<'a> {
+    let mut timed = session_of(rt, body);
+    give(rt, &mut timed, HEAD);
+    assert!(rt; read_head(rt, &mut timed, 0) == Told::Gives(43));
+    Reading {
+        timed,
+        left: body,
+        held: Vec::new(rt.alloc()),
     }
-    Ok(bytes)
+}
+
+/// The numbers of a read. A test would carry all of them through its loop, and needs none.
+fn numbers(i: usize) -> (usize, usize) {
+    match READS.get(i) {
+        Some(numbers) => *numbers,
+        None => (0, 0),
+    }
+}
+
+/// Makes a read, which has to give what comes next of the body.
+fn read_piece(rt: &impl Abort, reading: &mut Reading, i: usize) {
+    let piece = next_piece(rt, &mut reading.timed, i);
+    reading.left = left_behind(rt, reading.left, piece.as_slice(), i);
+}
+
+/// Makes a read, and holds the piece.
+fn hold_piece(rt: &impl Abort, reading: &mut Reading, i: usize) {
+    let piece = next_piece(rt, &mut reading.timed, i);
+    assert!(rt; reading.held.push(piece).is_ok());
+}
+
+/// A piece that is held has to be what comes next of the body.
+fn judge_held(rt: &impl Abort, reading: &mut Reading, i: usize) {
+    let piece = reading.held.get(i).expect(rt, "a piece is held");
+    reading.left = left_behind(rt, reading.left, piece.as_slice(), i);
+}
+
+/// Has the peer send so many bytes more, and reads once.
+fn next_piece(rt: &impl Abort, timed: &mut Timed, i: usize) -> Bytes {
+    let (sent, _) = numbers(i);
+    send(rt, timed, sent);
+    payload(rt, timed, 0).expect(rt, "payload is there")
+}
+
+/// What is left of the body behind a piece, which has to be as long as the read gives.
+fn left_behind<'a>(rt: &impl Abort, left: &'a [u8], piece: &[u8], i: usize) -> &'a [u8] {
+    let (_, came) = numbers(i);
+    assert_eq!(rt; piece.len(), came, "read {i}");
+    let (front, rest) = left
+        .split_at_checked(came)
+        .expect(rt, "so many bytes are left");
+    assert!(rt; front == piece, "read {i}");
+    rest
 }

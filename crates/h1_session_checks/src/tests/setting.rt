@@ -1,6 +1,5 @@
 //! What is set on a session.
 use super::Timed;
-use h1_server::Settings;
 
 /// What a session is told to do.
 #[derive(Clone, Copy)]
@@ -18,69 +17,27 @@ pub enum Setting {
     Closing(bool),
     /// Whether bytes after the request begin the next one.
     Pipelining(bool),
+    /// How many requests more may follow.
+    Reuses(Option<u32>),
+    /// What is kept with the connection.
+    Context(Option<u32>),
 }
 
 /// Sets this.
 pub(crate) fn set(timed: &mut Timed, setting: Setting) {
+    let session = &mut timed.session;
     match setting {
-        Setting::Keepalive(seconds) => set_keepalive(timed, seconds),
-        Setting::ReadTimeout(timeout) => set_read_timeout(timed, timeout),
-        Setting::DrainTimeout(timeout) => set_drain_timeout(timed, timeout),
-        Setting::WriteTimeout(timeout) => set_write_timeout(timed, timeout),
-        Setting::Rate(rate) => set_rate(timed, rate),
-        Setting::Budget(budget) => set_budget(timed, budget),
-        Setting::Closing(closing) => set_closing(timed, closing),
-        Setting::Pipelining(pipelining) => set_pipelining(timed, pipelining),
+        Setting::Keepalive(seconds) => session.set_server_keepalive(seconds),
+        Setting::ReadTimeout(timeout) => session.set_read_timeout(timeout),
+        Setting::DrainTimeout(timeout) => session.set_total_drain_timeout(timeout),
+        Setting::WriteTimeout(timeout) => session.set_write_timeout(timeout),
+        Setting::Rate(rate) => session.set_min_send_rate(rate),
+        Setting::Budget(budget) => session.set_poll_budget(budget),
+        Setting::Closing(closing) => {
+            session.set_close_on_response_before_downstream_finish(closing);
+        }
+        Setting::Pipelining(pipelining) => session.set_pipelining_enabled(pipelining),
+        Setting::Reuses(reuses) => session.set_keepalive_reuses_remaining(reuses),
+        Setting::Context(context) => session.set_connection_user_context(context),
     }
-}
-
-fn set_keepalive(timed: &mut Timed, seconds: Option<u64>) {
-    timed.session.set_server_keepalive(seconds);
-}
-
-fn set_read_timeout(timed: &mut Timed, timeout: Option<u64>) {
-    timed.session.set_read_timeout(timeout);
-}
-
-fn set_drain_timeout(timed: &mut Timed, timeout: Option<u64>) {
-    timed.session.set_total_drain_timeout(timeout);
-}
-
-fn set_write_timeout(timed: &mut Timed, timeout: Option<u64>) {
-    timed.session.set_write_timeout(timeout);
-}
-
-fn set_rate(timed: &mut Timed, rate: Option<usize>) {
-    timed.session.set_min_send_rate(rate);
-}
-
-fn set_budget(timed: &mut Timed, budget: Option<u32>) {
-    timed.session.set_poll_budget(budget);
-}
-
-fn set_closing(timed: &mut Timed, closing: bool) {
-    timed
-        .session
-        .set_close_on_response_before_downstream_finish(closing);
-}
-
-fn set_pipelining(timed: &mut Timed, pipelining: bool) {
-    timed.session.set_pipelining_enabled(pipelining);
-}
-
-pub(crate) fn read_timeout(timed: &Timed) -> Option<u64> {
-    timed.session.get_read_timeout()
-}
-
-pub(crate) fn drain_timeout(timed: &Timed) -> Option<u64> {
-    timed.session.get_total_drain_timeout()
-}
-
-pub(crate) fn write_timeout(timed: &Timed) -> Option<u64> {
-    timed.session.get_write_timeout()
-}
-
-/// All that is set.
-pub(crate) fn settings(timed: &Timed) -> Settings {
-    *timed.session.settings()
 }

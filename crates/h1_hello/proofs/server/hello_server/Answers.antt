@@ -1,12 +1,8 @@
 -- The server has one gate, and its options are set.
-use Rattle.std.proofs.Common.{◌≡◌, [], ◌∷◌, Some, ap, refl, ◌∙◌}
+use Rattle.std.proofs.Common.{[], ◌∷◌, ap, refl, ◌∙◌}
 use Rattle.h1_modules.specs.Builders.{placed}
 use Rattle.h1_modules.specs.declared.head_filter.HeadModule.{HeadModule}
-use Rattle.h1_transcript.specs.declared.history.History.TheVariants.{Forgotten}
-use Rattle.h1_app.specs.View.{terms_of}
 use Rattle.h1_hello.specs.declared.gate.Gate.{Gate}
-use Rattle.h1_hello.specs.declared.server.TheConstants.{REQUEST_LIMIT}
-use Rattle.h1_hello.specs.Hello.{hello_terms}
 use Rattle.h1_hello.proofs.server.hello_server.Goals as goal
 
 pub returns-clause-app : goal.returns-clause-app

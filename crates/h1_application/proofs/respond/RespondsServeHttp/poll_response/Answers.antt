@@ -1,4 +1,6 @@
-use Rattle.std.proofs.Common.{ap, ◌∙◌}
+use Rattle.std.proofs.Common.{ap, ◌∙◌, true, false}
+use Rattle.h1_application.specs.Application.{payload_of}
+use Rattle.h1_application.specs.AtOnce.{at_once}
 use Rattle.h1_application.proofs.AtOnceLemmas.{answered}
 use Rattle.h1_application.proofs.SettingLemmas.{refusal_in_time, refusal_reads, set_twice}
 use Rattle.h1_application.proofs.respond.RespondsServeHttp.poll_response.Goals as goal
@@ -32,7 +34,8 @@ returns-clause-gives g c head began asked runs =
     answered (g.A.Respond.says c.args.self.now.0) head c.args.http.now
     c.set_pipelining_enabled.new.self began c.respond.result c.req_header.result.now c.requires.request same asked
     c.req_header.ensures c.respond.ensures.ok c.respond.ensures.lawful c.respond.ensures.err
-    (ap (λ s. s.settings.pipelining) follows)
-    (ap (λ s. s.settings.closing) follows ∙ ap (λ s. s.settings.closing) closing)
-    (ap (λ s. s.settings.times.write) follows ∙ ap (λ s. s.settings.times.write) closing
-    ∙ ap (λ s. s.settings.times.write) timed)
+    (ap payload_of follows ∙ ap payload_of closing ∙ ap payload_of timed ∙ runs.1)
+    (ap (λ s. s.settings) follows
+    ∙ ap (λ s. record s.settings { pipelining = true }) closing
+    ∙ ap (λ s. record s.settings { closing = false; pipelining = true }) timed
+    ∙ ap at_once runs.0)

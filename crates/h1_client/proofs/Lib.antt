@@ -1,0 +1,8 @@
+pub mod WrittenLemmas
+pub mod HoldsLemmas
+pub mod IdleLemmas
+pub mod SoundLemmas
+pub mod CallLemmas
+pub mod AskLemmas
+pub mod ReadLemmas
+pub mod PickLemmas

@@ -1,0 +1,23 @@
+-- A part of the body is used.
+use Rattle.h1_client.specs.Responses.{final_of}
+use Rattle.h1_client.proofs.CallLemmas.{sound_begun, sound_payload}
+use Rattle.h1_client.proofs.ReadLemmas.{reads_part}
+use Rattle.h1_client.proofs.v1.HttpSession.poll_read_body_bytes.Goals as goal
+
+pub invariant_of-self : goal.invariant_of-self
+invariant_of-self g c =
+    let begun = rw (← c.self.view_is) at c.requires.begun in
+    let said = rw (← c.self.view_is) at c.requires.read in
+    sound_payload g.L.Link.state c.set_budget.new.self c.poll_read_body_bytes-told.new.self
+    c.self.inside.answered.search c.self.inside.asked.request (final_of c.self.inside.answered.last)
+    c.self.inside.keepalive _ _ _ _
+    (sound_begun g.L.Link.state c.self.inside.transfer c.set_budget.new.self _ _ _ _ _ c.self.invariant
+    c.set_budget.ensures)
+    begun said c.poll_read_body_bytes-told.ensures.again c.poll_read_body_bytes-told.ensures.reads
+
+pub returns-clause-reads : goal.returns-clause-reads
+returns-clause-reads g c =
+    rw (← c.self.view_is) (reads_part g.L.Link.state c.args.now _ c.set_budget.new.self
+    c.poll_read_body_bytes-told.new.self c.poll_read_body_bytes-told.result _ c.ends_with_link.result _ _
+    c.set_budget.ensures c.read_deadline-deadline.ensures c.poll_read_body_bytes-told.ensures.again
+    c.poll_read_body_bytes-told.ensures.reads c.ends_with_link.ensures c.at_link_end-answer.ensures)

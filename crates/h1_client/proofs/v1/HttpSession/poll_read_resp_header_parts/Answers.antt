@@ -1,0 +1,19 @@
+-- A head that was read is there to be copied.
+use Rattle.h1_client.proofs.ReadLemmas.{read_there}
+use Rattle.h1_client.proofs.v1.HttpSession.poll_read_resp_header_parts.Goals as goal
+
+pub copy_of-requires : goal.copy_of-requires
+copy_of-requires g c =
+    let there = read_there g.L.Link.state c.args.now c.args.self.now c.poll_read_response-told.new.self _
+    c.poll_read_response-told.result _ c.poll_read_response-told.ensures.again
+    c.poll_read_response-told.ensures.reads in
+    rw (← c.self.view_is) at there
+
+pub returns-clause-reads : goal.returns-clause-reads
+returns-clause-reads g c = record {
+  told = c.poll_read_response-told.result;
+  again = c.poll_read_response-told.ensures.again;
+  reads = c.poll_read_response-told.ensures.reads;
+  spent = c.poll_read_response-told.ensures.spent;
+  copies = rw (← c.self.view_is) c.copy_of.ensures;
+}

@@ -1,0 +1,10 @@
+-- The exchange is whole.
+use Rattle.h1_client.proofs.CallLemmas.{sound_reuse}
+use Rattle.h1_client.proofs.v1.HttpSession.reuse.Goals as goal
+
+pub returns-clause-served : goal.returns-clause-served
+returns-clause-served g c =
+    let is = rw (← c.self.view_is) at c.if-not-is_reusable.ensures in
+    let s = c.self.inside in
+    rw c.into_link.ensures (sound_reuse g.L.Link.state s.transfer s.asked s.answered s.keepalive s.settings
+    s.spent c.self.invariant is)

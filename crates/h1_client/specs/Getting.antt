@@ -1,0 +1,64 @@
+-- What asking for a session with a peer answers, and what releasing one does.
+use Rattle.std.specs.Prelude.{◌≡◌, Bool, true, false, Result, Ok, Err}
+use Rattle.futures.specs.declared.task.Poll.{Poll}
+use Rattle.futures.specs.declared.task.Poll.TheVariants.{Pending, Ready}
+use Rattle.h1_error.specs.declared.error.ConnectFault.TheVariants.{DialFailed}
+use Rattle.h1_error.specs.declared.error.Error.{Error}
+use Rattle.h1_error.specs.declared.error.ErrorType.{ErrorType}
+use Rattle.h1_error.specs.declared.error.ErrorType.TheVariants as kind
+use Rattle.h1_link.specs.Counts.{Rose}
+use Rattle.h1_link.specs.DialerState.{DialerState}
+use Rattle.h1_link.specs.LinkState.{LinkState, IsFresh}
+use Rattle.h1_client.specs.ClientView.{ClientView, IsNewSession, request_of, response_of}
+use Rattle.h1_client.specs.Keeping.{keep_of}
+use Rattle.h1_client.specs.Reusing.{is_overread, is_reusable}
+use Rattle.h1_client.specs.Served.{IsServed}
+use Rattle.h1_client.specs.Settings.{new_settings}
+use Rattle.h1_client.specs.declared.settings.Peer.{Peer}
+use Rattle.h1_client.specs.declared.settings.Settings.{Settings}
+
+-- a session is set so at first
+abbrev pub peer_settings : Peer → Settings
+peer_settings peer =
+    record new_settings { tolerant = peer.allow_h1_response_invalid_content_length }
+
+-- a new session with this peer
+abbrev pub IsNewWith : {L : Type 0} → Peer → ClientView L → Type 0
+IsNewWith peer session = IsNewSession session.transfer.link (peer_settings peer) session
+
+-- over a link that took and gave whole exchanges and nothing else
+abbrev pub IsReused : {L : Type 0} → (L → LinkState) → Peer → ClientView L → Type 0
+IsReused state peer session = IsNewWith peer session × IsServed (state session.transfer.link)
+
+-- over a link that was dialled just now
+abbrev pub IsDialled : {L : Type 0} → (L → LinkState) → Peer → ClientView L → Type 0
+IsDialled state peer session = IsNewWith peer session × IsFresh (state session.transfer.link)
+
+-- when each refusal comes
+abbrev pub GetRefusal : DialerState → DialerState → ErrorType → Type 0
+GetRefusal before now (kind.ConnectError DialFailed) = Rose before.dial_faults now.dial_faults
+GetRefusal before now kind.NoMemory = now ≡ before
+GetRefusal before now _ = ⊥
+
+-- A link that was used before is handed out without a dial, and none waits without one.
+abbrev pub GetAnswer : {L D : Type 0} → (L → LinkState) → (D → DialerState) → Peer → D → D
+    → Poll (Result (ClientView L × Bool) Error) → Type 0
+GetAnswer state dials peer before now (Ready (Ok (session, true))) =
+    IsReused state peer session × (now ≡ before)
+GetAnswer state dials peer before now (Ready (Ok (session, false))) =
+    IsDialled state peer session × (dials now ≡ dials before)
+GetAnswer state dials peer before now (Ready (Err error)) =
+    GetRefusal (dials before) (dials now) error.kind × (error.retry ≡ false)
+GetAnswer state dials peer before now Pending =
+    Rose (dials before).dial_waits (dials now).dial_waits
+
+-- the session once keep-alive was respected
+abbrev pub respected : {L : Type 0} → ClientView L → ClientView L
+respected s = record s {
+  keepalive = keep_of (request_of s) (response_of s)
+      (is_overread s.transfer.body.reader s.transfer.received);
+}
+
+-- the link of a session is to stand idle
+abbrev pub is_kept : {L : Type 0} → ClientView L → Bool
+is_kept session = is_reusable (respected session)

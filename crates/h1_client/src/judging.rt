@@ -1,0 +1,100 @@
+//! What the calls of a session answer and keep (RFC 9112, section 8).
+ghost use Rattle.std.specs.Prelude.{◌≡◌, ◌&&◌, false, length, ◌≤◌, IfSome};
+ghost use Rattle.h1_body.specs.declared.chunking.TheConstants.{CHUNK_LIMIT};
+ghost use Rattle.h1_client.specs.Reading.{at_link_end};
+ghost use Rattle.h1_client.specs.ClientView.{first_refusal, is_spent};
+ghost use Rattle.h1_client.specs.Reusing.{is_at_end, is_free, is_sent};
+ghost use Rattle.h1_client.specs.Written.{is_written};
+
+use bytes::Bytes;
+use futures::task::Poll;
+use h1_body::{BodyReader, BodyWriter, FeedState};
+use h1_error::{Error, ErrorType};
+use h1_transfer::{Outgoing, Step};
+
+/// The refusal of the request's writing.
+pub(crate) fn first_refusal(late: Option<Error>, refused: Option<Error>) -> Option<Error>
+    ensures { result ≡ first_refusal late refused }
+{
+    match late {
+        Some(error) => Some(error),
+        None => refused,
+    }
+}
+
+/// What a read of the body answers, where its body may end with the link.
+pub(crate) fn at_link_end(
+    ends_with_link: bool,
+    told: Poll<Result<Option<Bytes>, Error>>,
+) -> Poll<Result<Option<Bytes>, Error>>
+    ensures { result ≡ at_link_end ends_with_link told }
+{
+    match told {
+        Poll::Ready(Err(error)) => {
+            if ends_with_link && error.kind == ErrorType::ConnectionClosed {
+                return Poll::Ready(Ok(None));
+            }
+            Poll::Ready(Err(error))
+        }
+        told => told,
+    }
+}
+
+/// Whether a call with this answer stopped because so many calls are left.
+pub(crate) fn is_spent<T>(answer: &Poll<T>, left: Option<u32>) -> bool
+    ensures { result ≡ is_spent answer.now left }
+{
+    match answer {
+        Poll::Ready(_) => false,
+        Poll::Pending => match left {
+            Some(left) => left == 0,
+            None => false,
+        },
+    }
+}
+
+/// How long the piece that is handed in is.
+pub(crate) fn piece_len(buf: &Option<Bytes>) -> usize
+    ensures { IfSome buf.now (λ piece. length piece ≤ CHUNK_LIMIT) }
+{
+    match buf {
+        Some(piece) => piece.len(),
+        None => 0,
+    }
+}
+
+/// Whether the request is written to its end, and flushed.
+pub(crate) fn is_sent(out: &Outgoing) -> bool
+    ensures { result ≡ is_sent out.now }
+{
+    is_free(out.step) && out.refused.is_none() && out.owed.is_empty() && is_written(&out.writer)
+}
+
+fn is_free(step: Step) -> bool
+    ensures { result ≡ is_free step }
+{
+    match step {
+        Step::Free => true,
+        Step::Head => false,
+        Step::Piece(_) => false,
+        Step::Finish => false,
+    }
+}
+
+/// Whether the body was ended, and isn't short.
+fn is_written(writer: &BodyWriter) -> bool
+    ensures { result ≡ is_written writer.now }
+{
+    writer.is_ended() && !writer.is_short()
+}
+
+/// Whether the body of the response was read to its end.
+pub(crate) fn is_at_end(reader: &BodyReader) -> bool
+    ensures { result ≡ is_at_end reader.now }
+{
+    match reader.state() {
+        FeedState::Done => true,
+        FeedState::More => false,
+        FeedState::Broken => false,
+    }
+}

@@ -1,0 +1,128 @@
+//! Reading the responses to a request: their heads, and the body of the final one (RFC 9112, sections
+//! 4, 6 and 8).
+ghost use Rattle.std.specs.Prelude.{◌≡◌, IsSome, IfSome, IfNone, None, Err, false};
+ghost use Rattle.h1_client.specs.Reading.{CopyAnswer, IsCopied, IsThere, ends_with_link};
+ghost use Rattle.h1_client.specs.Responses.{final_of};
+ghost use Rattle.futures.specs.declared.task.Poll.TheVariants.{Ready};
+
+use super::HttpSession;
+use crate::framing::{framing_to, is_until_close};
+use crate::judging::{at_link_end, is_spent};
+use crate::response_place::ResponsePlace;
+use bytes::Bytes;
+use futures::task::Poll;
+use h1_error::Error;
+use h1_head::{RequestHeader, ResponseHeader};
+use h1_link::Link;
+use h1_response::{ResponseHead, is_interim};
+use h1_transfer::CALL_BUDGET;
+
+impl<L: Link + Drop> HttpSession<L> {
+    ghost use Rattle.h1_client.specs.ClientView.{call_begun, is_spent, request_of, response_of};
+    ghost use Rattle.h1_client.specs.Reading.{ReadsCopy, ReadsPart, ReadsResponse, ends_with_link};
+    ghost use Rattle.h1_transfer.specs.Calls.{Called, read_fault_of};
+
+    /// Reads the head of the next response, and says how many bytes it has. That of an interim
+    /// response is passed over by the next call (RFC 9110, section 15.2). Every refusal but want of
+    /// memory is answered again, with no link call.
+    pub fn poll_read_response(&mut self, now: u64) -> Poll<Result<usize, Error>>
+        requires begun { IsSome (request_of self.old) }
+        requires wants { response_of self.old ≡ None }
+        ensures again { IfSome self.old.answered.refused (λ error. (result ≡ Ready (Err error))
+            × (self.new ≡ record (call_begun self.old) { spent = self.new.spent })) }
+        ensures reads { IfNone self.old.answered.refused
+            (ReadsResponse L.state now self.old self.new result) }
+        ensures spent { self.new.spent ≡ is_spent result self.new.transfer.budget }
+        ensures calls { Called (L.state self.old.transfer.link) (L.state self.new.transfer.link)
+            false (read_fault_of result) }
+        ensures plan { L.same_plan self.old.transfer.link self.new.transfer.link }
+    {
+        self.transfer.set_budget(Some(CALL_BUDGET));
+        self.spent = false;
+        if let Some(error) = self.answered.refused {
+            return Poll::Ready(Err(error));
+        }
+        let mut place = ResponsePlace::new();
+        let deadline = self.settings.read_deadline(now);
+        let search = &mut self.answered.search;
+        let read = self.transfer.read_head(search, &mut place, deadline);
+        let (tolerant, found) = (self.settings.tolerant, place.into_head());
+        let (transfer, request) = (&mut self.transfer, &self.asked.request);
+        let answer = self
+            .answered
+            .judge(transfer, request, tolerant, found, read);
+        self.spent = is_spent(&answer, self.transfer.budget());
+        answer
+    }
+
+    /// The same, and a copy of the head. Where memory ran out for the copy the head was read.
+    pub fn poll_read_resp_header_parts(&mut self, now: u64) -> Poll<Result<ResponseHeader, Error>>
+        requires begun { IsSome (request_of self.old) }
+        requires wants { response_of self.old ≡ None }
+        ensures reads { ReadsCopy L.state now self.old self.new result }
+        ensures plan { L.same_plan self.old.transfer.link self.new.transfer.link }
+    {
+        let told = self.poll_read_response(now);
+        copy_of(&self.answered.last, told)
+    }
+
+    /// Reads payload of the final response's body; None is its end (RFC 9112, section 6). A refusal
+    /// is answered again, with no link call.
+    pub fn poll_read_body_bytes(&mut self, now: u64) -> Poll<Result<Option<Bytes>, Error>>
+        requires begun { IsSome (request_of self.old) }
+        requires read { IsSome (response_of self.old) }
+        ensures reads { ReadsPart L.state now self.old self.new result }
+        ensures spent { self.new.spent ≡ is_spent result self.new.transfer.budget }
+        ensures calls { Called (L.state self.old.transfer.link) (L.state self.new.transfer.link)
+            false (read_fault_of result) }
+        ensures plan { L.same_plan self.old.transfer.link self.new.transfer.link }
+    {
+        self.transfer.set_budget(Some(CALL_BUDGET));
+        let deadline = self.settings.read_deadline(now);
+        let told = self.transfer.poll_read_body_bytes(deadline);
+        let answer = at_link_end(
+            ends_with_link(&self.asked.request, &self.answered.last),
+            told,
+        );
+        self.spent = is_spent(&answer, self.transfer.budget());
+        answer
+    }
+}
+
+/// The answer of a read of a head with a copy of the head that was read last.
+fn copy_of(
+    last: &Option<ResponseHead>,
+    told: Poll<Result<usize, Error>>,
+) -> Poll<Result<ResponseHeader, Error>>
+    requires { IsThere told last.now }
+    ensures { CopyAnswer told last.now result }
+{
+    match told {
+        Poll::Ready(Ok(_)) => match last {
+            Some(last) => copied(last),
+            None => unreachable!(),
+        },
+        Poll::Ready(Err(error)) => Poll::Ready(Err(error)),
+        Poll::Pending => Poll::Pending,
+    }
+}
+
+/// The answer with a copy of this head.
+fn copied(last: &ResponseHead) -> Poll<Result<ResponseHeader, Error>>
+    ensures { IsCopied last.now result }
+{
+    match last.header.copy() {
+        Ok(copy) => Poll::Ready(Ok(copy)),
+        Err(error) => Poll::Ready(Err(error)),
+    }
+}
+
+/// Whether the body of the final response to this request is read until the link ends.
+fn ends_with_link(request: &Option<RequestHeader>, last: &Option<ResponseHead>) -> bool
+    ensures { result ≡ ends_with_link request.now (final_of last.now) }
+{
+    let (Some(request), Some(last)) = (request, last) else {
+        return false;
+    };
+    !is_interim(last.header.status()) && is_until_close(framing_to(request, &last.header))
+}

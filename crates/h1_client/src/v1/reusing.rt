@@ -1,0 +1,78 @@
+//! Handing the link on to the next request (RFC 9112, section 9.3).
+ghost use Rattle.std.specs.Prelude.{◌≡◌, IfSome, is_some};
+ghost use Rattle.h1_client.specs.Reusing.{is_nothing};
+
+use super::HttpSession;
+use crate::Keepalive;
+use crate::judging::{is_at_end, is_sent};
+use crate::keeping::keep_of;
+use h1_link::Link;
+
+impl<L: Link + Drop> HttpSession<L> {
+    ghost use Rattle.h1_client.specs.Reusing.{is_exchanged, is_on, is_reusable, respected};
+    ghost use Rattle.h1_client.specs.Served.{IsServed};
+
+    /// Sets whether the link may serve the next request, by what both sides said of it.
+    pub fn respect_keepalive(&mut self)
+        ensures { self.new ≡ respected self.old }
+    {
+        let overread = is_at_end(&self.transfer.body().reader)
+            && !is_nothing(self.transfer.received());
+        self.keepalive = keep_of(&self.asked.request, &self.answered.last, overread);
+    }
+
+    /// Whether the link may serve the next request, as `respect_keepalive` said last.
+    pub fn will_keepalive(&self) -> bool
+        ensures { result ≡ is_on self.now.keepalive }
+    {
+        self.keepalive.is_on()
+    }
+
+    /// What `respect_keepalive` said last.
+    pub fn keepalive(&self) -> Keepalive
+        ensures { result ≡ self.now.keepalive }
+    {
+        self.keepalive
+    }
+
+    /// Whether the request is written whole, the final response is read whole, and nothing came
+    /// behind it.
+    pub fn is_exchanged(&self) -> bool
+        ensures { result ≡ is_exchanged self.now }
+    {
+        self.asked.request.is_some()
+            && self.answered.is_final()
+            && is_sent(self.transfer.outgoing())
+            && is_at_end(&self.transfer.body().reader)
+            && is_nothing(self.transfer.received())
+    }
+
+    /// Whether the link may serve the next request: keep-alive is on, and the exchange is whole.
+    pub fn is_reusable(&self) -> bool
+        ensures { result ≡ is_reusable self.now }
+    {
+        self.keepalive.is_on() && self.is_exchanged()
+    }
+
+    /// The link for the next request, exactly where keep-alive is on and the exchange is whole. Any
+    /// other link is shut.
+    pub fn reuse(self) -> Option<L>
+        ensures gives { is_some result ≡ is_reusable self }
+        ensures link { IfSome result (λ link. link ≡ self.transfer.link) }
+        ensures served { IfSome result (λ link. IsServed (L.state link)) }
+    {
+        if !self.is_reusable() {
+            let mut transfer = self.transfer;
+            transfer.shutdown();
+            return None;
+        }
+        Some(self.transfer.into_link())
+    }
+}
+
+/// Whether no byte is there.
+fn is_nothing(bytes: &[u8]) -> bool
+    ensures { result ≡ is_nothing bytes.now }
+{
+    bytes.is_empty()
+}
