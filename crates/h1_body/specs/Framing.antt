@@ -1,5 +1,5 @@
 -- How the end of a message's body is found (RFC 9112, section 6.3).
-use Rattle.std.specs.Prelude.{ℕ, Bool, ◌||◌, ◌==◌, List, codes, bytes_eq, if◌then◌else◌}
+use Rattle.std.specs.Prelude.{ℕ, Bool, ◌||◌, ◌&&◌, ◌==◌, List, codes, bytes_eq, if◌then◌else◌}
 use Rattle.h1_fields.specs.Lines.{Line}
 use Rattle.h1_fields.specs.Codings.{is_chunked_last}
 use Rattle.h1_fields.specs.ContentLength.{content_length}
@@ -39,3 +39,11 @@ out_to head_only head =
 
 abbrev pub out : List ℕ → ResponseView → Framing
 out method head = out_to (is_head method) head
+
+-- The answer to HEAD, 204 and 304 have no body. Behind a 101 that was asked for, the link is the
+-- body (RFC 9110, section 7.8). Else the last coding decides, then the length, then the link's end.
+abbrev pub response_framing : Bool → Bool → ResponseView → Framing
+response_framing head_only upgrade head =
+    if has_no_body head_only head.status
+    then Counted 0
+    else (if upgrade && head.status == 101 then UntilClose else by_fields UntilClose head.fields)

@@ -1,6 +1,14 @@
 //! How the end of a body is found (RFC 9112, section 6.3).
 ghost use Rattle.std.specs.Prelude.{◌≡◌};
-ghost use Rattle.h1_body.specs.Framing.{framing, out_to, is_head, by_fields, by_length, has_no_body};
+ghost use Rattle.h1_body.specs.Framing.{
+  framing,
+  out_to,
+  response_framing,
+  is_head,
+  by_fields,
+  by_length,
+  has_no_body,
+};
 ghost use Rattle.h1_fields.specs.ContentLength.{content_length};
 
 use h1_fields::{ContentLength, Fields};
@@ -57,6 +65,19 @@ pub fn reply_framing(head_only: bool, head: &ResponseHeader) -> Framing
         Framing::Counted(0)
     } else {
         framing_by(head.fields(), Framing::UntilClose)
+    }
+}
+
+/// How the body of a response ends. `head_only` says whether its request was HEAD, and `upgrade`
+/// whether it asked for another protocol.
+#[inline(always)]
+pub fn response_framing(head_only: bool, upgrade: bool, head: &ResponseHeader) -> Framing
+    ensures { result ≡ response_framing head_only upgrade head.now }
+{
+    if upgrade && !head_only && head.status() == 101 {
+        Framing::UntilClose
+    } else {
+        reply_framing(head_only, head)
     }
 }
 

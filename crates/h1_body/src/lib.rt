@@ -21,7 +21,9 @@ pub use chunk_laws::{chunked_is_the_grammar, no_chunked_body_begins_another};
 pub use chunking::{CHUNK_LIMIT, Chunking, SIZE_LINE_LIMIT, TRAILERS_LIMIT};
 pub use fed::{Fed, FeedState, Taken};
 pub use fixed_buffer::FixedBuffer;
-pub use framing::{Framing, framing_of, framing_with, is_head_only, reply_framing};
+pub use framing::{
+    Framing, framing_of, framing_with, is_head_only, reply_framing, response_framing,
+};
 pub use laws::{bodies_grow, readings_join};
 pub use payload::{Gathering, Payload};
 pub use reader::{BodyReader, Reading};

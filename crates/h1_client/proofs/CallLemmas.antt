@@ -3,6 +3,8 @@ use Rattle.std.proofs.Common.{◌≡◌, ℕ, ◌-◌, ◌≤◌, ◌==◌, List
 use Rattle.std.proofs.lemmas.Bool.{false≢true, not-true}
 use Rattle.h1_body.specs.declared.chunking.TheConstants.{CHUNK_LIMIT}
 use Rattle.h1_transfer.specs.Budget.{allowance}
+use Rattle.h1_transfer.specs.Calls.{Called, Fault}
+use Rattle.h1_transfer.proofs.CalledLemmas.{called_undone}
 use Rattle.h1_transfer.specs.EndWrites.{EndCall, end_stage, stage_of}
 use Rattle.h1_transfer.specs.Payload.{ReadsPayload}
 use Rattle.h1_transfer.specs.PieceWrites.{PieceTaking, WritesPiece}
@@ -12,7 +14,7 @@ use Rattle.h1_transfer.specs.Writes.{Delivers, Writes}
 use Rattle.h1_transfer.specs.declared.delivering.Delivery.{Delivery}
 use Rattle.h1_client.specs.Words.{Poll, Error, Deadline, framing, is_short, itself, HeadSearch, HasLooked, MAX_HEADER_SIZE, RequestView, ResponseView, LinkState, Outgoing, Step, Free, Head, Piece, Finish, TransferView}
 use Rattle.h1_client.specs.Asking.{TakesUp}
-use Rattle.h1_client.specs.ClientView.{ClientView}
+use Rattle.h1_client.specs.ClientView.{ClientView, is_spent}
 use Rattle.h1_client.specs.Holds.{Holds}
 use Rattle.h1_client.specs.Keeping.{keep_by, keep_of}
 use Rattle.h1_client.specs.Responses.{final_of}
@@ -238,6 +240,30 @@ pub sound_begun : {L : Type 0} (state : L → LinkState) (old start : TransferVi
     → SoundOf state start looking request final k
 sound_begun state old start looking request final k budget sound is = rw is sound
 
+-- the link of a call that begins goes by the same plan
+pub plan_begun : {L : Type 0} (same_plan : L → L → Type 0) (old start new : TransferView L)
+    (budget : Option ℕ)
+    → start ≡ record old { budget = budget } → same_plan start.link new.link
+    → same_plan old.link new.link
+plan_begun {L} same_plan old start new budget is plan =
+    subst (λ l. same_plan l new.link) (ap (λ (t : TransferView L). t.link) is) plan
+
+-- what a call did to its link beside moving bytes, with the fault that its answer tells
+pub called_begun : {L : Type 0} (state : L → LinkState) (old start new : TransferView L)
+    (budget : Option ℕ) (done : Bool) (fault told : Fault)
+    → start ≡ record old { budget = budget }
+    → Called (state start.link) (state new.link) done fault → told ≡ fault
+    → Called (state old.link) (state new.link) false told
+called_begun {L} state old start new budget done fault told is calls same =
+    rw same (subst (λ l. Called (state l) (state new.link) false fault)
+    (ap (λ (t : TransferView L). t.link) is)
+    (called_undone (state start.link) (state new.link) done fault calls))
+
+-- a call notes whether its budget is spent
+pub notes_spent : {T : Type 0} (answer : Poll T) (left budget : Option ℕ) (spent : Bool)
+    → spent ≡ is_spent answer left → left ≡ budget → spent ≡ is_spent answer budget
+notes_spent answer left budget spent is same = is ∙ ap (λ b. is_spent answer b) same
+
 -- nothing moves over the link
 pub sound_lent : {L : Type 0} (state : L → LinkState) (old new : TransferView L)
     (looking : HeadSearch) (request : Option RequestView) (final : Option ResponseView) (k : Keepalive)
@@ -285,7 +311,7 @@ sound_respects state t looking request final k overread sound = record {
 
 -- the link of a session that may be used again
 pub sound_reuse : {L : Type 0} (state : L → LinkState) (t : TransferView L) (asked : Asked)
-    (answered : Answered) (k : Keepalive) (settings : Settings) (spent : Bool)
+    (answered : Answered) (k : Keepalive) (settings : Settings) (payload_read : ℕ) (spent : Bool)
     → SoundOf state t answered.search asked.request (final_of answered.last) k
     → true ≡ is_reusable (record {
       transfer = t;
@@ -293,16 +319,18 @@ pub sound_reuse : {L : Type 0} (state : L → LinkState) (t : TransferView L) (a
       answered = answered;
       keepalive = k;
       settings = settings;
+      payload_read = payload_read;
       spent = spent;
     })
     → IsServed (state t.link)
-sound_reuse {L} state t asked answered k settings spent sound is =
+sound_reuse {L} state t asked answered k settings payload_read spent sound is =
     let s : ClientView L = record {
       transfer = t;
       asked = asked;
       answered = answered;
       keepalive = k;
       settings = settings;
+      payload_read = payload_read;
       spent = spent;
     } in
     let both = head_of_and (is_on k) (is_exchanged s) (sym is) in

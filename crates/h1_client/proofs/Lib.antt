@@ -1,6 +1,5 @@
 pub mod WrittenLemmas
 pub mod HoldsLemmas
-pub mod IdleLemmas
 pub mod SoundLemmas
 pub mod CallLemmas
 pub mod AskLemmas

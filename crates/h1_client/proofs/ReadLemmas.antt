@@ -10,7 +10,8 @@ use Rattle.h1_transfer.specs.declared.reading_head.HeadRead.TheVariants as read
 use Rattle.h1_transfer.specs.declared.reading_head.HeadStop.TheVariants as s
 use Rattle.h1_client.specs.Words.{Poll, Ready, Error, Deadline, itself, HeadSearch, HasLooked, MAX_HEADER_SIZE, HeadRead, HeadStop, NotYetAt, RefusedAt, RequestView, ResponseHead, LinkState, TransferView, is_interim}
 use Rattle.h1_client.specs.ClientView.{ClientView, call_begun, request_of, response_of}
-use Rattle.h1_client.specs.Reading.{IsInPlace, IsPlaceOf, JudgesHead, IsThere, LeavesHead, ReadsPart, ReadsResponse, StopsFor, TakesHead, UsesHead, at_link_end, ends_with_link}
+use Rattle.h1_client.specs.Reading.{IsInPlace, IsPlaceOf, JudgesHead, IsThere, LeavesHead, ReadsResponse, StopsFor, TakesHead, UsesHead}
+use Rattle.h1_client.specs.ReadingBody.{ReadsPart, at_link_end, ends_with_link, payload_behind}
 use Rattle.h1_client.specs.Responses.{final_of, has_bad_length}
 use Rattle.h1_client.specs.Settings.{read_deadline}
 use Rattle.h1_client.specs.declared.answered.Answered.{Answered}
@@ -278,13 +279,15 @@ reads_response {L} state moment old start between new now found told outcome spe
 -- a call that reads a part of the body
 pub reads_part : {L : Type 0} (state : L → LinkState) (moment : ℕ) (old : ClientView L)
     (start new : TransferView L) (told outcome : Poll (Result (Option (List ℕ)) Error))
-    (ends spent : Bool) (deadline : Deadline)
+    (ends : Bool) (count : ℕ) (spent : Bool) (deadline : Deadline)
     → start ≡ record old.transfer { budget = Some 64 } → deadline ≡ read_deadline old.settings moment
     → IfSome start.body.refused (λ error. (told ≡ Ready (Err error)) × (new ≡ start))
     → IfNone start.body.refused (ReadsPayload state itself deadline start new told)
     → ends ≡ ends_with_link (request_of old) (response_of old) → outcome ≡ at_link_end ends told
-    → ReadsPart state moment old (record old { transfer = new; spent = spent }) outcome
-reads_part {L} state moment old start new told outcome ends spent deadline begins limit again reads ends_is answer = record {
+    → count ≡ payload_behind old.payload_read outcome
+    → ReadsPart state moment old
+    (record old { transfer = new; payload_read = count; spent = spent }) outcome
+reads_part {L} state moment old start new told outcome ends count spent deadline begins limit again reads ends_is answer counts = record {
   told = told;
   again = subst (λ (t : TransferView L). IfSome t.body.refused
       (λ error. (told ≡ Ready (Err error)) × (new ≡ t))) begins again;
@@ -293,7 +296,7 @@ reads_part {L} state moment old start new told outcome ends spent deadline begin
       (subst (λ (t : TransferView L). IfNone t.body.refused (ReadsPayload state itself deadline t new told))
       begins reads);
   answer = answer ∙ ap (λ e. at_link_end e told) ends_is;
-  rest = refl;
+  rest = ap (λ n. record old { transfer = new; payload_read = n; spent = spent }) counts;
 }
 
 stop_there : (was now : Option Error) (stop : HeadStop) (outcome : Poll (Result ℕ Error))

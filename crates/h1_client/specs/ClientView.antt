@@ -18,6 +18,8 @@ pub record ClientView (L : Type 0) : Type 0 where
   -- whether the link may serve the next request, as `respect_keepalive` said last
   pub keepalive : Keepalive
   pub settings : Settings
+  -- how many bytes of payload were read of the final response's body
+  pub payload_read : ℕ
   -- the last call stopped because its link calls that moved bytes were as many as it may make
   pub spent : Bool
 
@@ -60,4 +62,5 @@ pub record IsNewSession {L : Type 0} (over : L) (said : Settings) (new : ClientV
   pub unrefused : new.answered.refused ≡ None
   pub keepalive : new.keepalive ≡ Off
   pub settings : new.settings ≡ said
+  pub unread : new.payload_read ≡ 0
   pub spent : new.spent ≡ false

@@ -9,8 +9,14 @@ pub mod Holds
 pub mod Sound
 pub mod Asking
 pub mod Reading
+pub mod ReadingBody
 pub mod Keeping
 pub mod Reusing
+pub mod Upgrading
+pub mod Tasks
+pub mod Lending
+pub mod Calls
+pub mod Sessions
 pub mod Idle
 pub mod Probing
 pub mod Pool

@@ -1,15 +1,13 @@
--- Reading the responses to a request (RFC 9112, sections 4, 6 and 8).
-use Rattle.std.specs.Prelude.{◌≡◌, ℕ, Bool, true, false, List, drop, Option, Some, None, IsSome, IfSome, IfNone, Result, Ok, Err}
+-- Reading the heads of the responses to a request (RFC 9112, sections 4 and 8).
+use Rattle.std.specs.Prelude.{◌≡◌, ℕ, Bool, true, false, List, drop, Option, Some, None, IsSome, Result, Ok, Err}
 use Rattle.h1_error.specs.declared.error.ErrorType.TheVariants as kind
 use Rattle.h1_error.specs.declared.head_fault.HeadFault.TheVariants as fault
-use Rattle.h1_body.specs.Reader.{is_until_close}
 use Rattle.h1_transfer.specs.BodyAnswers.{error_of}
 use Rattle.h1_transfer.specs.Heads.{ReadsHead}
-use Rattle.h1_transfer.specs.Payload.{ReadsPayload}
 use Rattle.h1_transfer.specs.declared.reading_head.HeadRead.TheVariants as read
 use Rattle.h1_transfer.specs.declared.reading_head.HeadStop.TheVariants as stop
-use Rattle.h1_client.specs.Words.{Poll, Pending, Ready, Error, ErrorType, RequestView, ResponseView, ResponseHead, LinkState, TransferView, itself, HeadRead, HeadStop, HasLooked, MAX_HEADER_SIZE, IsWholeAt, RefusedAt, NotYetAt, body, reads}
-use Rattle.h1_client.specs.ClientView.{ClientView, call_begun, is_spent, request_of, response_of}
+use Rattle.h1_client.specs.Words.{Poll, Pending, Ready, Error, ErrorType, RequestView, ResponseView, ResponseHead, LinkState, TransferView, HeadRead, HeadStop, HasLooked, MAX_HEADER_SIZE, IsWholeAt, RefusedAt, NotYetAt, body, reads}
+use Rattle.h1_client.specs.ClientView.{ClientView, call_begun, request_of}
 use Rattle.h1_client.specs.Responses.{framing_to, has_bad_length}
 use Rattle.h1_client.specs.Settings.{read_deadline}
 use Rattle.h1_client.specs.declared.answered.Answered.{Answered}
@@ -120,40 +118,3 @@ CopyAnswer (Ready (Ok used)) (Some last) outcome = IsCopied last outcome
 CopyAnswer (Ready (Ok used)) None outcome = ⊥
 CopyAnswer (Ready (Err error)) last outcome = outcome ≡ Ready (Err error)
 CopyAnswer Pending last outcome = outcome ≡ Pending
-
--- one call that reads one head, and copies it
-pub record ReadsCopy {L : Type 0} (state : L → LinkState) (now : ℕ) (old new : ClientView L)
-    (outcome : Poll (Result ResponseView Error)) : Type 0 where
-  pub told : Poll (Result ℕ Error)
-  pub again : IfSome old.answered.refused (λ error. (told ≡ Ready (Err error))
-      × (new ≡ record (call_begun old) { spent = new.spent }))
-  pub reads : IfNone old.answered.refused (ReadsResponse state now old new told)
-  pub spent : new.spent ≡ is_spent told new.transfer.budget
-  pub copies : CopyAnswer told new.answered.last outcome
-
--- the body of the final response is read until the link ends
-abbrev pub ends_with_link : Option RequestView → Option ResponseView → Bool
-ends_with_link (Some request) (Some said) = is_until_close (framing_to request said)
-ends_with_link None final = false
-ends_with_link request None = false
-
--- what a read of the body answers: the end of the link is the end of a body that is read until then
-abbrev pub at_link_end : Bool → Poll (Result (Option (List ℕ)) Error)
-    → Poll (Result (Option (List ℕ)) Error)
-at_link_end true (Ready (Err error)) = by error.kind error where
-  by : ErrorType → Error → Poll (Result (Option (List ℕ)) Error)
-  by kind.ConnectionClosed error = Ready (Ok None)
-  by _ error = Ready (Err error)
-at_link_end _ told = told
-
--- one call that reads a part of the final response's body
-pub record ReadsPart {L : Type 0} (state : L → LinkState) (now : ℕ) (old new : ClientView L)
-    (outcome : Poll (Result (Option (List ℕ)) Error)) : Type 0 where
-  pub told : Poll (Result (Option (List ℕ)) Error)
-  -- a refusal is answered again, with no link call
-  pub again : IfSome old.transfer.body.refused (λ error. (told ≡ Ready (Err error))
-      × (new.transfer ≡ (call_begun old).transfer))
-  pub reads : IfNone old.transfer.body.refused (ReadsPayload state itself
-      (read_deadline old.settings now) (call_begun old).transfer new.transfer told)
-  pub answer : outcome ≡ at_link_end (ends_with_link (request_of old) (response_of old)) told
-  pub rest : new ≡ record old { transfer = new.transfer; spent = new.spent }

@@ -2,7 +2,7 @@
 -- section 6.3).
 use Rattle.std.specs.Prelude.{ℕ, Bool, true, false, ◌&&◌, ◌==◌, not, List, [], ◌∷◌, codes, Option, Some, None, if◌then◌else◌}
 use Rattle.std.specs.List.{list_any}
-use Rattle.h1_body.specs.Framing.{is_head}
+use Rattle.h1_body.specs.Framing.{is_head, response_framing}
 use Rattle.h1_fields.specs.ContentLength.{content_length}
 use Rattle.h1_fields.specs.Lines.{Line, first_value, has_line, values_of}
 use Rattle.h1_fields.specs.ListParts.{is_comma}
@@ -10,7 +10,6 @@ use Rattle.h1_fields.specs.declared.content_length.ContentLength.{ContentLength}
 use Rattle.h1_fields.specs.declared.content_length.ContentLength.TheVariants as stated
 use Rattle.h1_head.specs.Versions.{is_http_11}
 use Rattle.h1_client.specs.Words.{RequestView, ResponseView, ResponseHead, Framing, Counted, is_interim}
-use Rattle.h1_response.specs.ResponseFraming.{response_framing}
 
 -- the final response, once its head was the last that was read
 abbrev pub final_of : Option ResponseHead → Option ResponseView

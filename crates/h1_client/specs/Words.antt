@@ -18,9 +18,9 @@ pub use Rattle.h1_head.specs.Views.{RequestView, ResponseView}
 pub use Rattle.h1_head.specs.Wire.{request_bytes}
 pub use Rattle.h1_head.specs.declared.limits.TheConstants.{MAX_HEADER_SIZE}
 pub use Rattle.h1_link.specs.LinkState.{LinkState}
-pub use Rattle.h1_response.specs.Interim.{is_interim}
-pub use Rattle.h1_response.specs.ResponseHead.{IsAccepted, IsWholeAt, RefusedAt}
-pub use Rattle.h1_response.specs.declared.response_head.ResponseHead.{ResponseHead}
+pub use Rattle.h1_head.specs.Interim.{is_interim}
+pub use Rattle.h1_head.specs.ResponseHead.{IsAccepted, IsWholeAt, RefusedAt}
+pub use Rattle.h1_head.specs.declared.response_head.ResponseHead.{ResponseHead}
 pub use Rattle.h1_transfer.specs.Fresh.{no_reply}
 pub use Rattle.h1_transfer.specs.TransferView.{TransferView, itself}
 pub use Rattle.h1_transfer.specs.declared.deadline.Deadline.{Deadline}

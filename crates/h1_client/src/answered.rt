@@ -12,9 +12,8 @@ use crate::framing::{framing_to, has_bad_length};
 use futures::task::Poll;
 use h1_cut::HeadSearch;
 use h1_error::{Error, ErrorType, HeadFault};
-use h1_head::RequestHeader;
+use h1_head::{RequestHeader, ResponseHead, is_interim};
 use h1_link::Link;
-use h1_response::{ResponseHead, is_interim};
 use h1_transfer::{HeadRead, HeadStop, Transfer};
 
 /// The responses that a session reads.

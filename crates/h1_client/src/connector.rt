@@ -11,9 +11,10 @@ use std::alloc::Global;
 use std::sync::atomic::{AtomicU64, Ordering};
 use std::sync::{Arc, Mutex, Wait};
 
-/// Hands out sessions over links that served before, or are dialled. No clause tells what is under its
-/// lock or what it counted, since what threads share has no value that a contract sees; those of the
-/// calls of `Pool`, which it makes under the lock, do.
+/// Hands out sessions over links that served before, or are dialled. Threads may share it. No
+/// clause tells what is under its lock, or what it counted of unexpected bytes, since what threads
+/// share has no value that a contract sees; those of the calls of `Pool`, which it makes under the
+/// lock, do. Moments and timeouts are milliseconds.
 #[derive(Drop)]
 pub struct Connector<L: Link + Drop> {
     alloc: Global,
@@ -36,7 +37,8 @@ impl<L: Link + Drop> Connector<L> {
     }
 
     /// A session with a peer: over a link that served before, with true, else over one that is
-    /// dialled. The lock is released before the dial.
+    /// dialled. The lock is released before the dial. It waits, and is made again, while the dialer
+    /// waits; the one refusal is that of a dial (`ConnectError`).
     pub fn poll_get_http_session<R: Wait, D: Dialer<Link = L>>(
         &self,
         rt: &R,
@@ -79,8 +81,9 @@ impl<L: Link + Drop> Connector<L> {
     }
 
     /// Keeps the link of a session for the next request to the peer, exactly where both sides keep
-    /// it alive and the exchange is whole; any other link is shut. It may stand idle for so many
-    /// milliseconds. Where there is no memory the link is dropped.
+    /// it alive and the exchange is whole, and says whether it did; any other link is shut. It may
+    /// stand idle for so many milliseconds; with None it may until its peer closes it, or for as
+    /// long as the peer said. Where there is no memory the link is dropped.
     pub fn release_http_session<R: Wait>(
         &self,
         rt: &R,

@@ -7,10 +7,9 @@ ghost use Rattle.h1_fields.specs.Lines.{values_of};
 ghost use Rattle.h1_client.specs.Responses.{asks_upgrade, framing_to, has_bad_length, is_single};
 ghost use Rattle.h1_client.specs.Written.{FitsRequest};
 
-use h1_body::{Framing, framing_of, is_head_only};
+use h1_body::{Framing, framing_of, is_head_only, response_framing};
 use h1_fields::{ContentLength, Fields};
-use h1_head::{RequestHeader, ResponseHeader};
-use h1_response::{is_interim, response_framing};
+use h1_head::{RequestHeader, ResponseHeader, is_interim};
 use http::Version;
 
 /// Whether the request asks for another protocol.

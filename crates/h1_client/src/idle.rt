@@ -138,8 +138,8 @@ fn is_past(deadline: Option<u64>, now: u64) -> bool
     }
 }
 
-/// The moment from which a link isn't handed out any more: the earlier of what its owner lets it and
-/// what its peer said.
+/// The moment from which a link isn't handed out any more: the earlier of what its owner lets it
+/// and what its peer said.
 fn deadline_of(now: u64, idle_timeout: Option<u64>, keepalive: Keepalive) -> Option<u64>
     ensures { result ≡ deadline_of now idle_timeout keepalive }
 {

@@ -1,7 +1,8 @@
 //! What the calls of a session answer and keep (RFC 9112, section 8).
 ghost use Rattle.std.specs.Prelude.{◌≡◌, ◌&&◌, false, length, ◌≤◌, IfSome};
 ghost use Rattle.h1_body.specs.declared.chunking.TheConstants.{CHUNK_LIMIT};
-ghost use Rattle.h1_client.specs.Reading.{at_link_end};
+ghost use Rattle.h1_transfer.specs.Calls.{read_fault_of};
+ghost use Rattle.h1_client.specs.ReadingBody.{at_link_end};
 ghost use Rattle.h1_client.specs.ClientView.{first_refusal, is_spent};
 ghost use Rattle.h1_client.specs.Reusing.{is_at_end, is_free, is_sent};
 ghost use Rattle.h1_client.specs.Written.{is_written};
@@ -27,7 +28,8 @@ pub(crate) fn at_link_end(
     ends_with_link: bool,
     told: Poll<Result<Option<Bytes>, Error>>,
 ) -> Poll<Result<Option<Bytes>, Error>>
-    ensures { result ≡ at_link_end ends_with_link told }
+    ensures answer { result ≡ at_link_end ends_with_link told }
+    ensures told { read_fault_of result ≡ read_fault_of told }
 {
     match told {
         Poll::Ready(Err(error)) => {

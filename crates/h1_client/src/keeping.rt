@@ -7,8 +7,7 @@ ghost use Rattle.h1_client.specs.Reusing.{is_on};
 
 use crate::framing::{framing_to, is_until_close};
 use crate::idle_time::stated_timeout;
-use h1_head::{RequestHeader, ResponseHeader};
-use h1_response::{ResponseHead, is_interim};
+use h1_head::{RequestHeader, ResponseHead, ResponseHeader, is_interim};
 use http::Version;
 
 /// Whether the link may serve the next request.

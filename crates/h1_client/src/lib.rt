@@ -11,6 +11,7 @@ mod judging;
 mod keeping;
 mod pool;
 mod response_place;
+mod session;
 mod settings;
 pub mod v1;
 
@@ -18,4 +19,5 @@ pub use connector::Connector;
 pub use idle::{IdleLink, Probe};
 pub use keeping::Keepalive;
 pub use pool::{Pick, Pool};
+pub use session::HttpSession;
 pub use settings::{Peer, Settings};

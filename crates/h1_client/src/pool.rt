@@ -38,8 +38,8 @@ impl<L: Link + Drop> Pool<L> {
         }
     }
 
-    /// Puts a link under a key, of which it is the latest release then. Where there is no memory the
-    /// link is dropped.
+    /// Puts a link under a key, of which it is the latest release then. Where there is no memory
+    /// the link is dropped.
     pub fn put_idle(&mut self, key: u64, idle: IdleLink<L>) -> Result<(), Error>
         ensures ok { OnOk result (PutsLatest key idle self.old self.new) }
         ensures err { IsOkUnless result no_memory }

@@ -4,8 +4,7 @@ ghost use Rattle.h1_client.specs.Reading.{IsPlaceOf};
 ghost use Rattle.h1_client.specs.Words.{RefusedAt, NotYetAt};
 
 use h1_error::Error;
-use h1_head::{HeadSearch, Room};
-use h1_response::{ResponseFound, ResponseHead, search_response_head};
+use h1_head::{HeadSearch, ResponseFound, ResponseHead, Room, search_response_head};
 use h1_transfer::{Head, HeadFound};
 use std::alloc::Global;
 use std::marker::Model;
@@ -54,7 +53,7 @@ impl Head for ResponsePlace {
         room: &mut Room,
         found: &mut Self,
     ) -> Result<HeadFound, Error> {
-        let mut head = ResponseHead::new(alloc)?;
+        let mut head = ResponseHead::new(alloc);
         match search_response_head(alloc, search, bytes, room, &mut head)? {
             ResponseFound::Whole(used) => {
                 found.head = Some(head);

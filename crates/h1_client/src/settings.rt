@@ -7,7 +7,7 @@ use h1_transfer::Deadline;
 /// A peer that requests are sent to.
 #[derive(Clone, Copy, Debug, PartialEq, Eq)]
 pub struct Peer {
-    /// The peer's name in a pool of links and for a dialer.
+    /// The peer's name in a pool of links and for a dialer, which for a `TcpDialer` is its port.
     pub key: u64,
     /// Whether a response with one value of Content-Length that is no number is read until the
     /// link ends.

@@ -8,6 +8,9 @@ use crate::answered::Answered;
 use crate::asked::Asked;
 use crate::judging::is_at_end;
 use crate::{Keepalive, Peer, Settings};
+use bytes::Bytes;
+use futures::task::Poll;
+use h1_error::Error;
 use h1_link::Link;
 use h1_transfer::{BodyState, Outgoing, Transfer};
 use std::alloc::Global;
@@ -16,6 +19,7 @@ use std::marker::Model;
 mod heads;
 mod reading;
 mod reusing;
+mod tasks;
 mod writing;
 
 /// A client's session over a link.
@@ -26,6 +30,10 @@ pub struct HttpSession<L: Link + Drop> {
     answered: Answered,
     keepalive: Keepalive,
     settings: Settings,
+    /// How many bytes of payload were read; it stops at 2^64 - 1.
+    payload_read: u64,
+    /// The answer whose payload is lent, which no contract sees.
+    lent: Poll<Result<Option<Bytes>, Error>>,
     /// The last call stopped because its link calls that moved bytes were as many as it may make.
     spent: bool,
 }
@@ -43,6 +51,7 @@ impl<L: Link + Drop> Model for HttpSession<L> {
       answered = s.answered;
       keepalive = s.keepalive;
       settings = s.settings;
+      payload_read = s.payload_read;
       spent = s.spent;
     } };
 
@@ -68,6 +77,8 @@ impl<L: Link + Drop> HttpSession<L> {
             answered: Answered::new(),
             keepalive: Keepalive::Off,
             settings: Settings::new(),
+            payload_read: 0,
+            lent: Poll::Pending,
             spent: false,
         }
     }
@@ -171,6 +182,14 @@ impl<L: Link + Drop> HttpSession<L> {
     {
         let body = self.transfer.body();
         is_at_end(&body.reader) || body.refused.is_some()
+    }
+
+    /// How many bytes of payload were read of the final response's body. The count stands still at
+    /// its type's end.
+    pub fn body_bytes_received(&self) -> u64
+        ensures { result ≡ self.now.payload_read }
+    {
+        self.payload_read
     }
 
     /// Closes the link for both sides.

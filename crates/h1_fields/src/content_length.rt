@@ -41,8 +41,8 @@ impl ContentLength {
     }
 }
 
-/// The number that one or more digits write.
-pub(crate) fn number_of(part: &[u8]) -> Option<u64>
+/// The number below 2 ^ 64 that one or more digits write, if the bytes are such digits.
+pub fn number_of(part: &[u8]) -> Option<u64>
     ensures { result ≡ number part.now }
 {
     if part.is_empty() {

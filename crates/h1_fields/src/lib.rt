@@ -21,10 +21,13 @@ mod name;
 mod short;
 mod span;
 mod text;
+mod white_space;
 
-pub use content_length::ContentLength;
+pub use content_length::{ContentLength, number_of};
 pub use fields::Fields;
 pub use iter::{FieldsIter, ValuesIter};
 pub use laws::{chunked_last_is, content_length_is, insertion_and_removal, names_ignore_case};
+pub use lists::PartsIter;
 pub use lone::Lone;
 pub use name::is_same_name;
+pub use white_space::{is_ows, trim_ows, trim_ows_end, trim_ows_start};

@@ -1,17 +1,17 @@
 //! The parts of the comma-separated lists in field values (RFC 9110, section 5.6.1).
-ghost use Rattle.std.specs.Prelude.{◌≡◌, ◌∷◌, reverse, option_map};
+ghost use Rattle.std.specs.Prelude.{◌≡◌, ◌∷◌, option_map};
 ghost use Rattle.std.specs.List.{slice_split};
 ghost use Rattle.std.specs.Iterator.{YieldsFirstBy, item_count};
-ghost use Rattle.httparse.specs.Grammar.{is_ows, skip_ows, trim_ows};
 ghost use Rattle.h1_fields.specs.ListParts.{is_comma, list_parts};
 ghost use Rattle.h1_fields.specs.Pieces.{pieces_behind};
 
 use crate::iter::ValuesIter;
+use crate::white_space::trim_ows;
 use std::marker::Model;
 
 /// The parts that are left of some values. A contract sees the list of these parts.
 #[derive(Drop)]
-pub(crate) struct PartsIter<'a> {
+pub struct PartsIter<'a> {
     value: Option<&'a [u8]>,
     values: ValuesIter<'a>,
 }
@@ -54,7 +54,7 @@ impl<'a> Iterator for PartsIter<'a> {
         };
         let (piece, behind) = first_piece(value);
         self.value = behind;
-        Some(trim(piece))
+        Some(trim_ows(piece))
     }
 }
 
@@ -69,45 +69,4 @@ fn first_piece(value: &[u8]) -> (&[u8], Option<&[u8]>)
         }
     }
     (value, None)
-}
-
-/// The bytes without the spaces and tabs at both ends.
-#[tactic(auto, unfolding(httparse::specs::Grammar::trim_ows))]
-fn trim(bytes: &[u8]) -> &[u8]
-    ensures { result.now ≡ trim_ows bytes.now }
-{
-    trim_end(trim_start(bytes))
-}
-
-fn trim_start(bytes: &[u8]) -> &[u8]
-    ensures { result.now ≡ skip_ows bytes.now }
-{
-    let mut left = bytes;
-    while let Some((first, more)) = left.split_first() {
-        if !is_ows(*first) {
-            break;
-        }
-        left = more;
-    }
-    left
-}
-
-fn trim_end(bytes: &[u8]) -> &[u8]
-    ensures { result.now ≡ reverse (skip_ows (reverse bytes.now)) }
-{
-    let mut left = bytes;
-    while let Some((last, front)) = left.split_last() {
-        if !is_ows(*last) {
-            break;
-        }
-        left = front;
-    }
-    left
-}
-
-/// A space or a tab.
-fn is_ows(byte: u8) -> bool
-    ensures { result ≡ is_ows byte }
-{
-    byte == b' ' || byte == b'\t'
 }

@@ -106,11 +106,18 @@ impl Fields {
         self.lists(Kind::Connection, b"keep-alive")
     }
 
+    /// The parts of the lists in all lines of that name (RFC 9110, section 5.6.1).
+    pub fn list_parts<'a>(&'a self, name: &'a [u8]) -> PartsIter<'a>
+        ensures { result ≡ parts_of name.now self.now }
+    {
+        PartsIter::new(self.get_all(name))
+    }
+
     /// Whether the lines of that name list the token, in any case.
     pub fn lists_named(&self, name: &[u8], token: &[u8]) -> bool
         ensures { result ≡ lists_named name.now token.now self.now }
     {
-        lists(PartsIter::new(self.get_all(name)), token)
+        lists(self.list_parts(name), token)
     }
 
     /// The same of a kind.

@@ -8,3 +8,9 @@ pub mod ReplyLemmas
 pub mod RequestHeadLemmas
 pub mod SpanLemmas
 pub mod TokenLemmas
+pub mod ResponseGrammarLemmas
+pub mod NormalLemmas
+pub mod PartLemmas
+pub mod ResponseHeadLemmas
+pub mod ResponseStepLemmas
+pub mod EtagLemmas

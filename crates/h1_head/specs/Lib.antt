@@ -12,3 +12,16 @@ pub mod RequestSpans
 pub mod RequestVerdict
 pub mod RequestHead
 pub mod Wish
+pub mod Normal
+pub mod Pieces
+pub mod ResponseGrammar
+pub mod Settled
+pub mod ResponseHead
+pub mod ResponseVerdict
+pub mod Interim
+pub mod BytesFrom
+pub mod Etag
+pub mod ValueDates
+pub mod NotModified
+pub mod ErrorReply
+pub mod Task

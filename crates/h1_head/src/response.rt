@@ -1,22 +1,26 @@
 //! The head of a response (RFC 9112, section 4).
-ghost use Rattle.std.specs.Prelude.{◌≡◌, ◌++◌, ◌∷◌, [], MatchOption, IfOk, OnOk, OnErr, IsOkUnless, option_map, is_some, decimal, codes};
+ghost use Rattle.std.specs.Prelude.{◌≡◌, ◌++◌, ◌∷◌, [], length, map, All, MatchOption, IfOk, OnOk, OnErr, IsOkUnless, option_map, is_some, decimal, codes};
 ghost use Rattle.http.specs.StatusCode.{IsStatusCode, code_digits, reason_phrase};
+ghost use Rattle.httparse.specs.Spans.{IsHeaderWithin, header_bytes};
 ghost use Rattle.h1_error.specs.Memory.{no_memory};
 ghost use Rattle.h1_fields.specs.Lines.{has_line, first_value, values_of, with_line, without, print_lines};
 ghost use Rattle.h1_head.specs.Faults.{RefusedFor, refusal, status_fault, line_fault, phrase_fault};
 ghost use Rattle.h1_head.specs.Response.{new_response, reason_of};
 ghost use Rattle.h1_head.specs.Parts.{response_of_parts};
+ghost use Rattle.h1_head.specs.ResponseGrammar.{own_phrase, response_read};
 
 use crate::HeadBuffer;
 use crate::boxed::{box_bytes, copy_boxed};
 use crate::parts::lines_of;
 use crate::syntax::{check_line, check_phrase, refuse};
+use crate::version::with_minor;
 use crate::wire::push_lines;
-use bytes::BytesMut;
+use bytes::{Bytes, BytesMut};
 use h1_error::{Error, HeadFault};
 use h1_fields::{Fields, ValuesIter};
 use http::response::Parts;
 use http::{StatusCode, Version};
+use httparse::spans::HeaderSpan;
 use itoa::Buffer;
 use std::alloc::Global;
 use std::marker::Model;
@@ -62,6 +66,44 @@ impl ResponseHeader {
             reason: None,
             fields: Fields::with_capacity(alloc, size_hint.unwrap_or(0))?,
         })
+    }
+
+    /// A place for a response: status 200 of version 1.1, with no fields. Takes no memory.
+    #[inline(always)]
+    pub(crate) fn new(alloc: Global) -> Self
+        ensures { result ≡ new_response 200 }
+    {
+        ResponseHeader {
+            alloc,
+            status: StatusCode::OK,
+            version: Version::HTTP_11,
+            reason: None,
+            fields: Fields::new(alloc),
+        }
+    }
+
+    /// Puts a response that was read in the place of this one, of version 1.0 or 1.1 by its last
+    /// digit. Its field lines lie at these places of the head.
+    #[inline(always)]
+    pub(crate) fn put_read(
+        &mut self,
+        status: u16,
+        minor: u8,
+        phrase: &[u8],
+        head: &Bytes,
+        lines: &[HeaderSpan],
+    ) -> Result<(), Error>
+        requires sound { status_fault status ≡ None }
+        requires within { All (IsHeaderWithin (length head.now)) lines.now }
+        ensures ok { OnOk result (self.new ≡ response_read status minor phrase.now
+            (map (header_bytes head.now) lines.now)) }
+        ensures err { IsOkUnless result no_memory }
+    {
+        self.status = status_of(status)?;
+        self.version = with_minor(minor);
+        self.reason = own_phrase(self.alloc, self.status, phrase)?;
+        self.fields.read(head, lines)?;
+        Ok(())
     }
 
     /// A response from its parts: names in lower case, and with no phrase set.
@@ -282,6 +324,23 @@ fn canonical_phrase(status: StatusCode) -> Option<&'static [u8]>
     match status.canonical_reason() {
         Some(phrase) => Some(phrase.as_bytes()),
         None => None,
+    }
+}
+
+/// The phrase in a block of its own, where it isn't the one of the status code.
+#[inline(always)]
+fn own_phrase(
+    alloc: Global,
+    status: StatusCode,
+    phrase: &[u8],
+) -> Result<Option<Box<Vec<u8>>>, Error>
+    ensures ok { IfOk result (λ own. option_map (λ phrase. phrase.value.items) own
+        ≡ own_phrase status phrase.now) }
+    ensures err { IsOkUnless result no_memory }
+{
+    match canonical_phrase(status) {
+        Some(named) if named == phrase => Ok(None),
+        _ => box_bytes(alloc, Some(phrase)),
     }
 }
 

@@ -1,5 +1,5 @@
 //! What the heads of the responses say, and whether the protocol changes (RFC 9110, section 7.8).
-ghost use Rattle.std.specs.Prelude.{◌≡◌, ◌&&◌, [], IfOk, IfSome, IsOkUnless, IsSome, unwrap_or};
+ghost use Rattle.std.specs.Prelude.{◌≡◌, [], IfOk, IfSome, IsOkUnless, IsSome, unwrap_or};
 ghost use Rattle.std.specs.Option.{option_copied};
 ghost use Rattle.h1_error.specs.Memory.{no_memory};
 ghost use Rattle.h1_client.specs.Responses.{final_of, is_upgraded, wishes_upgrade};
@@ -8,15 +8,15 @@ use super::HttpSession;
 use crate::framing::asks_upgrade;
 use bytes::Bytes;
 use h1_error::Error;
-use h1_head::{RequestHeader, ResponseHeader};
+use h1_head::{RequestHeader, ResponseHead, ResponseHeader, is_interim};
 use h1_link::Link;
-use h1_response::{ResponseHead, is_interim};
 use http::Version;
 
 impl<L: Link + Drop> HttpSession<L> {
     ghost use Rattle.std.specs.Prelude.{option_map};
-    ghost use Rattle.h1_client.specs.ClientView.{request_of, response_of};
+    ghost use Rattle.h1_client.specs.ClientView.{request_of};
     ghost use Rattle.h1_client.specs.Responses.{header_of};
+    ghost use Rattle.h1_client.specs.Upgrading.{was_upgraded};
 
     /// The head of a response that was read last.
     pub fn resp_header(&self) -> Option<&ResponseHeader>
@@ -79,8 +79,7 @@ impl<L: Link + Drop> HttpSession<L> {
 
     /// Whether the connection goes on with another protocol.
     pub fn was_upgraded(&self) -> bool
-        ensures { result ≡ (wishes_upgrade (request_of self.now)
-            && is_upgraded (response_of self.now)) }
+        ensures { result ≡ was_upgraded self.now }
     {
         wishes_upgrade(&self.asked.request) && is_upgraded(&self.answered.last)
     }

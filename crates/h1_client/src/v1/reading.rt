@@ -1,9 +1,11 @@
-//! Reading the responses to a request: their heads, and the body of the final one (RFC 9112, sections
-//! 4, 6 and 8).
-ghost use Rattle.std.specs.Prelude.{◌≡◌, IsSome, IfSome, IfNone, None, Err, false};
-ghost use Rattle.h1_client.specs.Reading.{CopyAnswer, IsCopied, IsThere, ends_with_link};
+//! Reading the responses to a request: their heads, and the body of the final one (RFC 9112,
+//! sections 4, 6 and 8).
+ghost use Rattle.std.specs.Prelude.{◌≡◌, IsSome, None};
+ghost use Rattle.std.specs.Borrow.{sem};
+ghost use Rattle.h1_client.specs.Lending.{shown};
+ghost use Rattle.h1_client.specs.Reading.{CopyAnswer, IsCopied, IsThere};
+ghost use Rattle.h1_client.specs.ReadingBody.{ends_with_link, payload_behind};
 ghost use Rattle.h1_client.specs.Responses.{final_of};
-ghost use Rattle.futures.specs.declared.task.Poll.TheVariants.{Ready};
 
 use super::HttpSession;
 use crate::framing::{framing_to, is_until_close};
@@ -12,30 +14,24 @@ use crate::response_place::ResponsePlace;
 use bytes::Bytes;
 use futures::task::Poll;
 use h1_error::Error;
-use h1_head::{RequestHeader, ResponseHeader};
+use h1_head::{RequestHeader, ResponseHead, ResponseHeader, is_interim};
 use h1_link::Link;
-use h1_response::{ResponseHead, is_interim};
 use h1_transfer::CALL_BUDGET;
 
 impl<L: Link + Drop> HttpSession<L> {
-    ghost use Rattle.h1_client.specs.ClientView.{call_begun, is_spent, request_of, response_of};
-    ghost use Rattle.h1_client.specs.Reading.{ReadsCopy, ReadsPart, ReadsResponse, ends_with_link};
-    ghost use Rattle.h1_transfer.specs.Calls.{Called, read_fault_of};
+    ghost use Rattle.h1_client.specs.Calls.{HeadCopy, HeadReading};
+    ghost use Rattle.h1_client.specs.ClientView.{request_of, response_of};
+    ghost use Rattle.h1_client.specs.Lending.{LendsPart};
+    ghost use Rattle.h1_client.specs.ReadingBody.{PartCall};
 
-    /// Reads the head of the next response, and says how many bytes it has. That of an interim
-    /// response is passed over by the next call (RFC 9110, section 15.2). Every refusal but want of
+    /// Reads the head of the next response, and says how many bytes it has: once a request is
+    /// begun, and until `has_final_head`. The head of an interim response is passed over by the
+    /// next call (RFC 9110, section 15.2). The moment is milliseconds. Every refusal but want of
     /// memory is answered again, with no link call.
     pub fn poll_read_response(&mut self, now: u64) -> Poll<Result<usize, Error>>
         requires begun { IsSome (request_of self.old) }
         requires wants { response_of self.old ≡ None }
-        ensures again { IfSome self.old.answered.refused (λ error. (result ≡ Ready (Err error))
-            × (self.new ≡ record (call_begun self.old) { spent = self.new.spent })) }
-        ensures reads { IfNone self.old.answered.refused
-            (ReadsResponse L.state now self.old self.new result) }
-        ensures spent { self.new.spent ≡ is_spent result self.new.transfer.budget }
-        ensures calls { Called (L.state self.old.transfer.link) (L.state self.new.transfer.link)
-            false (read_fault_of result) }
-        ensures plan { L.same_plan self.old.transfer.link self.new.transfer.link }
+        ensures { HeadReading L.state L.same_plan now self.old self.new result }
     {
         self.transfer.set_budget(Some(CALL_BUDGET));
         self.spent = false;
@@ -59,8 +55,7 @@ impl<L: Link + Drop> HttpSession<L> {
     pub fn poll_read_resp_header_parts(&mut self, now: u64) -> Poll<Result<ResponseHeader, Error>>
         requires begun { IsSome (request_of self.old) }
         requires wants { response_of self.old ≡ None }
-        ensures reads { ReadsCopy L.state now self.old self.new result }
-        ensures plan { L.same_plan self.old.transfer.link self.new.transfer.link }
+        ensures { HeadCopy L.state L.same_plan now self.old self.new result }
     {
         let told = self.poll_read_response(now);
         copy_of(&self.answered.last, told)
@@ -71,11 +66,7 @@ impl<L: Link + Drop> HttpSession<L> {
     pub fn poll_read_body_bytes(&mut self, now: u64) -> Poll<Result<Option<Bytes>, Error>>
         requires begun { IsSome (request_of self.old) }
         requires read { IsSome (response_of self.old) }
-        ensures reads { ReadsPart L.state now self.old self.new result }
-        ensures spent { self.new.spent ≡ is_spent result self.new.transfer.budget }
-        ensures calls { Called (L.state self.old.transfer.link) (L.state self.new.transfer.link)
-            false (read_fault_of result) }
-        ensures plan { L.same_plan self.old.transfer.link self.new.transfer.link }
+        ensures { PartCall L.state L.same_plan now self.old self.new result }
     {
         self.transfer.set_budget(Some(CALL_BUDGET));
         let deadline = self.settings.read_deadline(now);
@@ -84,8 +75,44 @@ impl<L: Link + Drop> HttpSession<L> {
             ends_with_link(&self.asked.request, &self.answered.last),
             told,
         );
+        self.payload_read = payload_behind(self.payload_read, &answer);
         self.spent = is_spent(&answer, self.transfer.budget());
         answer
+    }
+
+    /// Reads payload as `poll_read_body_bytes` does, and lends it in place of handing it out. The
+    /// session holds what it lent until the next call of this kind.
+    pub fn poll_read_body_ref(&mut self, now: u64) -> Poll<Result<Option<&[u8]>, Error>>
+        requires begun { IsSome (request_of self.old) }
+        requires read { IsSome (response_of self.old) }
+        ensures* lends { sem 𝓛 (LendsPart L.row L.Link now self.entry result) }
+    {
+        // What was lent before may hold the block that this call reads into.
+        self.lent = Poll::Pending;
+        self.lent = self.poll_read_body_bytes(now);
+        shown(&self.lent)
+    }
+}
+
+/// How much payload was read behind a call with this answer.
+fn payload_behind(count: u64, answer: &Poll<Result<Option<Bytes>, Error>>) -> u64
+    ensures { result ≡ payload_behind count answer.now }
+{
+    match answer {
+        Poll::Ready(Ok(Some(piece))) => count.saturating_add(piece.len() as u64),
+        _ => count,
+    }
+}
+
+/// The answer with its payload lent.
+fn shown(answer: &Poll<Result<Option<Bytes>, Error>>) -> Poll<Result<Option<&[u8]>, Error>>
+    ensures { shown result ≡ answer.now }
+{
+    match answer {
+        Poll::Ready(Ok(Some(piece))) => Poll::Ready(Ok(Some(piece.as_slice()))),
+        Poll::Ready(Ok(None)) => Poll::Ready(Ok(None)),
+        Poll::Ready(Err(error)) => Poll::Ready(Err(*error)),
+        Poll::Pending => Poll::Pending,
     }
 }
 

@@ -1,6 +1,5 @@
 //! Writing a request: its head, the pieces of its body and its end (RFC 9112, sections 3 to 7).
-ghost use Rattle.std.specs.Prelude.{◌≡◌, IsSome, IfSome, IfNone, Err, false};
-ghost use Rattle.futures.specs.declared.task.Poll.TheVariants.{Ready};
+ghost use Rattle.std.specs.Prelude.{IsSome};
 
 use super::HttpSession;
 use crate::judging::{first_refusal, is_spent, piece_len};
@@ -12,32 +11,24 @@ use h1_link::Link;
 use h1_transfer::{CALL_BUDGET, Delivery, allowance_of};
 
 impl<L: Link + Drop> HttpSession<L> {
-    ghost use Rattle.h1_client.specs.Asking.{AsksBy, IsAskStep, StaysAsIs};
-    ghost use Rattle.h1_client.specs.ClientView.{call_begun, is_spent, request_of, write_refusal};
-    ghost use Rattle.h1_client.specs.Settings.{write_deadline};
+    ghost use Rattle.h1_client.specs.Asking.{IsAskStep};
+    ghost use Rattle.h1_client.specs.Calls.{EndWrite, HeadWrite, PieceWrite};
+    ghost use Rattle.h1_client.specs.ClientView.{request_of};
     ghost use Rattle.h1_transfer.specs.BodyWrites.{IsPieceStep, IsEndStep};
-    ghost use Rattle.h1_transfer.specs.Calls.{Called, succeeds, write_fault_of};
-    ghost use Rattle.h1_transfer.specs.EndWrites.{EndCall, stage_of};
-    ghost use Rattle.h1_transfer.specs.PieceWrites.{WritesPiece};
-    ghost use Rattle.h1_transfer.specs.TransferView.{itself};
 
-    /// Writes the head of the request and flushes it, and says how many bytes it has. A head that
-    /// can't stand on a request line stays with its caller. One that waits longer than the write
-    /// timeout is refused, and so is each later call.
+    /// Writes the head of the request and flushes it, and says how many bytes it has. The head is
+    /// handed in before a request is begun, and is taken out of its place; while the answer is
+    /// pending the call is made again with the same place, at a moment in milliseconds. One that
+    /// can't stand on a request line stays with its caller (`BadRequestLine`). One that waits
+    /// longer than the write timeout is refused (`WriteTimedout`), and so is each later call. No
+    /// line is added: a Host is the caller's (RFC 9112, section 3.2).
     pub fn poll_write_request_header(
         &mut self,
         req: &mut Option<RequestHeader>,
         now: u64,
     ) -> Poll<Result<usize, Error>>
         requires { IsAskStep req.old (request_of self.old) self.old.transfer.outgoing.step }
-        ensures again { IfSome (write_refusal self.old) (λ error. (result ≡ Ready (Err error))
-            × StaysAsIs self.old self.new req.old req.new) }
-        ensures asks { IfNone (write_refusal self.old)
-            (AsksBy L.state now self.old self.new req.old req.new result) }
-        ensures spent { self.new.spent ≡ is_spent result self.new.transfer.budget }
-        ensures calls { Called (L.state self.old.transfer.link) (L.state self.new.transfer.link)
-            false (write_fault_of result) }
-        ensures plan { L.same_plan self.old.transfer.link self.new.transfer.link }
+        ensures { HeadWrite L.state L.same_plan now self.old self.new req.old req.new result }
     {
         self.transfer.set_budget(Some(CALL_BUDGET));
         self.spent = false;
@@ -56,8 +47,9 @@ impl<L: Link + Drop> HttpSession<L> {
     }
 
     /// Writes a piece of the request's body (RFC 9112, section 6), and says how much of it was
-    /// taken, or None where none is admitted any more. A piece that waits longer than the write
-    /// timeout is refused, and so is each later write.
+    /// taken, or None where none is admitted any more. The piece is taken out of its place; while
+    /// the answer is pending the call is made again with the same place. A piece that waits longer
+    /// than the write timeout is refused, and so is each later write.
     pub fn poll_write_body(
         &mut self,
         buf: &mut Option<Bytes>,
@@ -65,19 +57,7 @@ impl<L: Link + Drop> HttpSession<L> {
     ) -> Poll<Result<Option<usize>, Error>>
         requires begun { IsSome (request_of self.old) }
         requires free { IsPieceStep buf.old self.old.transfer.outgoing.step }
-        ensures again { IfSome self.old.transfer.outgoing.refused (λ error.
-            (result ≡ Ready (Err error)) × (self.new.transfer ≡ (call_begun self.old).transfer)
-            × (buf.new ≡ buf.old)) }
-        ensures writes { IfNone self.old.transfer.outgoing.refused (WritesPiece L.state itself
-            (write_deadline self.old.settings now) (call_begun self.old).transfer
-            self.new.transfer buf.old buf.new result) }
-        ensures rest { self.new ≡ record self.old {
-          transfer = self.new.transfer;
-          spent = is_spent result self.new.transfer.budget;
-        } }
-        ensures calls { Called (L.state self.old.transfer.link) (L.state self.new.transfer.link)
-            (succeeds result) (write_fault_of result) }
-        ensures plan { L.same_plan self.old.transfer.link self.new.transfer.link }
+        ensures { PieceWrite L.state L.same_plan now self.old self.new buf.old buf.new result }
     {
         let _length = piece_len(buf);
         self.transfer.set_budget(Some(CALL_BUDGET));
@@ -88,22 +68,12 @@ impl<L: Link + Drop> HttpSession<L> {
     }
 
     /// Writes the end of the request's body and flushes it, and says how much payload was taken in
-    /// all, or None where it was finished before. A body that is short of its length is refused.
+    /// all, or None where it was finished before. A request without a body has an end too. A body
+    /// that is short of its length is refused (`PrematureBodyEnd`).
     pub fn poll_finish_body(&mut self, now: u64) -> Poll<Result<Option<usize>, Error>>
         requires begun { IsSome (request_of self.old) }
         requires free { IsEndStep self.old.transfer.outgoing.step }
-        ensures again { IfSome self.old.transfer.outgoing.refused (λ error.
-            (result ≡ Ready (Err error)) × (self.new.transfer ≡ (call_begun self.old).transfer)) }
-        ensures writes { IfNone self.old.transfer.outgoing.refused (EndCall L.state itself
-            (call_begun self.old).transfer self.new.transfer result
-            (stage_of self.old.transfer.outgoing)) }
-        ensures rest { self.new ≡ record self.old {
-          transfer = self.new.transfer;
-          spent = is_spent result self.new.transfer.budget;
-        } }
-        ensures calls { Called (L.state self.old.transfer.link) (L.state self.new.transfer.link)
-            false (write_fault_of result) }
-        ensures plan { L.same_plan self.old.transfer.link self.new.transfer.link }
+        ensures { EndWrite L.state L.same_plan self.old self.new result }
     {
         self.transfer.set_budget(Some(CALL_BUDGET));
         let answer = self.transfer.poll_finish_body();

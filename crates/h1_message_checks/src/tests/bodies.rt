@@ -39,7 +39,7 @@ fn read(
 }
 
 /// Framed bytes, their payload, the bytes used and the state that they come to.
-const BODIES: [(Framing, &[u8], &[u8], usize, FeedState); 20] = [
+static BODIES: [(Framing, &[u8], &[u8], usize, FeedState); 20] = [
     (
         CHUNKED,
         b"4\r\nWiki\r\n5\r\npedia\r\n0\r\n\r\n",

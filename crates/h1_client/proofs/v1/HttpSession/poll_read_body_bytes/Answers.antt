@@ -1,6 +1,6 @@
 -- A part of the body is used.
 use Rattle.h1_client.specs.Responses.{final_of}
-use Rattle.h1_client.proofs.CallLemmas.{sound_begun, sound_payload}
+use Rattle.h1_client.proofs.CallLemmas.{called_begun, notes_spent, plan_begun, sound_begun, sound_payload}
 use Rattle.h1_client.proofs.ReadLemmas.{reads_part}
 use Rattle.h1_client.proofs.v1.HttpSession.poll_read_body_bytes.Goals as goal
 
@@ -15,9 +15,19 @@ invariant_of-self g c =
     c.set_budget.ensures)
     begun said c.poll_read_body_bytes-told.ensures.again c.poll_read_body_bytes-told.ensures.reads
 
-pub returns-clause-reads : goal.returns-clause-reads
-returns-clause-reads g c =
-    rw (← c.self.view_is) (reads_part g.L.Link.state c.args.now _ c.set_budget.new.self
-    c.poll_read_body_bytes-told.new.self c.poll_read_body_bytes-told.result _ c.ends_with_link.result _ _
-    c.set_budget.ensures c.read_deadline-deadline.ensures c.poll_read_body_bytes-told.ensures.again
-    c.poll_read_body_bytes-told.ensures.reads c.ends_with_link.ensures c.at_link_end-answer.ensures)
+pub returns : goal.returns
+returns g c =
+    let part = c.poll_read_body_bytes-told in
+    record {
+      reads = rw (← c.self.view_is) (reads_part g.L.Link.state c.args.now _ c.set_budget.new.self
+          part.new.self part.result _ c.ends_with_link.result _ _ _ c.set_budget.ensures
+          c.read_deadline-deadline.ensures part.ensures.again part.ensures.reads
+          c.ends_with_link.ensures c.at_link_end-answer.ensures.answer
+          c.payload_behind-self-inside.ensures);
+      spent = notes_spent _ _ _ _ c.is_spent-self-inside.ensures c.budget.ensures;
+      calls = rw (← c.self.view_is) (called_begun g.L.Link.state c.self.inside.transfer
+          c.set_budget.new.self part.new.self _ _ _ _ c.set_budget.ensures part.ensures.calls
+          c.at_link_end-answer.ensures.told);
+      plan = rw (← c.self.view_is) (plan_begun g.L.Link.same_plan c.self.inside.transfer
+          c.set_budget.new.self part.new.self _ c.set_budget.ensures part.ensures.plan);
+    }

@@ -9,11 +9,9 @@ copy_of-requires g c =
     c.poll_read_response-told.ensures.reads in
     rw (← c.self.view_is) at there
 
-pub returns-clause-reads : goal.returns-clause-reads
-returns-clause-reads g c = record {
+pub returns : goal.returns
+returns g c = record {
   told = c.poll_read_response-told.result;
-  again = c.poll_read_response-told.ensures.again;
-  reads = c.poll_read_response-told.ensures.reads;
-  spent = c.poll_read_response-told.ensures.spent;
+  head = c.poll_read_response-told.ensures;
   copies = rw (← c.self.view_is) c.copy_of.ensures;
 }

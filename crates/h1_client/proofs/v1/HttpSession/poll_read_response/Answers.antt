@@ -1,6 +1,7 @@
 -- A head is used, or none is.
+use borrow.Author.Rules.{rules, lives}
 use Rattle.h1_transfer.proofs.OptionLemmas.{if_none}
-use Rattle.h1_client.proofs.CallLemmas.{sound_begun}
+use Rattle.h1_client.proofs.CallLemmas.{notes_spent, sound_begun}
 use Rattle.h1_client.proofs.ReadLemmas.{looked_takes, read_called, reads_place, reads_response, sound_response}
 use Rattle.h1_client.proofs.v1.HttpSession.poll_read_response.Goals as goal
 
@@ -23,22 +24,24 @@ invariant_of-self-2 g c =
     begun wants c.read_head-read.ensures.reads c.read_head-read.ensures.looked
     (rw c.into_head-found.ensures at c.judge-answer.ensures.takes)
 
-pub returns-clause-reads : goal.returns-clause-reads
-returns-clause-reads g c =
+pub returns : goal.returns
+returns g c =
     let s = c.self.inside in
-    rw (← c.self.view_is) (if_none s.answered.refused _
-    (reads_response g.L.Link.state c.args.now _ c.set_budget.new.self c.read_head-read.new.self
-    c.judge-answer.new.transfer c.judge-answer.new.self c.read_head-read.new.found
-    c.read_head-read.result c.judge-answer.result _ _ c.set_budget.ensures
-    c.read_deadline-deadline.ensures c.read_head-read.ensures.reads
-    (looked_takes s.settings.tolerant c.read_head-read.new.self c.judge-answer.new.transfer s.answered
-    c.judge-answer.new.self c.read_head-read.new.search s.asked.request c.read_head-read.new.found
-    c.read_head-read.result c.judge-answer.result
-    (rw c.into_head-found.ensures at c.judge-answer.ensures.takes))))
-
-pub returns-clause-calls : goal.returns-clause-calls
-returns-clause-calls g c =
-    rw (← c.self.view_is) (read_called g.L.Link.state c.self.inside.transfer c.set_budget.new.self
-    c.read_head-read.new.self c.judge-answer.new.transfer c.read_head-read.result c.judge-answer.result _
-    c.set_budget.ensures c.read_head-read.ensures.calls c.judge-answer.ensures.link
-    c.judge-answer.ensures.told)
+    record {
+      again = search (rules, lives) depth 24;
+      reads = rw (← c.self.view_is) (if_none s.answered.refused _
+          (reads_response g.L.Link.state c.args.now _ c.set_budget.new.self c.read_head-read.new.self
+          c.judge-answer.new.transfer c.judge-answer.new.self c.read_head-read.new.found
+          c.read_head-read.result c.judge-answer.result _ _ c.set_budget.ensures
+          c.read_deadline-deadline.ensures c.read_head-read.ensures.reads
+          (looked_takes s.settings.tolerant c.read_head-read.new.self c.judge-answer.new.transfer s.answered
+          c.judge-answer.new.self c.read_head-read.new.search s.asked.request c.read_head-read.new.found
+          c.read_head-read.result c.judge-answer.result
+          (rw c.into_head-found.ensures at c.judge-answer.ensures.takes))));
+      spent = notes_spent _ _ _ _ c.is_spent-self-inside.ensures c.budget.ensures;
+      calls = rw (← c.self.view_is) (read_called g.L.Link.state c.self.inside.transfer c.set_budget.new.self
+          c.read_head-read.new.self c.judge-answer.new.transfer c.read_head-read.result c.judge-answer.result _
+          c.set_budget.ensures c.read_head-read.ensures.calls c.judge-answer.ensures.link
+          c.judge-answer.ensures.told);
+      plan = search (rules, lives) depth 24;
+    }

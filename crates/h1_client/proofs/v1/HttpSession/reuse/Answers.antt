@@ -7,4 +7,4 @@ returns-clause-served g c =
     let is = rw (← c.self.view_is) at c.if-not-is_reusable.ensures in
     let s = c.self.inside in
     rw c.into_link.ensures (sound_reuse g.L.Link.state s.transfer s.asked s.answered s.keepalive s.settings
-    s.spent c.self.invariant is)
+    s.payload_read s.spent c.self.invariant is)

@@ -1,0 +1,5 @@
+-- What the session of HTTP/1 told, without its number.
+use Rattle.h1_client.proofs.session.HttpSession.poll_write_request_header.Goals as goal
+
+pub returns : goal.returns
+returns g c = (c.write_header.result, c.write_header.ensures, c.plain.ensures)

@@ -1,0 +1,12 @@
+pub mod WireLemmas
+pub mod ReadPlainLemmas
+pub mod BodyLemmas
+pub mod ForwardLemmas
+pub mod StageLemmas
+pub mod TookLemmas
+pub mod DueLemmas
+pub mod HeadStepLemmas
+pub mod BodyStepLemmas
+pub mod EndStepLemmas
+pub mod RunLemmas
+pub mod RungLemmas

@@ -1,5 +1,0 @@
-use Rattle.h1_response.proofs.NormalLemmas.{normal_of_grammar}
-use Rattle.h1_response.proofs.laws.heads_of_the_grammar_are_normal.Goals as goal
-
-pub returns : goal.returns
-returns c = normal_of_grammar
