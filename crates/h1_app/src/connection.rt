@@ -17,7 +17,7 @@ use std::marker::Model;
 use std::sync::Arc;
 
 /// A connection: a link, the application and the modules behind it, and what was read and written so
-/// far.
+/// far. `C` is what an embedder keeps in the session for its application; most keep `()`.
 #[derive(Drop)]
 pub struct Connection<L, SV, B, C>
 where
@@ -90,7 +90,7 @@ where
     ghost use Rattle.h1_app.specs.Timely.{IsTimely, TurnsInTime};
     ghost use Rattle.h1_app.specs.Turn.{AccountedFrom, Turned, TurnCause, outcome_end, stops, waiting_for};
 
-    /// A connection of this server over a link.
+    /// A connection of this server over a link, before its first byte. It is always made.
     pub fn new(alloc: Global, server: Arc<HttpServer<SV, B>>, link: L) -> Result<Self, Error>
         ensures fresh { IsOkAnd result
             (IsNewConnection (served_by (arc_value server).app (arc_value server).modules)
@@ -115,7 +115,7 @@ where
     }
 
     /// Moves the connection on, until it has ended or has to wait. `now` is milliseconds since the
-    /// epoch and never falls; with `shutdown` a request whose head becomes whole in this poll begins
+    /// epoch, before the year 10000, and never falls; with `shutdown` a request whose head becomes whole in this poll begins
     /// with keep-alive off, and is the last unless the application turns it on.
     pub fn poll(&mut self, now: u64, shutdown: bool) -> Progress
         requires { now < YEAR_10000 }
@@ -246,13 +246,14 @@ where
         &self.exchange.transcript
     }
 
-    /// Why the connection ended.
+    /// Why the connection ended; None while it goes on.
     pub fn end(&self) -> Option<End>
         ensures { result ≡ self.now.end }
     {
         self.end
     }
 
+    /// The link that it is served over.
     pub fn link(&self) -> &L
         ensures { result.now ≡ self.now.session.link }
     {
@@ -277,6 +278,7 @@ where
         self.exchange.session.with_link(f)
     }
 
+    /// The link, as the connection left it. Whoever takes it flushes it and shuts it down.
     pub fn into_link(self) -> L
         ensures { result ≡ self.session.link }
     {

@@ -12,7 +12,8 @@ pub struct HttpServerOptions {
     /// whole of it; None is no limit. A longer body is refused with `ContentTooLarge` (RFC 9110,
     /// section 15.5.14).
     pub gather_limit: Option<u64>,
-    /// Stored only.
+    /// Kept for its owner: nothing here reads it, and a CONNECT is asked of the application as each
+    /// other request is.
     pub allow_connect_method_proxying: bool,
 }
 

@@ -67,6 +67,6 @@ pub use room::Room;
 pub use task::HttpTask;
 pub use version::is_http_1;
 pub use wire::{
-    http_req_header_to_wire, print_reply_head, push_response_head,
+    http_req_header_to_wire, print_reply_head, push_request_head, push_response_head,
     request_target_has_forbidden_byte,
 };

@@ -5,7 +5,7 @@ ghost use Rattle.httparse.specs.Spans.{IsHeaderWithin, header_bytes};
 ghost use Rattle.h1_error.specs.Memory.{no_memory};
 ghost use Rattle.h1_fields.specs.Lines.{has_line, first_value, values_of, with_line, without};
 ghost use Rattle.h1_head.specs.Faults.{RefusedFor, method_fault, line_fault};
-ghost use Rattle.h1_head.specs.Request.{new_request, request_read, end_stream_of};
+ghost use Rattle.h1_head.specs.Request.{new_request, request_read, end_stream_of, path_of, query_at, query_of};
 ghost use Rattle.h1_head.specs.Parts.{request_of_parts};
 
 use crate::boxed::copy_boxed;
@@ -53,7 +53,8 @@ impl Model for RequestHeader {
 }
 
 impl RequestHeader {
-    /// A request of version 1.1 with no fields. `size_hint` is how many fields are to come.
+    /// A request of version 1.1 with no fields. `size_hint` is how many fields are to come. A method
+    /// that is no token is refused (`BadMethod`); the target is looked at where the head is written.
     pub fn build(
         alloc: Global,
         method: &[u8],
@@ -142,6 +143,7 @@ impl RequestHeader {
         self.alloc
     }
 
+    /// The method, in the case that it came in (RFC 9110, section 9.1). `as_str` gives its name.
     #[inline(always)]
     pub fn method(&self) -> &Method
         ensures { result.now ≡ self.now.method }
@@ -157,6 +159,26 @@ impl RequestHeader {
         self.target.as_slice()
     }
 
+    /// What stands in front of the first `?` of the target: its path, where the target has the
+    /// origin form (RFC 9112, section 3.2.1). Nothing in it is decoded.
+    pub fn path(&self) -> &[u8]
+        ensures { result.now ≡ path_of self.now.target }
+    {
+        let target = self.target.as_slice();
+        let end = query_at(target).unwrap_or(target.len());
+        &target[..end]
+    }
+
+    /// What stands behind that `?`, where the target has one.
+    pub fn query(&self) -> Option<&[u8]>
+        ensures { option_map (λ query. query.now) result ≡ query_of self.now.target }
+    {
+        let target = self.target.as_slice();
+        let at = query_at(target)?;
+        Some(&target[at + 1..])
+    }
+
+    /// The version of the request line: 1.1 or 1.0 where the head was read.
     #[inline(always)]
     pub fn version(&self) -> Version
         ensures { result ≡ self.now.version }
@@ -208,7 +230,9 @@ impl RequestHeader {
         }
     }
 
-    /// Adds a line at the end.
+    /// Adds a line at the end. A name that is no token is refused, and so is a value with a byte that
+    /// no field value has (RFC 9110, section 5.5). One of Content-Length or Transfer-Encoding is not
+    /// compared with the body.
     pub fn append_header(&mut self, name: &[u8], value: &[u8]) -> Result<(), Error>
         ensures ok { OnOk result (self.new
             ≡ record self.old { fields = self.old.fields ++ (name.now, value.now) ∷ [] }) }
@@ -288,6 +312,13 @@ impl RequestHeader {
             send_end_stream: self.send_end_stream,
         })
     }
+}
+
+/// Where the query of a target begins.
+fn query_at(target: &[u8]) -> Option<usize>
+    ensures { result ≡ query_at target.now }
+{
+    target.iter().position(|byte| *byte == b'?')
 }
 
 /// The method that these bytes name.

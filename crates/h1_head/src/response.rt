@@ -52,7 +52,7 @@ impl Model for ResponseHeader {
 
 impl ResponseHeader {
     /// A response of version 1.1 with no fields, and with no phrase set. `size_hint` is how many
-    /// fields are to come.
+    /// fields are to come. A status that isn't 100 to 999 is refused (`BadStatus`).
     #[inline(always)]
     pub fn build(alloc: Global, status: u16, size_hint: Option<usize>) -> Result<Self, Error>
         ensures ok { IfOk result (λ head. head ≡ new_response status) }
@@ -205,7 +205,9 @@ impl ResponseHeader {
         }
     }
 
-    /// Adds a line at the end.
+    /// Adds a line at the end. A name that is no token is refused, and so is a value with a byte that
+    /// no field value has (RFC 9110, section 5.5). One of Content-Length or Transfer-Encoding is not
+    /// compared with the body.
     pub fn append_header(&mut self, name: &[u8], value: &[u8]) -> Result<(), Error>
         ensures ok { OnOk result (self.new
             ≡ record self.old { fields = self.old.fields ++ (name.now, value.now) ∷ [] }) }

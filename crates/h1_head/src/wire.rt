@@ -1,5 +1,5 @@
 //! The bytes of heads (RFC 9112, sections 2.1, 3 and 4).
-ghost use Rattle.std.specs.Prelude.{◌≡◌, ◌∷◌, ◌++◌, [], codes, true, if◌then◌else◌, unwrap_or, IsTrue, IsSomeAnd, IfOk, OnOk, OnErr, IsOkUnless, MatchOption};
+ghost use Rattle.std.specs.Prelude.{◌≡◌, ◌∷◌, ◌++◌, [], codes, true, false, if◌then◌else◌, unwrap_or, IsTrue, IsSomeAnd, IfOk, OnOk, OnErr, IsOkUnless, MatchOption};
 ghost use Rattle.h1_error.specs.Memory.{no_memory};
 ghost use Rattle.h1_fields.specs.Lines.{with_line, print_lines};
 ghost use Rattle.h1_head.specs.Versions.{is_http_1, version_name};
@@ -231,25 +231,42 @@ pub fn http_req_header_to_wire(req: &RequestHeader) -> Result<Option<BytesMut>, 
         (λ bytes. IfOk result (λ wire. IsSomeAnd wire (λ wire. wire.items ≡ bytes))) }
     ensures err { IsOkUnless result no_memory }
 {
-    if request_target_has_forbidden_byte(req.raw_path()) {
-        return Ok(None);
-    }
-    match name_of(req.version()) {
-        Some(version) => Ok(Some(print_request(req, version)?)),
-        None => Ok(None),
+    let mut head = HeadBuffer::new(req.allocator());
+    if push_request_head(req, &mut head)? {
+        Ok(Some(BytesMut::from(head.into_bytes())))
+    } else {
+        Ok(None)
     }
 }
 
-/// The request line with this name of the version, the field lines and an empty line.
-fn print_request(req: &RequestHeader, version: &str) -> Result<BytesMut, Error>
-    ensures ok { IfOk result (λ wire. wire.items ≡ print_request req.now version.now) }
+/// Appends the bytes of a request head. False, with nothing appended, where its target or its version
+/// can't stand on a request line.
+pub fn push_request_head(req: &RequestHeader, out: &mut HeadBuffer) -> Result<bool, Error>
+    ensures wire { MatchOption (request_bytes req.now) ((result ≡ Ok false) × (out.new ≡ out.old))
+        (λ bytes. IfOk result (λ pushed. (pushed ≡ true) × (out.new ≡ out.old ++ bytes))) }
     ensures err { IsOkUnless result no_memory }
 {
-    let mut head = HeadBuffer::new(req.allocator());
-    push_request_line(&mut head, req, version)?;
-    push_lines(&mut head, req.fields())?;
-    head.push(b"\r\n")?;
-    Ok(BytesMut::from(head.into_bytes()))
+    if request_target_has_forbidden_byte(req.raw_path()) {
+        return Ok(false);
+    }
+    match name_of(req.version()) {
+        Some(version) => {
+            push_request(out, req, version)?;
+            Ok(true)
+        }
+        None => Ok(false),
+    }
+}
+
+/// Appends the request line with this name of the version, the field lines and an empty line.
+fn push_request(out: &mut HeadBuffer, req: &RequestHeader, version: &str) -> Result<(), Error>
+    ensures ok { OnOk result (out.new ≡ out.old ++ print_request req.now version.now) }
+    ensures err { IsOkUnless result no_memory }
+{
+    push_request_line(out, req, version)?;
+    push_lines(out, req.fields())?;
+    out.push(b"\r\n")?;
+    Ok(())
 }
 
 /// Appends method, target and version.

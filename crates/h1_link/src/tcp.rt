@@ -204,7 +204,8 @@ struct Held<N> {
     listener: N,
 }
 
-/// An acceptor of this machine's peers.
+/// An acceptor of this machine's peers: it takes hold of its port at 127.0.0.1 alone. A `bind` that
+/// fails, as of a port in use, and each `accept` that fails are counted as faults.
 #[derive(Drop)]
 pub struct TcpAcceptor<R: Net + Drop> {
     rt: R,

@@ -22,13 +22,15 @@ pub trait HeadFilter: Copy {
     /// What becomes of the head of a response, or the number of a refusal.
     ghost response: { Self → ResponseView → Result ResponseView ℕ } = { λ _ head. Ok head };
 
-    /// Filters the head of a request. It refuses with `ModuleFailed`.
+    /// Filters the head of a request. It refuses with `ModuleFailed` and a number, which is no
+    /// status: the connection ends without a reply, and its end tells the number.
     fn filter_request(&self, alloc: Global, req: &mut RequestHeader) -> Result<(), Error>
         ensures ok { OnOk result (request self.now req.old ≡ Ok req.new) }
         ensures err { IfErr result (ErrsBy refused_by (request self.now req.old)) }
         ensures same { OnErr result (req.new ≡ req.old) };
 
-    /// Filters the head of a response. It refuses with `ModuleFailed`.
+    /// Filters the head of a response. It refuses with `ModuleFailed` and a number: the connection
+    /// ends in place of this reply, and its end tells the number.
     fn filter_response(&self, alloc: Global, resp: &mut ResponseHeader) -> Result<(), Error>
         ensures ok { OnOk result (response self.now resp.old ≡ Ok resp.new) }
         ensures err { IfErr result (ErrsBy refused_by (response self.now resp.old)) }
@@ -47,7 +49,8 @@ pub struct HeadModule<F> {
 }
 
 impl<F: HeadFilter> HeadModule<F> {
-    /// The module of this filter, whose place among others doesn't matter.
+    /// The module of this filter, whose place among others doesn't matter. The key is a number that
+    /// no other module of the server has: a second one of it is refused (`Duplicate`).
     pub fn new(filter: F, key: u32) -> Self
         ensures { result ≡ record { filter = filter; order = pos 0; key = key } }
     {

@@ -19,7 +19,9 @@ pub const MOST_POLLS: u32 = 1_000_000;
 pub type Echoed<L> = Connection<L, EchoApp, NoModules, ()>;
 
 /// Polls a connection until it ends, at most [`MOST_POLLS`] times, and answers what the last poll
-/// answered. The clock is asked before each poll, which is at the moment that it tells.
+/// answered: where that is `Pending`, `Connection::poll` goes on. The clock is asked before each
+/// poll, which is at the moment that it tells. A poll of a link that waits for its peer, as one over
+/// TCP, takes as long as the wait.
 pub fn serve_link<L, SV, B, C, T>(
     connection: &mut Connection<L, SV, B, C>,
     clock: &mut T,

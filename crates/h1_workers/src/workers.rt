@@ -19,9 +19,10 @@ use std::thread::{self, Threads};
 /// Serves `count` links of one acceptor, or those that come until [`Peers::stop`], in a thread for
 /// each clock: a thread takes the next link as soon as it has served one to its end, and hands each
 /// back to the acceptor. An accept that fails counts as a link, and the thread goes on. A peer that
-/// there is no memory to serve is turned away alone. What is told
-/// of each thread stands in the order of the clocks. An error is want of memory for the threads;
-/// some of them may have served peers by then.
+/// there is no memory to serve is turned away alone. A thread serves one peer at a time, so that so
+/// many peers are served at once as there are clocks. What is told of each thread stands in the
+/// order of the clocks. An error is want of memory for the threads; some of them may have served
+/// peers by then.
 pub fn serve_workers<R, A, SV, B, T>(
     rt: &R,
     alloc: Global,

@@ -8,7 +8,7 @@ use h1_error::YEAR_10000;
 use std::marker::Model;
 
 /// A clock that stands where it was set, in milliseconds since the epoch. Contracts see the moment,
-/// and how often it was asked.
+/// and how often it was asked. By a clock that is never set on no limit of time is reached.
 #[derive(Drop)]
 pub struct SetClock {
     moment: u64,
