@@ -5,6 +5,17 @@ use Rattle.h1_head.specs.Views.{ResponseView}
 use Rattle.h1_transcript.specs.Lawful.{IsLawful}
 use Rattle.h1_application.specs.LengthLine.{counted}
 
+-- one that states none is lawful
+pub unstated_lawful : (status : ℕ) (header : ResponseView) → header ≡ new_response status
+    → (200 ≤ status) × (status ≤ 999) → IsLawful header
+unstated_lawful status header new final =
+    subst IsLawful (sym new) (record {
+      final = final.0;
+      status = final.1;
+      version = refl;
+      framing = inl (record { no_length = refl; no_coding = refl });
+    })
+
 pub counted_lawful : (status n : ℕ) (header made : ResponseView) → header ≡ new_response status
     → made ≡ record header { fields = header.fields ++ (codes "content-length", decimal n) ∷ [] }
     → (200 ≤ status) × (status ≤ 999) → n < 2 ^ 64 → IsLawful made

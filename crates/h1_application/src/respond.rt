@@ -19,13 +19,15 @@ use std::alloc::Global;
 /// milliseconds.
 pub const REPLY_TIME: u64 = 60_000;
 
-/// An application that answers at once, by the head of a request alone.
+/// An application that answers at once, by the head of a request alone: with its method, `path`,
+/// `query` and fields. The body of a reply to HEAD is not sent, and its fields are.
 pub trait Respond {
     /// Which replies it gives to a request with this head: any that can be read, where it doesn't
     /// say more.
     ghost says: { Self → RequestView → Reply → Type 0 } = { λ _. AnyLawful };
 
-    /// The reply to a request with this head. The only error is being out of memory.
+    /// The reply to a request with this head. The only error is being out of memory, and it ends the
+    /// connection without a reply; a fault of the application's own is a reply, say of 500.
     fn respond(&self, alloc: Global, head: &RequestHeader) -> Result<Reply, Error>
         ensures ok { IfOk result (λ reply. says self.now head.now reply) }
         ensures lawful { IfOk result (λ reply. IsLawful reply.header) }
