@@ -5,14 +5,14 @@ use Rattle.h1_body.specs.declared.chunking.TheConstants.{CHUNK_LIMIT}
 use Rattle.h1_transfer.specs.Budget.{allowance}
 use Rattle.h1_transfer.specs.Calls.{Called, Fault}
 use Rattle.h1_transfer.proofs.CalledLemmas.{called_undone}
-use Rattle.h1_transfer.specs.EndWrites.{EndCall, end_stage, stage_of}
+use Rattle.h1_transfer.specs.EndWrites.{EndCall, end_stage, ended_short, stage_of}
 use Rattle.h1_transfer.specs.Payload.{ReadsPayload}
 use Rattle.h1_transfer.specs.PieceWrites.{PieceTaking, WritesPiece}
 use Rattle.h1_transfer.specs.ReplyFraming.{is_begun}
 use Rattle.h1_transfer.specs.TransferView.{IsNewTransfer}
 use Rattle.h1_transfer.specs.Writes.{Delivers, Writes}
 use Rattle.h1_transfer.specs.declared.delivering.Delivery.{Delivery}
-use Rattle.h1_client.specs.Words.{Poll, Error, Deadline, framing, is_short, itself, HeadSearch, HasLooked, MAX_HEADER_SIZE, RequestView, ResponseView, LinkState, Outgoing, Step, Free, Head, Piece, Finish, TransferView}
+use Rattle.h1_client.specs.Words.{Poll, Error, Deadline, Framing, WriterView, framing, is_short, until_close, itself, HeadSearch, HasLooked, MAX_HEADER_SIZE, RequestView, ResponseView, LinkState, Outgoing, Step, Free, Head, Piece, Finish, TransferView}
 use Rattle.h1_client.specs.Asking.{TakesUp}
 use Rattle.h1_client.specs.ClientView.{ClientView, is_spent}
 use Rattle.h1_client.specs.Holds.{Holds}
@@ -20,7 +20,7 @@ use Rattle.h1_client.specs.Keeping.{keep_by, keep_of}
 use Rattle.h1_client.specs.Responses.{final_of}
 use Rattle.h1_client.specs.Reusing.{is_exchanged, is_on, is_reusable}
 use Rattle.h1_client.specs.Served.{IsServed}
-use Rattle.h1_client.specs.Sound.{Sound, StaysHttp}
+use Rattle.h1_client.specs.Sound.{Exchanging, Sound, StaysHttp}
 use Rattle.h1_client.specs.Written.{WritesSoFar}
 use Rattle.h1_client.specs.declared.answered.Answered.{Answered}
 use Rattle.h1_client.specs.declared.asked.Asked.{Asked}
@@ -28,7 +28,8 @@ use Rattle.h1_client.specs.declared.keeping.Keepalive.{Keepalive}
 use Rattle.h1_client.specs.declared.keeping.Keepalive.TheVariants.{Off, On}
 use Rattle.h1_client.specs.declared.settings.Settings.{Settings}
 use Rattle.h1_client.proofs.HoldsLemmas.{holds_moves, holds_takes}
-use Rattle.h1_client.proofs.SoundLemmas.{sound_new, sound_takes, sound_keeps, sound_sends, sound_reads, sound_ends, head_of_and}
+use Rattle.h1_client.proofs.ExchangeLemmas.{head_of_and}
+use Rattle.h1_client.proofs.SoundLemmas.{sound_new, sound_takes, sound_keeps, sound_sends, sound_reads, sound_ends}
 use Rattle.h1_client.proofs.WrittenLemmas.{writes_piece, writes_end, writes_short}
 
 -- what holds of a session with this transfer
@@ -74,28 +75,27 @@ sound_asks {L} state old new looking was now final k (Some head) kept (Ok done) 
     takes.0.bytes fresh takes.0.settled takes.0.are takes.0.fits
     (ap (λ (t : TransferView L). t.outgoing.owed) is) (ap (λ (t : TransferView L). t.outgoing.writer) is))
 
--- what is taken up and what goes out of it
-sound_writes : {L : Type 0} (state : L → LinkState) (old new : TransferView L) (looking : HeadSearch)
-    (request : RequestView) (final : Option ResponseView) (k : Keepalive) (taking : List ℕ) (left : ℕ)
-    → SoundOf state old looking (Some request) final k → Writes state itself old new taking left
+-- what is taken up and what goes out of it, while the exchange goes on
+exchange_writes : {L : Type 0} (state : L → LinkState) (old new : TransferView L)
+    (request : RequestView) (final : Option ResponseView) (taking : List ℕ) (left : ℕ)
+    → Exchanging (state old.link) old.received (Some request) final old.body.reader old.outgoing
+    → Writes state itself old new taking left
     → ((front rest : List ℕ) → WritesSoFar (framing request) old.outgoing.writer rest
     → WritesSoFar (framing request) new.outgoing.writer (rest ++ taking))
-    → SoundOf state new looking (Some request) final k
-sound_writes {L} state old new looking request final k taking left sound writes goes =
-    let asks = sound.asks in
-    let received : new.received ≡ old.received = ap (λ (t : TransferView L). t.received) writes.rest in
-    let same : new.body ≡ old.body = ap (λ (t : TransferView L). t.body) writes.rest in
-    rw (received, same) (record {
-      asked = sound.asked ++ taking;
-      used = sound.used;
+    → Exchanging (state new.link) old.received (Some request) final old.body.reader new.outgoing
+exchange_writes {L} state old new request final taking left was writes goes =
+    let asks = was.asks in
+    record {
+      asked = was.asked ++ taking;
+      used = was.used;
       holds = subst
-          (λ bytes. Holds (state new.link) new.outgoing.owed bytes (sound.asked ++ taking) sound.used)
+          (λ bytes. Holds (state new.link) new.outgoing.owed bytes (was.asked ++ taking) was.used)
           (append-nil old.received)
           (holds_moves (state old.link) (state new.link) new.outgoing.owed old.received
-          (sound.asked ++ taking) sound.used writes.sent.piece [] (allowance old.budget - left)
+          (was.asked ++ taking) was.used writes.sent.piece [] (allowance old.budget - left)
           writes.sent.moved
           (rw writes.sent.bytes at (holds_takes (state old.link) old.outgoing.owed old.received
-          sound.asked sound.used taking sound.holds)));
+          was.asked was.used taking was.holds)));
       asks = record {
         front = asks.front;
         rest = asks.rest ++ taking;
@@ -104,7 +104,26 @@ sound_writes {L} state old new looking request final k taking left sound writes 
         head = asks.head;
         body = goes asks.front asks.rest asks.body;
       };
-      answers = sound.answers;
+      answers = was.answers;
+    }
+
+-- what is taken up and what goes out of it; the framing stays
+sound_writes : {L : Type 0} (state : L → LinkState) (old new : TransferView L) (looking : HeadSearch)
+    (request : RequestView) (final : Option ResponseView) (k : Keepalive) (taking : List ℕ) (left : ℕ)
+    → SoundOf state old looking (Some request) final k → Writes state itself old new taking left
+    → new.outgoing.writer.framing ≡ old.outgoing.writer.framing
+    → ((front rest : List ℕ) → WritesSoFar (framing request) old.outgoing.writer rest
+    → WritesSoFar (framing request) new.outgoing.writer (rest ++ taking))
+    → SoundOf state new looking (Some request) final k
+sound_writes {L} state old new looking request final k taking left sound writes framed goes =
+    let received : new.received ≡ old.received = ap (λ (t : TransferView L). t.received) writes.rest in
+    let same : new.body ≡ old.body = ap (λ (t : TransferView L). t.body) writes.rest in
+    let alike : until_close old.outgoing.writer.framing ≡ until_close new.outgoing.writer.framing =
+    ap (λ (f : Option Framing). until_close f) (sym framed) in
+    rw (received, same) (record {
+      http = λ off. exchange_writes state old new request final taking left (sound.http (alike ∙ off))
+          writes goes;
+      changed = λ on. sound.changed (alike ∙ on);
       searched = sound.searched;
       stays = sound.stays;
     })
@@ -127,6 +146,11 @@ piece_goes request old new taking None within takes front rest so_far =
 piece_goes request old new taking (Some piece) within takes front rest so_far =
     rw (takes.0, takes.2) (writes_piece (framing request) old.writer rest piece within so_far)
 
+piece_framed : (old new : Outgoing) (taking : List ℕ) (piece : Option (List ℕ))
+    → PieceTaking old new taking piece → new.writer.framing ≡ old.writer.framing
+piece_framed old new taking None takes = ap (λ (w : WriterView). w.framing) takes.1.writer
+piece_framed old new taking (Some piece) takes = ap (λ (w : WriterView). w.framing) takes.2
+
 -- a call that writes a piece of the body
 pub sound_pieces : {L : Type 0} (state : L → LinkState) (old new : TransferView L)
     (looking : HeadSearch) (request : Option RequestView) (final : Option ResponseView)
@@ -143,7 +167,31 @@ sound_pieces state old new looking (Some request) final k deadline piece kept (S
     rw again.1 sound
 sound_pieces state old new looking (Some request) final k deadline piece kept None outcome Told Kept sound begun within again writes =
     sound_writes state old new looking request final k writes.taking writes.left sound writes.writes
+    (piece_framed old.outgoing new.outgoing writes.taking piece writes.takes)
     (piece_goes request old.outgoing new.outgoing writes.taking piece within writes.takes)
+
+-- the body ends short of its length
+exchange_short : {L : Type 0} (state : L → LinkState) (old : TransferView L)
+    (request : RequestView) (final : Option ResponseView)
+    → is_short old.outgoing.writer ≡ true
+    → Exchanging (state old.link) old.received (Some request) final old.body.reader old.outgoing
+    → Exchanging (state old.link) old.received (Some request) final old.body.reader
+    (ended_short old.outgoing)
+exchange_short state old request final short was =
+    let asks = was.asks in
+    record {
+      asked = was.asked;
+      used = was.used;
+      holds = was.holds;
+      asks = record {
+        front = asks.front;
+        rest = asks.rest;
+        parts = asks.parts;
+        head = asks.head;
+        body = writes_short (framing request) old.outgoing.writer asks.rest short asks.body;
+      };
+      answers = was.answers;
+    }
 
 end_goes : {L : Type 0} (state : L → LinkState) (old new : TransferView L) (looking : HeadSearch)
     (request : RequestView) (final : Option ResponseView) (k : Keepalive)
@@ -153,19 +201,9 @@ end_goes : {L : Type 0} (state : L → LinkState) (old new : TransferView L) (lo
     → EndCall state itself old new outcome (end_stage step begun short)
     → SoundOf state new looking (Some request) final k
 end_goes state old new looking request final k outcome Free true true sound begins shorts call =
-    let asks = sound.asks in
     rw call.ends (record {
-      asked = sound.asked;
-      used = sound.used;
-      holds = sound.holds;
-      asks = record {
-        front = asks.front;
-        rest = asks.rest;
-        parts = asks.parts;
-        head = asks.head;
-        body = writes_short (framing request) old.outgoing.writer asks.rest (sym shorts) asks.body;
-      };
-      answers = sound.answers;
+      http = λ off. exchange_short state old request final (sym shorts) (sound.http off);
+      changed = sound.changed;
       searched = sound.searched;
       stays = sound.stays;
     })
@@ -173,12 +211,14 @@ end_goes state old new looking request final k outcome Free true false sound beg
     let going : old.outgoing.writer.ended ≡ false = not-true old.outgoing.writer.ended
     (head_of_and (is_some old.outgoing.writer.framing) (not old.outgoing.writer.ended) (sym begins)).1 in
     sound_writes state old new looking request final k call.taking call.left sound call.writes
+    (ap (λ (w : WriterView). w.framing) call.takes.2)
     (λ front rest so_far. rw (call.takes.0, call.takes.2)
     (writes_end (framing request) old.outgoing.writer rest going so_far))
 end_goes state old new looking request final k outcome Free false short sound begins shorts call =
     rw call.same sound
 end_goes state old new looking request final k outcome Finish begun short sound begins shorts call =
     sound_writes state old new looking request final k call.taking call.left sound call.writes
+    (ap (λ (w : WriterView). w.framing) call.takes.1.writer)
     (same_body request old.outgoing new.outgoing call.taking call.takes.0 call.takes.1.writer)
 end_goes state old new looking request final k outcome Head begun short sound begins shorts call =
     rw call.same sound
@@ -229,8 +269,10 @@ sound_start {L} state t asked answered link served new unasked unanswered looked
     let over : t.link ≡ link = ap (λ (t : TransferView L). t.link) new.is in
     let received : t.received ≡ [] = ap (λ (t : TransferView L). t.received) new.is in
     let owed : t.outgoing.owed ≡ [] = ap (λ (t : TransferView L). t.outgoing.owed) new.is in
+    let unbegun : t.outgoing.writer.framing ≡ None =
+    ap (λ (t : TransferView L). t.outgoing.writer.framing) new.is in
     rw (over, received, unasked, unanswered)
-    (sound_new (state link) answered.search t.body.reader t.outgoing served looked owed)
+    (sound_new (state link) answered.search t.body.reader t.outgoing served looked owed unbegun)
 
 -- a call begins
 pub sound_begun : {L : Type 0} (state : L → LinkState) (old start : TransferView L)
@@ -300,11 +342,8 @@ pub sound_respects : {L : Type 0} (state : L → LinkState) (t : TransferView L)
     → SoundOf state t looking request final k
     → SoundOf state t looking request final (keep_of request final overread)
 sound_respects state t looking request final k overread sound = record {
-  asked = sound.asked;
-  used = sound.used;
-  holds = sound.holds;
-  asks = sound.asks;
-  answers = sound.answers;
+  http = sound.http;
+  changed = sound.changed;
   searched = sound.searched;
   stays = stays_http request final overread;
 }

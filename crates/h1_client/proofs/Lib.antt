@@ -1,7 +1,9 @@
 pub mod WrittenLemmas
 pub mod HoldsLemmas
+pub mod ExchangeLemmas
 pub mod SoundLemmas
 pub mod CallLemmas
+pub mod EndLemmas
 pub mod AskLemmas
 pub mod ReadLemmas
 pub mod PickLemmas

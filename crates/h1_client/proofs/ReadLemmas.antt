@@ -80,11 +80,8 @@ leaves_head {L} state between new was now looking request k sound none leaves =
     let looked : HasLooked MAX_HEADER_SIZE now.search between.received =
     rw (ap (λ (t : TransferView L). t.received) leaves.transfer) at leaves.looks in
     rw (leaves.transfer, last) (record {
-      asked = sound.asked;
-      used = sound.used;
-      holds = sound.holds;
-      asks = sound.asks;
-      answers = sound.answers;
+      http = sound.http;
+      changed = sound.changed;
       searched = looked;
       stays = sound.stays;
     })

@@ -1,33 +1,50 @@
 -- Each step of a session keeps what holds of it.
-use Rattle.std.proofs.Common.{◌≡◌, ℕ, ◌+◌, ◌-◌, List, [], ◌∷◌, ◌++◌, length, take, drop, Bool, true, false, ◌&&◌, ◌==◌, Option, Some, None, is_some, is_none, refl, sym, ap, ◌∙◌, append-nil, append_assoc, length-append, take-append-drop, subst, arith}
-use Rattle.std.proofs.lemmas.Bool.{false≢true, eqb-true}
-use Rattle.h1_body.proofs.RunLemmas.{ahead-ahead, ahead_none}
+use Rattle.std.proofs.Common.{◌≡◌, ℕ, List, [], length, take, drop, Bool, true, false, ◌&&◌, ◌==◌, Option, Some, None, is_some, refl, sym, ap, ◌∙◌}
+use Rattle.std.proofs.lemmas.Bool.{false≢true}
 use Rattle.h1_body.specs.Payload.{Payload}
 use Rattle.h1_transfer.specs.Moved.{Received, Sent}
 use Rattle.h1_transfer.specs.Decoding.{ReadsBody}
-use Rattle.h1_client.specs.Words.{Body, whole, unfinished, broken, ahead, Framing, framing, body, reads, BodyReader, WriterView, begun, HeadSearch, HasLooked, MAX_HEADER_SIZE, RequestView, ResponseView, request_bytes, LinkState, IsAccepted, is_interim, Outgoing}
-use Rattle.h1_client.specs.Exchanges.{AreInterim, IsInterim, IsRequest, IsAnswer}
-use Rattle.h1_client.specs.Holds.{Holds}
-use Rattle.h1_client.specs.Responses.{framing_to}
-use Rattle.h1_client.specs.Reusing.{is_at_end, is_free, is_nothing, is_on, is_sent, is_whole}
+use Rattle.h1_client.specs.Words.{Framing, Counted, Chunked, UntilClose, framing, body, reads, BodyReader, WriterView, begun, until_close, HeadSearch, HasLooked, MAX_HEADER_SIZE, RequestView, ResponseView, request_bytes, LinkState, IsAccepted, is_interim, Outgoing}
+use Rattle.h1_client.specs.Responses.{framing_to, is_upgraded, wishes_upgrade}
+use Rattle.h1_client.specs.Reusing.{is_at_end, is_nothing, is_on, is_sent}
 use Rattle.h1_client.specs.Served.{IsServed}
-use Rattle.h1_client.specs.Sound.{Sound, AsksSoFar, Asks, AnswersSoFar, Answers, StaysHttp}
-use Rattle.h1_client.specs.Written.{FitsRequest, WritesSoFar, is_written}
+use Rattle.h1_client.specs.Sound.{Sound, Exchanging, IsSearched, StaysHttp}
+use Rattle.h1_client.specs.Written.{FitsRequest}
 use Rattle.h1_client.specs.declared.keeping.Keepalive.{Keepalive}
 use Rattle.h1_client.specs.declared.keeping.Keepalive.TheVariants.{Off, On}
-use Rattle.h1_client.proofs.HoldsLemmas.{holds_begin, holds_moves, holds_takes, holds_uses, holds_ends}
-use Rattle.h1_client.proofs.WrittenLemmas.{writes_none, writes_whole}
+use Rattle.h1_head.specs.Versions.{is_http_11}
+use Rattle.h1_client.proofs.ExchangeLemmas.{exchange_new, exchange_takes, exchange_keeps, exchange_sends, exchange_receives, exchange_interim, exchange_heads, exchange_reads, exchange_ends, head_of_and}
+
+-- the body of a request is framed by its head
+goes : (f : Framing) → FitsRequest f → until_close (Some f) ≡ false
+goes (Counted n) fits = refl
+goes Chunked fits = refl
+goes UntilClose fits = absurd fits
+
+passes_alike : (writer other : WriterView) → writer ≡ other
+    → until_close other.framing ≡ until_close writer.framing
+passes_alike writer other same = ap (λ (w : WriterView). until_close w.framing) (sym same)
+
+-- no body passes as it is before a request is begun
+unasked : (passes : Bool) (final : Option ResponseView)
+    → (passes ≡ true → (wishes_upgrade None && is_upgraded final) ≡ true) → passes ≡ false
+unasked false final changed = refl
+unasked true final changed = absurd (false≢true (changed refl))
+
+-- nor before the final head is read
+unanswered : (passes : Bool) (request : Option RequestView)
+    → (passes ≡ true → (wishes_upgrade request && is_upgraded None) ≡ true) → passes ≡ false
+unanswered false request changed = refl
+unanswered true request changed =
+    absurd (false≢true (head_of_and (wishes_upgrade request) false (changed refl)).1)
 
 -- nothing is asked or answered yet
 pub sound_new : (s : LinkState) (looking : HeadSearch) (reader : BodyReader) (out : Outgoing)
-    → IsServed s → HasLooked MAX_HEADER_SIZE looking [] → out.owed ≡ []
+    → IsServed s → HasLooked MAX_HEADER_SIZE looking [] → out.owed ≡ [] → out.writer.framing ≡ None
     → Sound s [] looking None None reader out Off
-sound_new s looking reader out served looked nothing = record {
-  asked = [];
-  used = [];
-  holds = rw nothing (holds_begin s served);
-  asks = refl;
-  answers = (refl, refl);
+sound_new s looking reader out served looked nothing unbegun = record {
+  http = λ off. exchange_new s reader out served nothing;
+  changed = λ on. absurd (false≢true (ap (λ (f : Option Framing). until_close f) (sym unbegun) ∙ on));
   searched = looked;
   stays = tt;
 }
@@ -40,26 +57,13 @@ pub sound_takes : (s : LinkState) (received : List ℕ) (looking : HeadSearch)
     → FitsRequest (framing head) → behind.owed ≡ bytes → behind.writer ≡ begun (framing head)
     → Sound s received looking (Some head) final reader behind k
 sound_takes s received looking final reader out behind k head bytes sound empty wire fits owed writer =
-    let answers = sound.answers in
-    let holds : Holds s bytes received bytes [] =
-    rw (empty, sound.asks, answers.0)
-    at (holds_takes s out.owed received sound.asked sound.used bytes sound.holds) in
-    let begins : Asks (Some head) behind.writer bytes = record {
-      front = bytes;
-      rest = [];
-      parts = sym (append-nil bytes);
-      head = wire;
-      body = subst (λ w. WritesSoFar (framing head) w []) (sym writer)
-          (writes_none (framing head) fits);
-    } in
-    let none : Answers (Some head) final reader [] =
-    subst (λ f. Answers (Some head) f reader []) (sym answers.1) ([], refl) in
+    let framed : until_close behind.writer.framing ≡ false =
+    sym (passes_alike behind.writer (begun (framing head)) writer) ∙ goes (framing head) fits in
     record {
-      asked = bytes;
-      used = [];
-      holds = subst (λ o. Holds s o received bytes []) (sym owed) holds;
-      asks = begins;
-      answers = none;
+      http = λ off. exchange_takes s received final reader out behind head bytes
+          (sound.http (unasked (until_close out.writer.framing) final sound.changed))
+          empty wire fits owed writer;
+      changed = λ on. absurd (false≢true (sym framed ∙ on));
       searched = sound.searched;
       stays = sound.stays;
     }
@@ -71,11 +75,8 @@ pub sound_keeps : (s t : LinkState) (received : List ℕ) (looking : HeadSearch)
     → Sound s received looking request final reader out k → t.given ≡ s.given → t.written ≡ s.written
     → Sound t received looking request final reader out k
 sound_keeps s t received looking request final reader out k sound given written = record {
-  asked = sound.asked;
-  used = sound.used;
-  holds = rw (given, written) sound.holds;
-  asks = sound.asks;
-  answers = sound.answers;
+  http = λ off. exchange_keeps s t received request final reader out (sound.http off) given written;
+  changed = sound.changed;
   searched = sound.searched;
   stays = sound.stays;
 }
@@ -86,17 +87,15 @@ pub sound_sends : (s t : LinkState) (received : List ℕ) (looking : HeadSearch)
     (out behind : Outgoing) (k : Keepalive) (budget left : ℕ)
     → Sound s received looking request final reader out k → Sent s t out.owed behind.owed budget left
     → behind.writer ≡ out.writer → Sound t received looking request final reader behind k
-sound_sends s t received looking request final reader out behind k budget left sound sent writer = record {
-  asked = sound.asked;
-  used = sound.used;
-  holds = subst (λ bytes. Holds t behind.owed bytes sound.asked sound.used) (append-nil received)
-      (holds_moves s t behind.owed received sound.asked sound.used sent.piece [] (budget - left)
-      sent.moved (rw sent.bytes at sound.holds));
-  asks = subst (λ w. Asks request w sound.asked) (sym writer) sound.asks;
-  answers = sound.answers;
-  searched = sound.searched;
-  stays = sound.stays;
-}
+sound_sends s t received looking request final reader out behind k budget left sound sent writer =
+    let alike = passes_alike behind.writer out.writer writer in
+    record {
+      http = λ off. exchange_sends s t received request final reader out behind budget left
+          (sound.http (alike ∙ off)) sent writer;
+      changed = λ on. sound.changed (alike ∙ on);
+      searched = sound.searched;
+      stays = sound.stays;
+    }
 
 -- the link gave bytes, and the search for a head looked at them
 pub sound_receives : (s t : LinkState) (received new : List ℕ) (looking behind : HeadSearch)
@@ -105,26 +104,11 @@ pub sound_receives : (s t : LinkState) (received new : List ℕ) (looking behind
     → Sound s received looking request None reader out k → Received s t received new budget left
     → HasLooked MAX_HEADER_SIZE behind new → Sound t new behind request None reader out k
 sound_receives s t received new looking behind request reader out k budget left sound moves looked = record {
-  asked = sound.asked;
-  used = sound.used;
-  holds = subst (λ bytes. Holds t out.owed bytes sound.asked sound.used) (sym moves.bytes)
-      (holds_moves s t out.owed received sound.asked sound.used [] moves.piece (budget - left)
-      moves.moved sound.holds);
-  asks = sound.asks;
-  answers = sound.answers;
+  http = λ off. exchange_receives s t received new request reader out budget left (sound.http off) moves;
+  changed = sound.changed;
   searched = looked;
   stays = sound.stays;
 }
-
-interim_on : (heads : List (List ℕ)) (bytes h : List ℕ) → AreInterim heads bytes → IsInterim h
-    → AreInterim (heads ++ h ∷ []) (bytes ++ h)
-interim_on [] bytes h are is = (is, [], ap (λ front. front ++ h) are ∙ sym (append-nil h), refl)
-interim_on (x ∷ heads) bytes h are is = (
-  are.0,
-  are.1 ++ h,
-  ap (λ front. front ++ h) are.2 ∙ append_assoc x are.1 h,
-  interim_on heads are.1 h are.3 is,
-)
 
 -- an interim head is used
 pub sound_interim : (s : LinkState) (received : List ℕ) (looking behind : HeadSearch)
@@ -134,16 +118,8 @@ pub sound_interim : (s : LinkState) (received : List ℕ) (looking behind : Head
     → is_interim said.status ≡ true → HasLooked MAX_HEADER_SIZE behind (drop n received)
     → Sound s (drop n received) behind (Some request) None next out k
 sound_interim s received looking behind request reader next out k said n sound is interim looked = record {
-  asked = sound.asked;
-  used = sound.used ++ take n received;
-  holds = holds_uses s out.owed (drop n received) sound.asked sound.used (take n received)
-      (subst (λ bytes. Holds s out.owed bytes sound.asked sound.used)
-      (sym (take-append-drop n received)) sound.holds);
-  asks = sound.asks;
-  answers = (
-    sound.answers.0 ++ take n received ∷ [],
-    interim_on sound.answers.0 sound.used (take n received) sound.answers.1 (said, is, interim),
-  );
+  http = λ off. exchange_interim s received request reader next out said n (sound.http off) is interim;
+  changed = sound.changed;
   searched = looked;
   stays = sound.stays;
 }
@@ -161,39 +137,19 @@ pub sound_heads : (s : LinkState) (received : List ℕ) (looking behind : HeadSe
     → is_interim said.status ≡ false
     → ((rest : List ℕ) → reads next rest ≡ body (framing_to request said) rest)
     → Sound s (drop n received) behind (Some request) (Some said) next out k
-sound_heads s received looking behind request reader next out k said n sound is final begins = record {
-  asked = sound.asked;
-  used = sound.used ++ take n received;
-  holds = holds_uses s out.owed (drop n received) sound.asked sound.used (take n received)
-      (subst (λ bytes. Holds s out.owed bytes sound.asked sound.used)
-      (sym (take-append-drop n received)) sound.holds);
-  asks = sound.asks;
-  answers = record {
-    heads = sound.answers.0;
-    interim = sound.used;
-    front = take n received;
-    rest = [];
-    parts = ap (λ bytes. sound.used ++ bytes) (sym (append-nil (take n received)));
-    before = sound.answers.1;
-    head = is;
-    final = final;
-    payload = [];
-    reads_on = λ more. sym (begins more) ∙ sym (ahead_none (reads next more));
-  };
-  searched = tt;
-  stays = unkept k said sound.stays;
-}
+sound_heads s received looking behind request reader next out k said n sound is final begins =
+    let off = unanswered (until_close out.writer.framing) (Some request) sound.changed in
+    record {
+      http = λ _. exchange_heads s received request reader next out said n (sound.http off) is final begins;
+      changed = λ on. absurd (false≢true (sym off ∙ on));
+      searched = tt;
+      stays = unkept k said sound.stays;
+    }
 
-reads_further : (f : Framing) (reader next : BodyReader) (rest used front payload : List ℕ)
-    → ((more : List ℕ) → body f (rest ++ more) ≡ ahead front (length rest) (reads reader more))
-    → ((more : List ℕ) → reads reader (used ++ more) ≡ ahead payload (length used) (reads next more))
-    → (more : List ℕ) → body f ((rest ++ used) ++ more)
-    ≡ ahead (front ++ payload) (length (rest ++ used)) (reads next more)
-reads_further f reader next rest used front payload first second more =
-    ap (λ bytes. body f bytes) (append_assoc rest used more) ∙ first (used ++ more)
-    ∙ ap (λ b. ahead front (length rest) b) (second more)
-    ∙ ahead-ahead front payload (length rest) (length used) (reads next more)
-    ∙ ap (λ n. ahead (front ++ payload) n (reads next more)) (sym (length-append rest used))
+any_search : (final : Option ResponseView) (looking : HeadSearch) (received new : List ℕ)
+    → is_some final ≡ true → IsSearched final looking received → IsSearched final looking new
+any_search None looking received new read searched = absurd (false≢true read)
+any_search (Some said) looking received new read searched = tt
 
 -- a part of the body is used
 pub sound_reads : (s t : LinkState) (received new : List ℕ) (looking : HeadSearch)
@@ -203,70 +159,28 @@ pub sound_reads : (s t : LinkState) (received new : List ℕ) (looking : HeadSea
     → Sound s received looking request final reader out k → is_some request ≡ true → is_some final ≡ true
     → ReadsBody s t received new reader next kept keeps budget left payload
     → Sound t new looking request final next out k
-sound_reads s t received new looking None final reader next out k kept keeps budget left payload sound begun read moves =
-    absurd (false≢true begun)
-sound_reads s t received new looking (Some request) None reader next out k kept keeps budget left payload sound begun read moves =
-    absurd (false≢true read)
-sound_reads s t received new looking (Some request) (Some said) reader next out k kept keeps budget left payload sound begun read moves =
-    let so_far = sound.answers in
-    let came = moves.received in
-    let holds : Holds t out.owed (moves.used ++ new) sound.asked sound.used =
-    subst (λ bytes. Holds t out.owed bytes sound.asked sound.used) (sym came.bytes)
-    (holds_moves s t out.owed received sound.asked sound.used [] came.piece (budget - left)
-    came.moved sound.holds) in
-    record {
-      asked = sound.asked;
-      used = sound.used ++ moves.used;
-      holds = holds_uses t out.owed new sound.asked sound.used moves.used holds;
-      asks = sound.asks;
-      answers = record {
-        heads = so_far.heads;
-        interim = so_far.interim;
-        front = so_far.front;
-        rest = so_far.rest ++ moves.used;
-        parts = ap (λ bytes. bytes ++ moves.used) so_far.parts
-            ∙ append_assoc so_far.interim (so_far.front ++ so_far.rest) moves.used
-            ∙ ap (λ bytes. so_far.interim ++ bytes) (append_assoc so_far.front so_far.rest moves.used);
-        before = so_far.before;
-        head = so_far.head;
-        final = so_far.final;
-        payload = so_far.payload ++ payload;
-        reads_on = reads_further (framing_to request said) reader next so_far.rest moves.used
-            so_far.payload payload so_far.reads_on moves.decoded.reads;
-      };
-      searched = tt;
-      stays = sound.stays;
-    }
+sound_reads s t received new looking request final reader next out k kept keeps budget left payload sound begun read moves = record {
+  http = λ off. exchange_reads s t received new request final reader next out kept keeps budget left
+      payload (sound.http off) begun read moves;
+  changed = sound.changed;
+  searched = any_search final looking received new read sound.searched;
+  stays = sound.stays;
+}
 
-pub head_of_and : (a b : Bool) → (a && b) ≡ true → (a ≡ true) × (b ≡ true)
-head_of_and true true is = (refl, refl)
-head_of_and true false is = absurd (false≢true is)
-head_of_and false b is = absurd (false≢true is)
-
-no_bytes : (bytes : List ℕ) → is_nothing bytes ≡ true → bytes ≡ []
-no_bytes [] is = refl
-no_bytes (b ∷ bytes) is = absurd (false≢true is)
-
-whole_now : (b : Body) → is_whole b ≡ true → b ≡ whole [] 0
-whole_now (whole payload n) is =
-    let both = head_of_and (is_nothing payload) (n == 0) is in
-    let zero_is : n ≡ 0 = eqb-true n 0 both.1 in
-    rw (no_bytes payload both.0, zero_is) refl
-whole_now (unfinished payload) is = absurd (false≢true is)
-whole_now (broken payload) is = absurd (false≢true is)
-
-asked_whole : (request : RequestView) (writer : WriterView) (bytes : List ℕ)
-    → AsksSoFar request writer bytes → is_written writer ≡ true → IsRequest request bytes
-asked_whole request writer bytes asks done =
-    let all = writes_whole (framing request) writer asks.rest done asks.body in
-    record {
-      front = asks.front;
-      rest = asks.rest;
-      parts = asks.parts;
-      head = asks.head;
-      payload = all.0;
-      whole_body = all.1;
-    }
+-- the request's body passes as it is from here on
+pub sound_passes : (s : LinkState) (received : List ℕ) (looking : HeadSearch)
+    (request : Option RequestView) (final : Option ResponseView) (reader next : BodyReader)
+    (out behind : Outgoing) (k : Keepalive)
+    → Sound s received looking request final reader out k
+    → (wishes_upgrade request && is_upgraded final) ≡ true
+    → until_close behind.writer.framing ≡ true
+    → Sound s received looking request final next behind k
+sound_passes s received looking request final reader next out behind k sound upgraded passes = record {
+  http = λ off. absurd (false≢true (sym off ∙ passes));
+  changed = λ on. upgraded;
+  searched = sound.searched;
+  stays = sound.stays;
+}
 
 -- a link that is kept goes on with HTTP
 kept_http : (k : Keepalive) (said : ResponseView) → is_on k ≡ true → StaysHttp k (Some said)
@@ -274,33 +188,15 @@ kept_http : (k : Keepalive) (said : ResponseView) → is_on k ≡ true → Stays
 kept_http Off said on stays = absurd (false≢true on)
 kept_http (On deadline) said on stays = stays
 
-answered_whole : (request : RequestView) (said : ResponseView) (reader : BodyReader) (bytes : List ℕ)
-    → AnswersSoFar request said reader bytes → reads reader [] ≡ whole [] 0
-    → (said.status == 101) ≡ false → IsAnswer request bytes
-answered_whole request said reader bytes so_far ended http = record {
-  heads = so_far.heads;
-  interim = so_far.interim;
-  last = so_far.front ++ so_far.rest;
-  parts = so_far.parts;
-  before = so_far.before;
-  said = said;
-  response = record {
-    front = so_far.front;
-    rest = so_far.rest;
-    parts = refl;
-    head = so_far.head;
-    payload = so_far.payload;
-    whole_body =
-        let none : length so_far.rest + 0 ≡ length so_far.rest = omega arith in
-        ap (λ bytes. body (framing_to request said) bytes) (sym (append-nil so_far.rest))
-        ∙ so_far.reads_on []
-        ∙ ap (λ b. ahead so_far.payload (length so_far.rest) b) ended
-        ∙ ap (λ n. whole (so_far.payload ++ []) n) none
-        ∙ ap (λ payload. whole payload (length so_far.rest)) (append-nil so_far.payload);
-  };
-  final = so_far.final;
-  stays = http;
-}
+-- no body passes as it is where the link goes on with HTTP
+unchanged : (passes : Bool) (request : RequestView) (said : ResponseView) → (said.status == 101) ≡ false
+    → (passes ≡ true → (wishes_upgrade (Some request) && is_upgraded (Some said)) ≡ true)
+    → passes ≡ false
+unchanged false request said http changed = refl
+unchanged true request said http changed =
+    let upgraded = head_of_and (wishes_upgrade (Some request)) (is_upgraded (Some said)) (changed refl) in
+    let switched = head_of_and (said.status == 101) (is_http_11 said.version) upgraded.1 in
+    absurd (false≢true (sym http ∙ switched.0))
 
 -- the whole exchange is behind the others
 pub sound_ends : (s : LinkState) (received : List ℕ) (looking : HeadSearch)
@@ -312,17 +208,6 @@ pub sound_ends : (s : LinkState) (received : List ℕ) (looking : HeadSearch)
 sound_ends s received looking None final reader out k sound on is = absurd (false≢true is)
 sound_ends s received looking (Some request) None reader out k sound on is = absurd (false≢true is)
 sound_ends s received looking (Some request) (Some said) reader out k sound on is =
-    let b = head_of_and (is_sent out && is_at_end reader) (is_nothing received) is in
-    let a = head_of_and (is_sent out) (is_at_end reader) b.0 in
-    let d = head_of_and (is_free out.step && is_none out.refused && is_nothing out.owed) (is_written out.writer) a.0 in
-    let c = head_of_and (is_free out.step && is_none out.refused) (is_nothing out.owed) d.0 in
-    let owed : out.owed ≡ [] = no_bytes out.owed c.1 in
-    let empty : received ≡ [] = no_bytes received b.1 in
-    let ended : reads reader [] ≡ whole [] 0 = whole_now (reads reader []) a.1 in
-    holds_ends s (record { head = request; request = sound.asked; response = sound.used })
-    (record {
-      asks = asked_whole request out.writer sound.asked sound.asks d.1;
-      answers = answered_whole request said reader sound.used sound.answers ended
-          (kept_http k said on sound.stays);
-    })
-    (rw (owed, empty) at sound.holds)
+    let http = kept_http k said on sound.stays in
+    exchange_ends s received request said reader out
+    (sound.http (unchanged (until_close out.writer.framing) request said http sound.changed)) http is

@@ -4,11 +4,12 @@ use Rattle.std.specs.Prelude.{◌≡◌, ℕ, false, List, Option, IfSome, IfNon
 use Rattle.h1_transfer.specs.Calls.{Called, read_fault_of, succeeds, write_fault_of}
 use Rattle.h1_transfer.specs.EndWrites.{EndCall, stage_of}
 use Rattle.h1_transfer.specs.PieceWrites.{WritesPiece}
-use Rattle.h1_client.specs.Words.{Poll, Ready, Error, RequestView, ResponseView, LinkState, itself}
+use Rattle.h1_client.specs.Words.{Poll, Ready, Error, RequestView, ResponseView, LinkState, TransferView, itself}
 use Rattle.h1_client.specs.Asking.{AsksBy, StaysAsIs}
 use Rattle.h1_client.specs.ClientView.{ClientView, call_begun, is_spent, write_refusal}
 use Rattle.h1_client.specs.Reading.{CopyAnswer, ReadsResponse}
 use Rattle.h1_client.specs.Settings.{write_deadline}
+use Rattle.h1_client.specs.Upgrading.{EndsWithRequest, ends_both}
 
 -- one call that writes the head of a request
 pub record HeadWrite {L : Type 0} (state : L → LinkState) (same_plan : L → L → Type 0) (now : ℕ)
@@ -38,13 +39,16 @@ pub record PieceWrite {L : Type 0} (state : L → LinkState) (same_plan : L → 
       (write_fault_of outcome)
   pub plan : same_plan old.transfer.link new.transfer.link
 
--- one that writes its end
+-- One that writes its end. Where the body passed as it is, that of the response ends with it.
 pub record EndWrite {L : Type 0} (state : L → LinkState) (same_plan : L → L → Type 0)
     (old new : ClientView L) (outcome : Poll (Result (Option ℕ) Error)) : Type 0 where
+  -- what the write leaves
+  pub sent : TransferView L
   pub again : IfSome old.transfer.outgoing.refused (λ error. (outcome ≡ Ready (Err error))
-      × (new.transfer ≡ (call_begun old).transfer))
+      × (sent ≡ (call_begun old).transfer))
   pub writes : IfNone old.transfer.outgoing.refused (EndCall state itself
-      (call_begun old).transfer new.transfer outcome (stage_of old.transfer.outgoing))
+      (call_begun old).transfer sent outcome (stage_of old.transfer.outgoing))
+  pub ends : EndsWithRequest (ends_both sent outcome) sent new.transfer
   pub rest : new ≡ record old {
     transfer = new.transfer;
     spent = is_spent outcome new.transfer.budget;

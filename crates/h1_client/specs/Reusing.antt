@@ -1,6 +1,6 @@
 -- When the link of a session serves the next exchange (RFC 9112, section 9.3).
 use Rattle.std.specs.Prelude.{ℕ, List, [], ◌∷◌, Bool, true, false, ◌&&◌, ◌||◌, ◌==◌, not, is_some, is_none}
-use Rattle.h1_client.specs.Words.{Body, whole, unfinished, broken, reads, BodyReader, Outgoing, Step, Free, Head, Piece, Finish}
+use Rattle.h1_client.specs.Words.{Body, whole, unfinished, broken, reads, BodyReader, BodyState, Outgoing, Step, Free, Head, Piece, Finish}
 use Rattle.h1_client.specs.Written.{is_written}
 use Rattle.h1_client.specs.ClientView.{ClientView, request_of, response_of}
 use Rattle.h1_client.specs.Keeping.{keep_of}
@@ -31,6 +31,10 @@ is_whole (broken payload) = false
 abbrev pub is_at_end : BodyReader → Bool
 is_at_end reader = is_whole (reads reader [])
 
+-- nothing more is read of this body: it ended or failed
+abbrev pub is_over : BodyState → Bool
+is_over body = is_at_end body.reader || is_some body.refused
+
 -- bytes came behind the response
 abbrev pub is_overread : BodyReader → List ℕ → Bool
 is_overread reader received = is_at_end reader && not (is_nothing received)
@@ -51,7 +55,7 @@ is_reusable s = is_on s.keepalive && is_exchanged s
 
 -- the body of the response ended or failed
 abbrev pub is_body_done : {L : Type 0} → ClientView L → Bool
-is_body_done s = is_at_end s.transfer.body.reader || is_some s.transfer.body.refused
+is_body_done s = is_over s.transfer.body
 
 -- the session once keep-alive was set by what both sides said of it
 abbrev pub respected : {L : Type 0} → ClientView L → ClientView L

@@ -1,8 +1,8 @@
 -- What holds of a client's session between its calls.
-use Rattle.std.specs.Prelude.{◌≡◌, ℕ, List, [], ◌++◌, ◌==◌, length, false, Option, Some, None}
-use Rattle.h1_client.specs.Words.{RequestView, ResponseView, LinkState, WriterView, BodyReader, HeadSearch, HasLooked, MAX_HEADER_SIZE, Outgoing, request_bytes, framing, body, reads, ahead, IsAccepted, is_interim}
+use Rattle.std.specs.Prelude.{◌≡◌, ℕ, List, [], ◌++◌, ◌==◌, ◌&&◌, length, true, false, Option, Some, None}
+use Rattle.h1_client.specs.Words.{RequestView, ResponseView, LinkState, WriterView, BodyReader, HeadSearch, HasLooked, MAX_HEADER_SIZE, Outgoing, request_bytes, framing, body, reads, ahead, IsAccepted, is_interim, until_close}
 use Rattle.h1_client.specs.Written.{WritesSoFar}
-use Rattle.h1_client.specs.Responses.{framing_to}
+use Rattle.h1_client.specs.Responses.{framing_to, is_upgraded, wishes_upgrade}
 use Rattle.h1_client.specs.Exchanges.{AreInterim}
 use Rattle.h1_client.specs.Holds.{Holds}
 use Rattle.h1_client.specs.declared.keeping.Keepalive.{Keepalive}
@@ -52,13 +52,24 @@ StaysHttp Off final = Unit {0}
 StaysHttp (On deadline) None = ⊥
 StaysHttp (On deadline) (Some said) = (said.status == 101) ≡ false
 
-pub record Sound (s : LinkState) (received : List ℕ) (search : HeadSearch)
-    (request : Option RequestView) (final : Option ResponseView) (reader : BodyReader)
-    (out : Outgoing) (keepalive : Keepalive) : Type 0 where
+-- The bytes of one exchange, as far as it went: what was taken up of the request, and what was used
+-- of the responses.
+pub record Exchanging (s : LinkState) (received : List ℕ) (request : Option RequestView)
+    (final : Option ResponseView) (reader : BodyReader) (out : Outgoing) : Type 0 where
   pub asked : List ℕ
   pub used : List ℕ
   pub holds : Holds s out.owed received asked used
   pub asks : Asks request out.writer asked
   pub answers : Answers request final reader used
+
+-- Until the request's body passes as it is, the bytes are those of one exchange. It passes so only
+-- behind a change of the protocol, and nothing is said of the bytes of the other one.
+pub record Sound (s : LinkState) (received : List ℕ) (search : HeadSearch)
+    (request : Option RequestView) (final : Option ResponseView) (reader : BodyReader)
+    (out : Outgoing) (keepalive : Keepalive) : Type 0 where
+  pub http : until_close out.writer.framing ≡ false
+      → Exchanging s received request final reader out
+  pub changed : until_close out.writer.framing ≡ true
+      → (wishes_upgrade request && is_upgraded final) ≡ true
   pub searched : IsSearched final search received
   pub stays : StaysHttp keepalive final

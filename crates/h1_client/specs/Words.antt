@@ -4,7 +4,7 @@ pub use Rattle.futures.specs.declared.task.Poll.TheVariants.{Pending, Ready}
 pub use Rattle.h1_body.specs.Body.{Body, ahead, broken, unfinished, whole}
 pub use Rattle.h1_body.specs.Framing.{framing}
 pub use Rattle.h1_body.specs.Reader.{body, reads}
-pub use Rattle.h1_body.specs.Writer.{WriterView, begun, is_short}
+pub use Rattle.h1_body.specs.Writer.{WriterView, begun, is_short, until_close}
 pub use Rattle.h1_body.specs.declared.framing.Framing.{Framing}
 pub use Rattle.h1_body.specs.declared.framing.Framing.TheVariants.{Chunked, Counted, UntilClose}
 pub use Rattle.h1_body.specs.declared.reader.BodyReader.{BodyReader}
@@ -23,6 +23,7 @@ pub use Rattle.h1_head.specs.ResponseHead.{IsAccepted, IsWholeAt, RefusedAt}
 pub use Rattle.h1_head.specs.declared.response_head.ResponseHead.{ResponseHead}
 pub use Rattle.h1_transfer.specs.Fresh.{no_reply}
 pub use Rattle.h1_transfer.specs.TransferView.{TransferView, itself}
+pub use Rattle.h1_transfer.specs.declared.body.BodyState.{BodyState}
 pub use Rattle.h1_transfer.specs.declared.deadline.Deadline.{Deadline}
 pub use Rattle.h1_transfer.specs.declared.outgoing.Outgoing.{Outgoing}
 pub use Rattle.h1_transfer.specs.declared.outgoing.Step.{Step}

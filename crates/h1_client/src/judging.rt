@@ -4,14 +4,14 @@ ghost use Rattle.h1_body.specs.declared.chunking.TheConstants.{CHUNK_LIMIT};
 ghost use Rattle.h1_transfer.specs.Calls.{read_fault_of};
 ghost use Rattle.h1_client.specs.ReadingBody.{at_link_end};
 ghost use Rattle.h1_client.specs.ClientView.{first_refusal, is_spent};
-ghost use Rattle.h1_client.specs.Reusing.{is_at_end, is_free, is_sent};
+ghost use Rattle.h1_client.specs.Reusing.{is_at_end, is_free, is_over, is_sent};
 ghost use Rattle.h1_client.specs.Written.{is_written};
 
 use bytes::Bytes;
 use futures::task::Poll;
 use h1_body::{BodyReader, BodyWriter, FeedState};
 use h1_error::{Error, ErrorType};
-use h1_transfer::{Outgoing, Step};
+use h1_transfer::{BodyState, Outgoing, Step};
 
 /// The refusal of the request's writing.
 pub(crate) fn first_refusal(late: Option<Error>, refused: Option<Error>) -> Option<Error>
@@ -99,4 +99,11 @@ pub(crate) fn is_at_end(reader: &BodyReader) -> bool
         FeedState::More => false,
         FeedState::Broken => false,
     }
+}
+
+/// Whether nothing more is read of this body: it ended or failed.
+pub(crate) fn is_over(body: &BodyState) -> bool
+    ensures { result ≡ is_over body.now }
+{
+    is_at_end(&body.reader) || body.refused.is_some()
 }

@@ -10,6 +10,7 @@ mod pooling;
 mod probing;
 mod releasing;
 mod tasks;
+mod upgrading;
 
 use h1_client::v1::HttpSession;
 use h1_error::ErrorType;

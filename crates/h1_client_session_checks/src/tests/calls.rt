@@ -151,6 +151,16 @@ pub(crate) fn is_body_done(rt: &impl Abort, client: &Client) -> bool {
     client.session.is_body_done()
 }
 
+/// Lets the request's body pass as it is, where the protocol changed.
+pub(crate) fn pass_on(client: &mut Client) {
+    client.session.maybe_upgrade_body_writer();
+}
+
+/// Whether the session gives its link for the next request.
+pub(crate) fn is_reused(client: Client) -> bool {
+    client.session.reuse().is_some()
+}
+
 /// Notes whether the link serves the next request, and says it.
 pub(crate) fn keeps(client: &mut Client) -> bool {
     client.session.respect_keepalive();

@@ -16,6 +16,7 @@ use h1_link::Link;
 
 impl<L: Link + Drop> Transfer<L> {
     ghost use Rattle.h1_body.specs.Writer.{begun};
+    ghost use Rattle.h1_body.specs.declared.framing.Framing.TheVariants.{UntilClose};
     ghost use Rattle.h1_transfer.specs.BodyWrites.{IsPieceStep, IsEndStep};
     ghost use Rattle.h1_transfer.specs.Calls.{Called, succeeds, is_unflushed, write_fault_of};
     ghost use Rattle.h1_transfer.specs.TransferView.{itself};
@@ -55,6 +56,17 @@ impl<L: Link + Drop> Transfer<L> {
         self.outgoing.writer.begin(framing);
         self.outgoing.headed = true;
         self.outgoing.step = Step::Head;
+    }
+
+    /// Lets what is written of the body from here on pass as it is, until the link is closed, as
+    /// behind a change of the protocol (RFC 9110, section 7.8). The count of its payload begins anew.
+    pub fn pass_on(&mut self)
+        ensures { self.new
+            ≡ record self.old {
+              outgoing = record self.old.outgoing { writer = begun UntilClose };
+            } }
+    {
+        self.outgoing.writer.begin(Framing::UntilClose);
     }
 
     /// Goes on with the write that is in progress.
