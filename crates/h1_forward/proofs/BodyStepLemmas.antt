@@ -7,21 +7,22 @@ use Rattle.h1_error.specs.declared.error.Error.{Error}
 use Rattle.h1_link.specs.LinkState.{LinkState}
 use Rattle.h1_transfer.specs.PieceWrites.{PieceAnswer, PieceTaking, WritesPiece}
 use Rattle.h1_transfer.specs.TransferView.{itself}
+use Rattle.h1_client.specs.Calls.{PieceWrite}
 use Rattle.h1_client.specs.ClientView.{ClientView, call_begun}
 use Rattle.h1_client.specs.Settings.{write_deadline}
 use Rattle.h1_forward.specs.declared.forward.Stage.TheVariants as stage
-use Rattle.h1_forward.specs.Forwarding.{CallsBody, ForwardView, answer_of, stage_behind}
+use Rattle.h1_forward.specs.Forwarding.{ForwardView, answer_of, stage_behind}
 use Rattle.h1_forward.specs.Runs.{Succeeds}
 use Rattle.h1_forward.proofs.TookLemmas.{took_begun, took_sent, writer_of}
 use Rattle.h1_forward.proofs.DueLemmas.{Due, DueBody, Takes, failed}
 
-pub takes_body : {L : Type 0} (state : L → LinkState) (now : ℕ) (f : ForwardView) (s t : ClientView L)
-    (kept : Option (List ℕ)) (due : List ℕ) (told : Poll (Result (Option ℕ) Error))
-    → DueBody f.body s.transfer.outgoing due → CallsBody state now s t f.body kept told
+pub takes_body : {L : Type 0} (state : L → LinkState) (same_plan : L → L → Type 0) (now : ℕ)
+    (f : ForwardView) (s t : ClientView L) (kept : Option (List ℕ)) (due : List ℕ) (told : Poll (Result (Option ℕ) Error))
+    → DueBody f.body s.transfer.outgoing due → PieceWrite state same_plan now s t f.body kept told
     → Succeeds (answer_of stage.End told)
     → Takes state s t (record f { stage = stage_behind stage.Body stage.End told; body = kept })
     due
-takes_body {L} state now f s t kept due told is calls well =
+takes_body {L} state same_plan now f s t kept due told is calls well =
     by_refusal s.transfer.outgoing.refused calls.again calls.writes
   where
     Goal : Type 0

@@ -1,5 +1,5 @@
 -- What the link takes in a step that writes the end of a body.
-use Rattle.std.proofs.Common.{◌≡◌, ℕ, Bool, true, false, ◌&&◌, not, is_some, Option, Some, None, IfSome, IfNone, Result, Ok, Err, List, [], refl, sym, ap, ◌∙◌, subst, inl, inr, append-nil}
+use Rattle.std.proofs.Common.{◌≡◌, ℕ, Bool, true, false, ◌&&◌, not, is_some, Option, Some, None, IfSome, IfNone, Result, Ok, Err, List, [], ◌++◌, refl, sym, ap, ◌∙◌, subst, inl, inr, append-nil}
 use Rattle.std.proofs.lemmas.Bool.{false≢true}
 use Rattle.futures.specs.declared.task.Poll.{Poll}
 use Rattle.futures.specs.declared.task.Poll.TheVariants.{Pending, Ready}
@@ -10,10 +10,13 @@ use Rattle.h1_link.specs.LinkState.{LinkState}
 use Rattle.h1_transfer.specs.EndWrites.{EndAnswer, EndCall, EndStage, WritesEnd, end_stage, goes_on, stage_of, starts}
 use Rattle.h1_transfer.specs.ReplyFraming.{is_begun}
 use Rattle.h1_transfer.specs.TransferView.{TransferView, itself}
+use Rattle.h1_transfer.specs.declared.outgoing.Outgoing.{Outgoing}
 use Rattle.h1_transfer.specs.declared.outgoing.Step.TheVariants as step
+use Rattle.h1_client.specs.Calls.{EndWrite}
 use Rattle.h1_client.specs.ClientView.{ClientView, call_begun}
+use Rattle.h1_client.specs.Upgrading.{EndsWithRequest, ends_both}
 use Rattle.h1_forward.specs.declared.forward.Stage.TheVariants as stage
-use Rattle.h1_forward.specs.Forwarding.{CallsEnd, ForwardView, answer_of, stage_behind}
+use Rattle.h1_forward.specs.Forwarding.{ForwardView, answer_of, stage_behind}
 use Rattle.h1_forward.specs.Runs.{Succeeds}
 use Rattle.h1_forward.proofs.TookLemmas.{Took, known_none, owed_of, took_begun, took_sent, writer_of}
 use Rattle.h1_forward.proofs.DueLemmas.{Due, EndStands, Takes, failed}
@@ -28,13 +31,18 @@ no_end writer none = by writer.framing writer.ended none
     by (Some f) true is = refl
     by (Some f) false is = absurd (false≢true (sym is))
 
-pub takes_end : {L : Type 0} (state : L → LinkState) (f : ForwardView) (s t : ClientView L)
+-- what the write of the end leaves
+takes_sent : {L : Type 0} (state : L → LinkState) (f : ForwardView) (s t : ClientView L)
     (due : List ℕ) (told : Poll (Result (Option ℕ) Error))
-    → (due ≡ end_bytes (writer_of s)) × EndStands s.transfer.outgoing → CallsEnd state s t told
+    → (due ≡ end_bytes (writer_of s)) × EndStands s.transfer.outgoing
+    → IfSome s.transfer.outgoing.refused (λ error. (told ≡ Ready (Err error))
+    × (t.transfer ≡ (call_begun s).transfer))
+    → IfNone s.transfer.outgoing.refused (EndCall state itself (call_begun s).transfer t.transfer told
+    (stage_of s.transfer.outgoing))
     → Succeeds (answer_of stage.Done told)
     → Takes state s t (record f { stage = stage_behind stage.End stage.Done told }) due
-takes_end {L} state f s t due told is calls well =
-    by_refusal s.transfer.outgoing.refused calls.again calls.writes
+takes_sent {L} state f s t due told is again writes well =
+    by_refusal s.transfer.outgoing.refused again writes
   where
     Goal : Type 0
     Goal = Takes state s t (record f { stage = stage_behind stage.End stage.Done told }) due
@@ -122,3 +130,38 @@ takes_end {L} state f s t due told is calls well =
         → IfNone refusal (Call (stage_of s.transfer.outgoing)) → Goal
     by_refusal None again writes = by_stand is.1 writes
     by_refusal (Some error) again writes = absurd (failed stage.Done told error again.0 well)
+
+same_message : {L : Type 0} (sent new : TransferView L) (both : Bool) → EndsWithRequest both sent new
+    → (sent.link ≡ new.link) × (sent.outgoing ≡ new.outgoing)
+same_message {L} sent new true ends = (
+  ap (λ (t : TransferView L). t.link) (sym ends.rest),
+  ap (λ (t : TransferView L). t.outgoing) (sym ends.rest),
+)
+same_message {L} sent new false ends = (
+  ap (λ (t : TransferView L). t.link) (sym ends),
+  ap (λ (t : TransferView L). t.outgoing) (sym ends),
+)
+
+-- The end of a body is written. What becomes of the response's body moves no byte.
+pub takes_end : {L : Type 0} (state : L → LinkState) (same_plan : L → L → Type 0)
+    (f : ForwardView) (s t : ClientView L) (due : List ℕ) (told : Poll (Result (Option ℕ) Error))
+    → (due ≡ end_bytes (writer_of s)) × EndStands s.transfer.outgoing → EndWrite state same_plan s t told
+    → Succeeds (answer_of stage.Done told)
+    → Takes state s t (record f { stage = stage_behind stage.End stage.Done told }) due
+takes_end {L} state same_plan f s t due told is calls well =
+    let takes = takes_sent state f s (record t { transfer = calls.sent }) due told is calls.again
+    calls.writes well in
+    let same = same_message calls.sent t.transfer (ends_both calls.sent told) calls.ends in
+    record {
+      taking = takes.taking;
+      left = takes.left;
+      split = takes.split;
+      still = subst (λ (o : Outgoing). Due (record f { stage = stage_behind stage.End stage.Done told })
+          o takes.left) same.1 takes.still;
+      took = record {
+        piece = takes.took.piece;
+        wrote = ap (λ (l : L). (state l).written) (sym same.0) ∙ takes.took.wrote;
+        bytes = takes.took.bytes
+            ∙ ap (λ (o : Outgoing). takes.took.piece ++ o.owed) same.1;
+      };
+    }

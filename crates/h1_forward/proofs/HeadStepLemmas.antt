@@ -11,7 +11,8 @@ use Rattle.h1_link.specs.LinkState.{LinkState}
 use Rattle.h1_client.specs.Asking.{AsksBy, AsksWith, SendsHead, StaysAsIs, taken_up}
 use Rattle.h1_client.specs.ClientView.{ClientView, call_begun, write_refusal}
 use Rattle.h1_forward.specs.declared.forward.Stage.TheVariants as stage
-use Rattle.h1_forward.specs.Forwarding.{CallsHead, ForwardView, answer_of, stage_behind}
+use Rattle.h1_client.specs.Calls.{HeadWrite}
+use Rattle.h1_forward.specs.Forwarding.{ForwardView, answer_of, stage_behind}
 use Rattle.h1_forward.specs.Runs.{Succeeds}
 use Rattle.h1_forward.specs.WrittenBody.{body_from}
 use Rattle.h1_forward.proofs.TookLemmas.{Took, owed_of, writer_of}
@@ -80,12 +81,12 @@ headed_by {L} state now s t (Some request) kept (Some payload) due told is (inr 
           },
         )
 
-headed_call : {L : Type 0} (state : L → LinkState) (now : ℕ) (s t : ClientView L)
-    (head kept : Option RequestView) (body : Option (List ℕ)) (due : List ℕ)
+headed_call : {L : Type 0} (state : L → LinkState) (same_plan : L → L → Type 0) (now : ℕ)
+    (s t : ClientView L) (head kept : Option RequestView) (body : Option (List ℕ)) (due : List ℕ)
     (told : Poll (Result ℕ Error)) → DueHead head body s.transfer.outgoing due
-    → CallsHead state now s t head kept told → Succeeds (answer_of stage.Body told)
+    → HeadWrite state same_plan now s t head kept told → Succeeds (answer_of stage.Body told)
     → Headed state s t kept body due
-headed_call {L} state now s t head kept body due told is calls well =
+headed_call {L} state same_plan now s t head kept body due told is calls well =
     by (write_refusal s) calls.again calls.asks
   where
     by : (refusal : Option Error) → IfSome refusal (λ error. (told ≡ Ready (Err error))
@@ -94,14 +95,14 @@ headed_call {L} state now s t head kept body due told is calls well =
     by None again asks = headed_by state now s t head kept body due told is asks well
     by (Some error) again asks = absurd (failed stage.Body told error again.0 well)
 
-pub takes_head : {L : Type 0} (state : L → LinkState) (now : ℕ) (f : ForwardView) (s t : ClientView L)
-    (kept : Option RequestView) (due : List ℕ) (told : Poll (Result ℕ Error))
-    → DueHead f.head f.body s.transfer.outgoing due → CallsHead state now s t f.head kept told
+pub takes_head : {L : Type 0} (state : L → LinkState) (same_plan : L → L → Type 0) (now : ℕ)
+    (f : ForwardView) (s t : ClientView L) (kept : Option RequestView) (due : List ℕ) (told : Poll (Result ℕ Error))
+    → DueHead f.head f.body s.transfer.outgoing due → HeadWrite state same_plan now s t f.head kept told
     → Succeeds (answer_of stage.Body told)
     → Takes state s t (record f { stage = stage_behind stage.Head stage.Body told; head = kept })
     due
-takes_head {L} state now f s t kept due told is calls well =
-    let headed = headed_call state now s t f.head kept f.body due told is calls well in
+takes_head {L} state same_plan now f s t kept due told is calls well =
+    let headed = headed_call state same_plan now s t f.head kept f.body due told is calls well in
     let left = body_from (writer_of t) (headed.1 ∷ []) in
     record {
       taking = headed.0;

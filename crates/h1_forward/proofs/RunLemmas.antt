@@ -24,10 +24,12 @@ use Rattle.h1_forward.proofs.EndStepLemmas.{takes_end}
 abbrev Answer : Type 0
 Answer = Poll (Result Stage Error)
 
-takes_step : {L : Type 0} (state : L → LinkState) (now : ℕ) (f g : ForwardView)
-    (s t : ClientView L) (due : List ℕ) (outcome : Answer) → Due f s.transfer.outgoing due
-    → Forwards state now f g s t outcome → Succeeds outcome → Takes state s t g due
-takes_step {L} state now f g s t due outcome is forwards well = by f.stage refl forwards
+takes_step : {L : Type 0} (state : L → LinkState) (same_plan : L → L → Type 0) (now : ℕ)
+    (f g : ForwardView) (s t : ClientView L) (due : List ℕ) (outcome : Answer)
+    → Due f s.transfer.outgoing due → Forwards state same_plan now f g s t outcome
+    → Succeeds outcome → Takes state s t g due
+takes_step {L} state same_plan now f g s t due outcome is forwards well =
+    by f.stage refl forwards
   where
     at : (st : Stage) → f.stage ≡ st → Due (record f { stage = st }) s.transfer.outgoing due
     at st same = subst (λ x. Due (record f { stage = x }) s.transfer.outgoing due) same is
@@ -39,16 +41,16 @@ takes_step {L} state now f g s t due outcome is forwards well = by f.stage refl 
     put : (h : ForwardView) → g ≡ h → Takes state s t h due → Takes state s t g due
     put h same takes = subst (λ x. Takes state s t x due) (sym same) takes
 
-    by : (st : Stage) → f.stage ≡ st → ForwardsAt state now f g s t outcome st
+    by : (st : Stage) → f.stage ≡ st → ForwardsAt state same_plan now f g s t outcome st
         → Takes state s t g due
     by stage.Head same step =
-        put _ step.next (takes_head state now f s t g.head due step.told (at stage.Head same)
+        put _ step.next (takes_head state same_plan now f s t g.head due step.told (at stage.Head same)
         step.calls (well_of stage.Body step.told step.answer))
     by stage.Body same step =
-        put _ step.next (takes_body state now f s t g.body due step.told (at stage.Body same)
+        put _ step.next (takes_body state same_plan now f s t g.body due step.told (at stage.Body same)
         step.calls (well_of stage.End step.told step.answer))
     by stage.End same step =
-        put _ step.next (takes_end state f s t due step.told (at stage.End same) step.calls
+        put _ step.next (takes_end state same_plan f s t due step.told (at stage.End same) step.calls
         (well_of stage.Done step.told step.answer))
     by stage.Done same step =
         let done = at stage.Done same in
@@ -63,10 +65,10 @@ takes_step {L} state now f g s t due outcome is forwards well = by f.stage refl 
           took = took_none state s;
         }))
 
-takes_run : {L : Type 0} (state : L → LinkState) (moments : List ℕ) (f g : ForwardView)
-    (s t : ClientView L) (due : List ℕ) → Due f s.transfer.outgoing due → Runs state moments f s g t
-    → Takes state s t g due
-takes_run {L} state [] f g s t due is run =
+takes_run : {L : Type 0} (state : L → LinkState) (same_plan : L → L → Type 0) (moments : List ℕ)
+    (f g : ForwardView) (s t : ClientView L) (due : List ℕ) → Due f s.transfer.outgoing due
+    → Runs state same_plan moments f s g t → Takes state s t g due
+takes_run {L} state same_plan [] f g s t due is run =
     subst (λ (u : ClientView L). Takes state s u g due) (sym run.1)
     (subst (λ x. Takes state s s x due) (sym run.0) (record {
       taking = [];
@@ -75,11 +77,11 @@ takes_run {L} state [] f g s t due is run =
       still = is;
       took = took_none state s;
     }))
-takes_run state (now ∷ moments) f g s t due is run =
-    let first = takes_step state now f run.0 s run.1 due run.3 is run.4 run.5 in
+takes_run state same_plan (now ∷ moments) f g s t due is run =
+    let first = takes_step state same_plan now f run.0 s run.1 due run.3 is run.4 run.5 in
     let due_then = subst (λ (out : Outgoing). Due run.0 out first.left) (sym run.6.outgoing)
     first.still in
-    let rest = takes_run state moments run.0 g run.2 t first.left due_then run.7 in
+    let rest = takes_run state same_plan moments run.0 g run.2 t first.left due_then run.7 in
     record {
       taking = first.taking ++ rest.taking;
       left = rest.left;
@@ -91,14 +93,14 @@ takes_run state (now ∷ moments) f g s t due is run =
     }
 
 -- once all is done the link took the bytes of the request
-pub run_takes : {L : Type 0} (state : L → LinkState) (moments : List ℕ) (request : RequestView)
-    (payload : List ℕ) (g : ForwardView) (s t : ClientView L) (front : List ℕ)
+pub run_takes : {L : Type 0} (state : L → LinkState) (same_plan : L → L → Type 0)
+    (moments : List ℕ) (request : RequestView) (payload : List ℕ) (g : ForwardView) (s t : ClientView L) (front : List ℕ)
     → owed_of s ≡ [] → request_bytes request ≡ Some front
-    → Runs state moments (new_forward request payload) s g t → g.stage ≡ stage.Done
+    → Runs state same_plan moments (new_forward request payload) s g t → g.stage ≡ stage.Done
     → TookRequest (state s.transfer.link) (state t.transfer.link) request payload
-run_takes {L} state moments request payload g s t front empty written run done =
+run_takes {L} state same_plan moments request payload g s t front empty written run done =
     let due = front ++ body_from (begun (framing request)) (payload ∷ []) in
-    let all = takes_run state moments (new_forward request payload) g s t due
+    let all = takes_run state same_plan moments (new_forward request payload) g s t due
     (empty, front, written, refl) run in
     let over : Due (record g { stage = stage.Done }) t.transfer.outgoing all.left =
     subst (λ x. Due (record g { stage = x }) t.transfer.outgoing all.left) done all.still in

@@ -30,17 +30,17 @@ of_pieces : (source : List ℕ) (request : RequestView) (payload : List ℕ)
 of_pieces source request payload is =
     subst (λ (p : List ℕ). IsReadFrom source request p) (sym (one_piece payload)) is
 
-pub is_forwarded : {L : Type 0} (state : L → LinkState) (source : List ℕ) (moments : List ℕ)
-    (request : RequestView) (payload front : List ℕ) (new : ForwardView)
+pub is_forwarded : {L : Type 0} (state : L → LinkState) (same_plan : L → L → Type 0)
+    (source : List ℕ) (moments : List ℕ) (request : RequestView) (payload front : List ℕ) (new : ForwardView)
     (before behind : ClientView L) (bytes : List ℕ) → IsReadFrom source request payload
     → length payload ≤ CHUNK_LIMIT → request_bytes request ≡ Some front
     → length front ≤ MAX_HEADER_SIZE → before.transfer.outgoing.owed ≡ []
     → (state before.transfer.link).written ≡ Some bytes
-    → Runs state moments (new_forward request payload) before new behind → new.stage ≡ Done
+    → Runs state same_plan moments (new_forward request payload) before new behind → new.stage ≡ Done
     → IsForwarded bytes (state behind.transfer.link).written request payload
-is_forwarded state source moments request payload front new before behind bytes is few head short free told run done =
+is_forwarded state same_plan source moments request payload front new before behind bytes is few head short free told run done =
     let took =
-    run_takes state moments request payload new before behind front free head run done in
+    run_takes state same_plan moments request payload new before behind front free head run done in
     let own = took.are in
     let fits : length own.front ≤ MAX_HEADER_SIZE =
     subst (λ (xs : List ℕ). length xs ≤ MAX_HEADER_SIZE)

@@ -17,7 +17,8 @@ use Rattle.h1_client.specs.ClientView.{ClientView, call_begun, request_of, write
 use Rattle.h1_client.specs.Settings.{write_deadline}
 use Rattle.h1_forward.specs.declared.forward.Stage.{Stage}
 use Rattle.h1_forward.specs.declared.forward.Stage.TheVariants.{Head, Body}
-use Rattle.h1_forward.specs.Forwarding.{CallsHead, ForwardView, GoesOn, IsAt, HasAsked, answer_of, stage_behind}
+use Rattle.h1_client.specs.Calls.{HeadWrite}
+use Rattle.h1_forward.specs.Forwarding.{ForwardView, GoesOn, IsAt, HasAsked, answer_of, stage_behind}
 
 -- the head is written, or its writing goes on
 abbrev Behind : {L : Type 0} → ClientView L → Option RequestView → Poll (Result ℕ Error) → Type 0
@@ -72,12 +73,12 @@ behind_asked {L} state now s t (Some head) kept told (inr asks) at has =
         behind_send state now (taken_up (call_begun s) head bytes) t kept told with_bytes.1 refl
         refl with_bytes.0
 
-behind_call : {L : Type 0} (state : L → LinkState) (now : ℕ) (s t : ClientView L)
-    (head kept : Option RequestView) (told : Poll (Result ℕ Error))
-    → CallsHead state now s t head kept told
+behind_call : {L : Type 0} (state : L → LinkState) (same_plan : L → L → Type 0) (now : ℕ)
+    (s t : ClientView L) (head kept : Option RequestView) (told : Poll (Result ℕ Error))
+    → HeadWrite state same_plan now s t head kept told
     → IsAskStep head (request_of s) s.transfer.outgoing.step → HasAsked head (request_of s)
     → Behind t kept told
-behind_call {L} state now s t head kept told calls at has =
+behind_call {L} state same_plan now s t head kept told calls at has =
     by (write_refusal s) calls.again calls.asks
   where
     by : (refusal : Option Error) → IfSome refusal (λ error. (told ≡ Ready (Err error))
@@ -92,13 +93,13 @@ some_body None at some free = absurd (false≢true some)
 some_body (Some piece) at some free = free
 
 -- the next stage goes on where the head's call left the client
-pub head_goes_on : {L : Type 0} (state : L → LinkState) (now : ℕ) (f : ForwardView)
-    (s t : ClientView L) (kept : Option RequestView) (told : Poll (Result ℕ Error))
-    → f.stage ≡ Head → IsAt f s → CallsHead state now s t f.head kept told
+pub head_goes_on : {L : Type 0} (state : L → LinkState) (same_plan : L → L → Type 0)
+    (now : ℕ) (f : ForwardView) (s t : ClientView L) (kept : Option RequestView) (told : Poll (Result ℕ Error))
+    → f.stage ≡ Head → IsAt f s → HeadWrite state same_plan now s t f.head kept told
     → GoesOn (record f { stage = stage_behind f.stage Body told; head = kept }) t
     (answer_of Body told)
-head_goes_on {L} state now f s t kept told is at calls =
-    goes told (behind_call state now s t f.head kept told calls stands.0 stands.1)
+head_goes_on {L} state same_plan now f s t kept told is at calls =
+    goes told (behind_call state same_plan now s t f.head kept told calls stands.0 stands.1)
   where
     at_head : ForwardView
     at_head = record f { stage = Head }

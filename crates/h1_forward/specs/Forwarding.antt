@@ -1,18 +1,15 @@
 -- Writing a request with its whole body by a client's session, stage by stage (RFC 9112, sections 3
 -- to 7).
-use Rattle.std.specs.Prelude.{◌≡◌, ℕ, List, Option, Some, None, Result, Ok, Err, IfNone, IfSome, IsSome}
+use Rattle.std.specs.Prelude.{◌≡◌, ℕ, List, Option, Some, None, Result, Ok, Err, IsSome}
 use Rattle.futures.specs.declared.task.Poll.{Poll}
 use Rattle.futures.specs.declared.task.Poll.TheVariants.{Pending, Ready}
 use Rattle.h1_error.specs.declared.error.Error.{Error}
 use Rattle.h1_head.specs.Views.{RequestView}
 use Rattle.h1_link.specs.LinkState.{LinkState}
 use Rattle.h1_transfer.specs.BodyWrites.{IsPieceStep, IsEndStep}
-use Rattle.h1_transfer.specs.EndWrites.{EndCall, stage_of}
-use Rattle.h1_transfer.specs.PieceWrites.{WritesPiece}
-use Rattle.h1_transfer.specs.TransferView.{itself}
-use Rattle.h1_client.specs.Asking.{AsksBy, IsAskStep, StaysAsIs}
-use Rattle.h1_client.specs.ClientView.{ClientView, call_begun, is_spent, request_of, write_refusal}
-use Rattle.h1_client.specs.Settings.{write_deadline}
+use Rattle.h1_client.specs.Asking.{IsAskStep}
+use Rattle.h1_client.specs.Calls.{EndWrite, HeadWrite, PieceWrite}
+use Rattle.h1_client.specs.ClientView.{ClientView, request_of}
 use Rattle.h1_forward.specs.declared.forward.Stage.{Stage}
 use Rattle.h1_forward.specs.declared.forward.Stage.TheVariants.{Head, Body, End, Done}
 
@@ -53,58 +50,30 @@ stage_behind was next (Ready (Ok value)) = next
 stage_behind was next (Ready (Err error)) = was
 stage_behind was next Pending = was
 
--- the client's call that writes a head
-pub record CallsHead {L : Type 0} (state : L → LinkState) (now : ℕ) (old new : ClientView L)
-    (head kept : Option RequestView) (told : Poll (Result ℕ Error)) : Type 0 where
-  pub again : IfSome (write_refusal old) (λ error. (told ≡ Ready (Err error))
-      × StaysAsIs old new head kept)
-  pub asks : IfNone (write_refusal old) (AsksBy state now old new head kept told)
-
--- the client's call that writes a piece of the body
-pub record CallsBody {L : Type 0} (state : L → LinkState) (now : ℕ) (old new : ClientView L)
-    (piece kept : Option (List ℕ)) (told : Poll (Result (Option ℕ) Error)) : Type 0 where
-  pub again : IfSome old.transfer.outgoing.refused (λ error. (told ≡ Ready (Err error))
-      × (new.transfer ≡ (call_begun old).transfer) × (kept ≡ piece))
-  pub writes : IfNone old.transfer.outgoing.refused (WritesPiece state itself
-      (write_deadline old.settings now) (call_begun old).transfer new.transfer piece kept told)
-  pub rest : new ≡ record old {
-    transfer = new.transfer;
-    spent = is_spent told new.transfer.budget;
-  }
-
--- the client's call that writes the end of the body
-pub record CallsEnd {L : Type 0} (state : L → LinkState) (old new : ClientView L)
-    (told : Poll (Result (Option ℕ) Error)) : Type 0 where
-  pub again : IfSome old.transfer.outgoing.refused (λ error. (told ≡ Ready (Err error))
-      × (new.transfer ≡ (call_begun old).transfer))
-  pub writes : IfNone old.transfer.outgoing.refused (EndCall state itself
-      (call_begun old).transfer new.transfer told (stage_of old.transfer.outgoing))
-  pub rest : new ≡ record old {
-    transfer = new.transfer;
-    spent = is_spent told new.transfer.budget;
-  }
-
 -- the head is handed in, or goes on
-pub record ForwardsHead {L : Type 0} (state : L → LinkState) (now : ℕ) (old new : ForwardView)
-    (before behind : ClientView L) (outcome : Poll (Result Stage Error)) : Type 0 where
+pub record ForwardsHead {L : Type 0} (state : L → LinkState) (same_plan : L → L → Type 0)
+    (now : ℕ) (old new : ForwardView) (before behind : ClientView L)
+    (outcome : Poll (Result Stage Error)) : Type 0 where
   pub told : Poll (Result ℕ Error)
-  pub calls : CallsHead state now before behind old.head new.head told
+  pub calls : HeadWrite state same_plan now before behind old.head new.head told
   pub answer : outcome ≡ answer_of Body told
   pub next : new ≡ record old { stage = stage_behind Head Body told; head = new.head }
 
 -- the body is handed in, or goes on
-pub record ForwardsBody {L : Type 0} (state : L → LinkState) (now : ℕ) (old new : ForwardView)
-    (before behind : ClientView L) (outcome : Poll (Result Stage Error)) : Type 0 where
+pub record ForwardsBody {L : Type 0} (state : L → LinkState) (same_plan : L → L → Type 0)
+    (now : ℕ) (old new : ForwardView) (before behind : ClientView L)
+    (outcome : Poll (Result Stage Error)) : Type 0 where
   pub told : Poll (Result (Option ℕ) Error)
-  pub calls : CallsBody state now before behind old.body new.body told
+  pub calls : PieceWrite state same_plan now before behind old.body new.body told
   pub answer : outcome ≡ answer_of End told
   pub next : new ≡ record old { stage = stage_behind Body End told; body = new.body }
 
 -- the end is begun, or goes on
-pub record ForwardsEnd {L : Type 0} (state : L → LinkState) (old new : ForwardView)
-    (before behind : ClientView L) (outcome : Poll (Result Stage Error)) : Type 0 where
+pub record ForwardsEnd {L : Type 0} (state : L → LinkState) (same_plan : L → L → Type 0)
+    (old new : ForwardView) (before behind : ClientView L) (outcome : Poll (Result Stage Error))
+    : Type 0 where
   pub told : Poll (Result (Option ℕ) Error)
-  pub calls : CallsEnd state before behind told
+  pub calls : EndWrite state same_plan before behind told
   pub answer : outcome ≡ answer_of Done told
   pub next : new ≡ record old { stage = stage_behind End Done told }
 
@@ -116,21 +85,21 @@ pub record ForwardsNothing {L : Type 0} (old new : ForwardView) (before behind :
   pub answer : outcome ≡ Ready (Ok Done)
 
 -- one step, by the stage
-abbrev pub ForwardsAt : {L : Type 0} → (L → LinkState) → ℕ → ForwardView → ForwardView
-    → ClientView L → ClientView L → Poll (Result Stage Error) → Stage → Type 0
-ForwardsAt state now old new before behind outcome Head =
-    ForwardsHead state now old new before behind outcome
-ForwardsAt state now old new before behind outcome Body =
-    ForwardsBody state now old new before behind outcome
-ForwardsAt state now old new before behind outcome End =
-    ForwardsEnd state old new before behind outcome
-ForwardsAt state now old new before behind outcome Done =
+abbrev pub ForwardsAt : {L : Type 0} → (L → LinkState) → (L → L → Type 0) → ℕ → ForwardView
+    → ForwardView → ClientView L → ClientView L → Poll (Result Stage Error) → Stage → Type 0
+ForwardsAt state same_plan now old new before behind outcome Head =
+    ForwardsHead state same_plan now old new before behind outcome
+ForwardsAt state same_plan now old new before behind outcome Body =
+    ForwardsBody state same_plan now old new before behind outcome
+ForwardsAt state same_plan now old new before behind outcome End =
+    ForwardsEnd state same_plan old new before behind outcome
+ForwardsAt state same_plan now old new before behind outcome Done =
     ForwardsNothing old new before behind outcome
 
-abbrev pub Forwards : {L : Type 0} → (L → LinkState) → ℕ → ForwardView → ForwardView
-    → ClientView L → ClientView L → Poll (Result Stage Error) → Type 0
-Forwards state now old new before behind outcome =
-    ForwardsAt state now old new before behind outcome old.stage
+abbrev pub Forwards : {L : Type 0} → (L → LinkState) → (L → L → Type 0) → ℕ → ForwardView
+    → ForwardView → ClientView L → ClientView L → Poll (Result Stage Error) → Type 0
+Forwards state same_plan now old new before behind outcome =
+    ForwardsAt state same_plan now old new before behind outcome old.stage
 
 -- where the next step goes on, unless this one failed
 abbrev pub GoesOn : {L : Type 0} → ForwardView → ClientView L → Poll (Result Stage Error) → Type 0

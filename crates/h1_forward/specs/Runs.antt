@@ -25,14 +25,14 @@ pub record Rests {L : Type 0} (state : L → LinkState) (before now : ClientView
   pub written : (state now.transfer.link).written ≡ (state before.transfer.link).written
 
 -- a step at each of these moments, none of which fails, and between them calls that write nothing
-abbrev pub Runs : {L : Type 0} → (L → LinkState) → List ℕ → ForwardView → ClientView L
-    → ForwardView → ClientView L → Type 0
-Runs state [] old before new behind = (new ≡ old) × (behind ≡ before)
-Runs {L} state (now ∷ moments) old before new behind =
+abbrev pub Runs : {L : Type 0} → (L → LinkState) → (L → L → Type 0) → List ℕ → ForwardView
+    → ClientView L → ForwardView → ClientView L → Type 0
+Runs state same_plan [] old before new behind = (new ≡ old) × (behind ≡ before)
+Runs {L} state same_plan (now ∷ moments) old before new behind =
     (next : ForwardView) × (between : ClientView L) × (resumed : ClientView L)
     × (outcome : Poll (Result Stage Error))
-    × Forwards state now old next before between outcome × Succeeds outcome
-    × Rests state between resumed × Runs state moments next resumed new behind
+    × Forwards state same_plan now old next before between outcome × Succeeds outcome
+    × Rests state between resumed × Runs state same_plan moments next resumed new behind
 
 -- the link took the bytes of the request with this payload, and no others
 pub record TookRequest (before now : LinkState) (request : RequestView) (payload : List ℕ)

@@ -91,7 +91,7 @@ impl Forward {
         now: u64,
     ) -> Poll<Result<Stage, Error>>
         requires { IsAt self.old client.old }
-        ensures steps { Forwards L.state now self.old self.new client.old client.new result }
+        ensures steps { Forwards L.state L.same_plan now self.old self.new client.old client.new result }
         ensures goes_on { GoesOn self.new client.new result }
         ensures plan { L.same_plan client.old.transfer.link client.new.transfer.link }
     {
@@ -111,7 +111,8 @@ impl Forward {
     ) -> Poll<Result<Stage, Error>>
         requires stage { self.old.stage ≡ Head }
         requires at { IsAt self.old client.old }
-        ensures steps { ForwardsHead L.state now self.old self.new client.old client.new result }
+        ensures steps { ForwardsHead L.state L.same_plan now self.old self.new client.old
+            client.new result }
         ensures goes_on { GoesOn self.new client.new result }
         ensures plan { L.same_plan client.old.transfer.link client.new.transfer.link }
     {
@@ -127,7 +128,8 @@ impl Forward {
     ) -> Poll<Result<Stage, Error>>
         requires stage { self.old.stage ≡ Body }
         requires at { IsAt self.old client.old }
-        ensures steps { ForwardsBody L.state now self.old self.new client.old client.new result }
+        ensures steps { ForwardsBody L.state L.same_plan now self.old self.new client.old
+            client.new result }
         ensures goes_on { GoesOn self.new client.new result }
         ensures plan { L.same_plan client.old.transfer.link client.new.transfer.link }
     {
@@ -143,7 +145,8 @@ impl Forward {
     ) -> Poll<Result<Stage, Error>>
         requires stage { self.old.stage ≡ End }
         requires at { IsAt self.old client.old }
-        ensures steps { ForwardsEnd L.state self.old self.new client.old client.new result }
+        ensures steps { ForwardsEnd L.state L.same_plan self.old self.new client.old
+            client.new result }
         ensures goes_on { GoesOn self.new client.new result }
         ensures plan { L.same_plan client.old.transfer.link client.new.transfer.link }
     {

@@ -45,7 +45,7 @@ pub fn forwarding_writes_the_request<L: Link + Drop>()
     ensures { (moments : List ℕ) (request : RequestView) (payload front : List ℕ)
         (new : ForwardView) (before behind : ClientView L)
         → before.transfer.outgoing.owed ≡ [] → request_bytes request ≡ Some front
-        → Runs L.state moments (new_forward request payload) before new behind
+        → Runs L.state L.same_plan moments (new_forward request payload) before new behind
         → new.stage ≡ Done
         → TookRequest (L.state before.transfer.link) (L.state behind.transfer.link) request
         payload }
@@ -62,7 +62,7 @@ pub fn a_forwarded_request_is_the_same_request<L: Link + Drop>()
         → request_bytes request ≡ Some front → length front ≤ MAX_HEADER_SIZE
         → before.transfer.outgoing.owed ≡ []
         → (L.state before.transfer.link).written ≡ Some bytes
-        → Runs L.state moments (new_forward request payload) before new behind
+        → Runs L.state L.same_plan moments (new_forward request payload) before new behind
         → new.stage ≡ Done
         → IsForwarded bytes (L.state behind.transfer.link).written request payload }
 {}

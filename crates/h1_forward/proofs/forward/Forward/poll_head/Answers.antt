@@ -11,7 +11,6 @@ returns-clause-goes_on g c =
     let at = subst (λ (v : ForwardView). IsAt v c.args.client.now) (sym c.self.view_is) c.requires.at in
     let call = c.poll_write_request_header-told in
     rw (c.judge.ensures.answer, c.judge.ensures.next)
-    (head_goes_on g.L.Link.state c.args.now
+    (head_goes_on g.L.Link.state g.L.Link.same_plan c.args.now
     (record { stage = f.stage; head = f.head; body = f.body }) c.args.client.now call.new.self
-    call.new.req call.result stage at
-    (record { again = call.ensures.again; asks = call.ensures.asks }))
+    call.new.req call.result stage at call.ensures)
