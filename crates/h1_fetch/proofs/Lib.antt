@@ -1,0 +1,9 @@
+pub mod OutputLemmas
+pub mod WriteLemmas
+pub mod ReadLemmas
+pub mod GetLemmas
+pub mod FetchLemmas
+pub mod WordsLemmas
+pub mod PlayLemmas
+pub mod StepLemmas
+pub mod StatusLemmas

@@ -1,0 +1,12 @@
+use Rattle.std.proofs.Common.{ℕ, List, Option}
+use Rattle.h1_client.specs.ClientView.{request_of}
+use Rattle.h1_fetch.specs.Reading.{Unread}
+use Rattle.h1_fetch.specs.Turns.{IsHandedOver}
+use Rattle.h1_fetch.proofs.fetching.write_head.Given as goal
+
+abbrev pub invariant-loop : goal.invariant-loop
+invariant-loop g l = record {
+  handed : IsHandedOver l.fn.head l.handed (request_of l.session);
+  unread : (before : Option (List ℕ)) → Unread g.L.Link.state before l.fn.session
+      → Unread g.L.Link.state before l.session;
+}
