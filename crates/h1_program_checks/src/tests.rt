@@ -1,6 +1,7 @@
 //! The program and the sample servers, as their callers and peers meet them. None of the functions
 //! here promises anything: an expectation that isn't met ends the test.
 
+mod fetching;
 mod greeting;
 mod hello;
 mod listening;

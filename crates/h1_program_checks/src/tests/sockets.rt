@@ -25,7 +25,7 @@ const PORTS: [(u16, &str); 8] = [
 /// An acceptor over TCP that held this port before it is asked for it, so that another run of these
 /// tests can't hold it.
 #[derive(Drop)]
-struct Ready<R: Net + Drop> {
+pub(crate) struct Ready<R: Net + Drop> {
     net: TcpAcceptor<R>,
     port: u16,
     asked: Option<u16>,
@@ -54,7 +54,9 @@ impl<R: Net + AllocGlobal + Drop> Acceptor for Ready<R> {
 }
 
 /// An acceptor that holds the first of the ports that was free, and the word of that port.
-fn ready_net<R: Net + AllocGlobal + Abort + Clone + Drop>(rt: &R) -> (Ready<R>, &'static str) {
+pub(crate) fn ready_net<R: Net + AllocGlobal + Abort + Clone + Drop>(
+    rt: &R,
+) -> (Ready<R>, &'static str) {
     for (port, word) in PORTS {
         let mut net = TcpAcceptor::new(rt.clone().expect(rt, "a runtime"));
         if net.bind(port) {
@@ -65,11 +67,11 @@ fn ready_net<R: Net + AllocGlobal + Abort + Clone + Drop>(rt: &R) -> (Ready<R>, 
     panic!(rt; "no free port")
 }
 
-/// What the program ended with and wrote.
+/// What a program ended with and wrote.
 #[derive(Drop)]
-struct Ran {
-    status: u8,
-    sink: MemSink,
+pub(crate) struct Ran {
+    pub(crate) status: u8,
+    pub(crate) sink: MemSink,
 }
 
 impl Model for Ran {
@@ -78,8 +80,8 @@ impl Model for Ran {
     ghost view = { λ _. tt };
 }
 
-/// Serves two peers at this port, over this acceptor and the runtime's clock.
-fn listened<R>(rt: &R, word: &str, net: Ready<R>) -> Ran
+/// Serves so many peers at this port, over this acceptor and the runtime's clock.
+pub(crate) fn listened<R>(rt: &R, word: &str, count: &str, net: Ready<R>) -> Ran
 where
     R: Wait + Threads + Net + Abort + AllocGlobal + time::Clock + Sync + Send + Clone + Drop,
 {
@@ -87,7 +89,7 @@ where
     let mut sink = MemSink::new(rt.alloc());
     let mut net = net;
     let mut clock = SystemClock::new(rt.clone().expect(rt, "a runtime"));
-    let words = ["listen", word, "2"];
+    let words = ["listen", word, count];
     let status = status_of(rt, &words, &mut source, &mut sink, &mut net, &mut clock);
     Ran { status, sink }
 }
@@ -135,7 +137,7 @@ where
     let port = net.port;
     let (ran, replied) = thread::join(
         rt,
-        || listened(rt, word, net),
+        || listened(rt, word, "2", net),
         || are_replied(rt, port, exchange),
     );
     assert!(rt; replied);
