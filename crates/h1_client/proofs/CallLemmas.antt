@@ -1,5 +1,5 @@
 -- Each call of a session keeps what holds of it.
-use Rattle.std.proofs.Common.{◌≡◌, ℕ, ◌-◌, ◌≤◌, ◌==◌, List, [], ◌++◌, length, Bool, true, false, not, Option, Some, None, is_some, IsSome, IfSome, IfNone, Result, Ok, Err, refl, sym, ap, ◌∙◌, append-nil, append_assoc, subst}
+use Rattle.std.proofs.Common.{◌≡◌, ℕ, ◌-◌, ◌≤◌, ◌==◌, ◌&&◌, List, [], ◌++◌, length, Bool, true, false, not, Option, Some, None, is_some, is_none, IsSome, IfSome, IfNone, Result, Ok, Err, refl, sym, ap, ◌∙◌, append-nil, append_assoc, subst}
 use Rattle.std.proofs.lemmas.Bool.{false≢true, not-true}
 use Rattle.h1_body.specs.declared.chunking.TheConstants.{CHUNK_LIMIT}
 use Rattle.h1_transfer.specs.Budget.{allowance}
@@ -18,10 +18,10 @@ use Rattle.h1_client.specs.ClientView.{ClientView, is_spent}
 use Rattle.h1_client.specs.Holds.{Holds}
 use Rattle.h1_client.specs.Keeping.{keep_by, keep_of}
 use Rattle.h1_client.specs.Responses.{final_of}
-use Rattle.h1_client.specs.Reusing.{is_exchanged, is_on, is_reusable}
+use Rattle.h1_client.specs.Reusing.{is_at_end, is_exchanged, is_free, is_nothing, is_on, is_reusable, is_sent}
 use Rattle.h1_client.specs.Served.{IsServed}
 use Rattle.h1_client.specs.Sound.{Exchanging, Sound, StaysHttp}
-use Rattle.h1_client.specs.Written.{WritesSoFar}
+use Rattle.h1_client.specs.Written.{WritesSoFar, is_written}
 use Rattle.h1_client.specs.declared.answered.Answered.{Answered}
 use Rattle.h1_client.specs.declared.asked.Asked.{Asked}
 use Rattle.h1_client.specs.declared.keeping.Keepalive.{Keepalive}
@@ -375,3 +375,42 @@ sound_reuse {L} state t asked answered k settings payload_read spent sound is =
     let both = head_of_and (is_on k) (is_exchanged s) (sym is) in
     sound_ends (state t.link) t.received answered.search asked.request (final_of answered.last)
     t.body.reader t.outgoing k sound both.0 both.1
+
+none_of : {T : Type 0} (told : Option T) → is_none told ≡ true → told ≡ None
+none_of None is = refl
+none_of (Some value) is = absurd (false≢true is)
+
+-- no write of a session that may be used again was refused
+pub unrefused : {L : Type 0} (t : TransferView L) (asked : Asked) (answered : Answered)
+    (k : Keepalive) (settings : Settings) (payload_read : ℕ) (spent : Bool)
+    → is_reusable (record {
+      transfer = t;
+      asked = asked;
+      answered = answered;
+      keepalive = k;
+      settings = settings;
+      payload_read = payload_read;
+      spent = spent;
+    }) ≡ true
+    → t.outgoing.refused ≡ None
+unrefused {L} t asked answered k settings payload_read spent is =
+    let s : ClientView L = record {
+      transfer = t;
+      asked = asked;
+      answered = answered;
+      keepalive = k;
+      settings = settings;
+      payload_read = payload_read;
+      spent = spent;
+    } in
+    let out = t.outgoing in
+    let both = is_some asked.request && is_some (final_of answered.last) in
+    let read = is_at_end t.body.reader in
+    let whole = (head_of_and (is_on k) (is_exchanged s) is).1 in
+    let first = (head_of_and (both && is_sent out && read) (is_nothing t.received) whole).0 in
+    let second = (head_of_and (both && is_sent out) read first).0 in
+    let sent = (head_of_and both (is_sent out) second).1 in
+    let written = (head_of_and (is_free out.step && is_none out.refused && is_nothing out.owed)
+    (is_written out.writer) sent).0 in
+    let owed = (head_of_and (is_free out.step && is_none out.refused) (is_nothing out.owed) written).0 in
+    none_of out.refused (head_of_and (is_free out.step) (is_none out.refused) owed).1

@@ -1,6 +1,6 @@
 //! The responses that a session reads, and the use of their heads (RFC 9112, section 4; RFC 9110,
 //! section 15.2).
-ghost use Rattle.std.specs.Prelude.{◌≡◌, ◌≤◌, [], IsSome, None, is_some, length};
+ghost use Rattle.std.specs.Prelude.{◌≡◌, ◌≤◌, [], IfSome, IsSome, None, is_some, length};
 ghost use Rattle.h1_cut.specs.Search.{HasLooked};
 ghost use Rattle.h1_head.specs.declared.limits.TheConstants.{MAX_HEADER_SIZE};
 ghost use Rattle.h1_transfer.specs.Calls.{no_fault, read_fault_of};
@@ -9,19 +9,21 @@ ghost use Rattle.h1_client.specs.Reading.{IsInPlace, JudgesHead, Refuses, StopsF
 ghost use Rattle.h1_client.specs.Responses.{final_of, has_bad_length};
 
 use crate::framing::{framing_to, has_bad_length};
+use crate::response_place::ResponsePlace;
 use futures::task::Poll;
 use h1_cut::HeadSearch;
 use h1_error::{Error, ErrorType, HeadFault};
-use h1_head::{RequestHeader, ResponseHead, is_interim};
+use h1_head::{RequestHeader, is_interim};
 use h1_link::Link;
 use h1_transfer::{HeadRead, HeadStop, Transfer};
+use std::mem;
 
 /// The responses that a session reads.
 #[derive(Drop)]
 pub(crate) struct Answered {
     pub search: HeadSearch,
     /// The head that was read last.
-    pub last: Option<ResponseHead>,
+    pub last: ResponsePlace,
     /// The refusal that each later read of a head answers.
     pub refused: Option<Error>,
 }
@@ -34,7 +36,7 @@ impl Answered {
     {
         Answered {
             search: HeadSearch::new(),
-            last: None,
+            last: ResponsePlace::new(),
             refused: None,
         }
     }
@@ -43,7 +45,7 @@ impl Answered {
     pub fn is_final(&self) -> bool
         ensures { result ≡ is_some (final_of self.now.last) }
     {
-        match &self.last {
+        match self.last.get() {
             Some(last) => !is_interim(last.header.status()),
             None => false,
         }
@@ -55,14 +57,14 @@ impl Answered {
         transfer: &mut Transfer<L>,
         request: &Option<RequestHeader>,
         tolerant: bool,
-        found: Option<ResponseHead>,
+        found: &mut ResponsePlace,
         read: HeadRead,
     ) -> Poll<Result<usize, Error>>
         requires begun { IsSome request.now }
-        requires place { IsInPlace transfer.old.received found read }
+        requires place { IsInPlace transfer.old.received found.old read }
         requires looked { HasLooked MAX_HEADER_SIZE self.old.search transfer.old.received }
         ensures takes { TakesHead tolerant transfer.old transfer.new self.old self.new request.now
-            found read result }
+            found.old read result }
         ensures link { transfer.new.link ≡ transfer.old.link }
         ensures told { read_fault_of result ≡ fault_of_head read }
     {
@@ -70,10 +72,10 @@ impl Answered {
             HeadRead::Stopped(stop) => return self.stop(stop),
             HeadRead::Whole(used) => used,
         };
-        let (Some(request), Some(head)) = (request, found) else {
+        let Some(request) = request else {
             unreachable!()
         };
-        self.take(transfer, request, tolerant, head, used)
+        self.take(transfer, request, tolerant, found, used)
     }
 
     /// Uses the head of a response to this request, which takes so many of the received bytes. One
@@ -83,16 +85,20 @@ impl Answered {
         transfer: &mut Transfer<L>,
         request: &RequestHeader,
         tolerant: bool,
-        head: ResponseHead,
+        found: &mut ResponsePlace,
         used: usize,
     ) -> Poll<Result<usize, Error>>
+        requires head { IsSome found.old }
         requires within { used ≤ length transfer.old.received }
         requires looked { HasLooked MAX_HEADER_SIZE self.old.search transfer.old.received }
-        ensures judges { JudgesHead transfer.old transfer.new self.old self.new request.now head used
-            (has_bad_length tolerant head.header.fields) result }
+        ensures judges { IfSome found.old (λ head. JudgesHead transfer.old transfer.new self.old
+            self.new request.now head used (has_bad_length tolerant head.header.fields) result) }
         ensures link { transfer.new.link ≡ transfer.old.link }
         ensures told { read_fault_of result ≡ no_fault }
     {
+        let Some(head) = found.get() else {
+            unreachable!()
+        };
         if has_bad_length(tolerant, head.header.fields()) {
             return self.refuse(
                 ErrorType::InvalidHTTPHeader(HeadFault::BadContentLength),
@@ -103,7 +109,7 @@ impl Answered {
         transfer.skip(used);
         transfer.begin_body(framing);
         self.search = HeadSearch::new();
-        self.last = Some(head);
+        mem::swap(&mut self.last, found);
         Poll::Ready(Ok(used))
     }
 

@@ -4,9 +4,10 @@ ghost use Rattle.h1_client.specs.Asking.{IsAskStep, JudgesAsk, PutsHead, TakesUp
 ghost use Rattle.h1_transfer.specs.Deadline.{went_so};
 
 use crate::framing::request_framing;
+use crate::response_place::ResponsePlace;
 use futures::task::Poll;
 use h1_error::{Error, ErrorType, HeadFault};
-use h1_head::{HeadBuffer, RequestHeader, http_req_header_to_wire};
+use h1_head::{HeadBuffer, RequestHeader, push_request_head};
 use h1_link::Link;
 use h1_transfer::{CALL_BUDGET, Deadline, Transfer, Went};
 
@@ -35,20 +36,24 @@ impl Asked {
         }
     }
 
-    /// Takes up the head that is handed in. Where it can't be written all stays as it is.
+    /// Takes up the head that is handed in, whose bytes are put together in the buffer that the
+    /// session before left. Where it can't be written all stays as it is.
     pub fn take_up<L: Link + Drop>(
         &mut self,
         transfer: &mut Transfer<L>,
+        place: &mut ResponsePlace,
         head: &mut Option<RequestHeader>,
     ) -> Result<(), Error>
         requires at { IsAskStep head.old self.old.request transfer.old.outgoing.step }
         requires unrefused { transfer.old.outgoing.refused ≡ None }
-        ensures { TakesUp transfer.old transfer.new self.old self.new head.old head.new result }
+        ensures takes { TakesUp transfer.old transfer.new self.old self.new head.old head.new
+            result }
+        ensures place { place.new ≡ place.old }
     {
         let Some(asking) = head else {
             return Ok(());
         };
-        let mut bytes = transfer.head_buffer();
+        let mut bytes = place.buffer_for(transfer.head_buffer());
         put_head(asking, &mut bytes)?;
         let framing = request_framing(asking);
         self.length = bytes.len();
@@ -81,9 +86,10 @@ impl Asked {
 fn put_head(head: &RequestHeader, out: &mut HeadBuffer) -> Result<(), Error>
     ensures { PutsHead head.now out.old out.new result }
 {
-    match http_req_header_to_wire(head)? {
-        Some(wire) => out.push(wire.as_slice()),
-        None => Err(Error::from(ErrorType::InvalidHTTPHeader(HeadFault::BadRequestLine))),
+    if push_request_head(head, out)? {
+        Ok(())
+    } else {
+        Err(Error::from(ErrorType::InvalidHTTPHeader(HeadFault::BadRequestLine)))
     }
 }
 

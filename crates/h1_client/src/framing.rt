@@ -26,7 +26,9 @@ pub(crate) fn framing_to(request: &RequestHeader, said: &ResponseHeader) -> Fram
     if is_interim(said.status()) {
         return Framing::Counted(0);
     }
-    response_framing(is_head_only(request.method()), asks_upgrade(request), said)
+    // The lines of the request are looked through for that status alone.
+    let upgrade = said.status() == 101 && asks_upgrade(request);
+    response_framing(is_head_only(request.method()), upgrade, said)
 }
 
 pub(crate) fn is_until_close(framing: Framing) -> bool

@@ -3,6 +3,7 @@ ghost use Rattle.std.specs.Prelude.{◌≡◌, is_some, IfSome};
 ghost use Rattle.h1_client.specs.Idle.{deadline_of, earlier, is_past, moment_behind, stated_idle};
 ghost use Rattle.h1_client.specs.Picking.{fresh_of, unasked};
 
+use crate::response_place::ResponsePlace;
 use crate::{Keepalive, Peer, v1};
 use h1_link::{Link, ReadStep};
 use std::alloc::Global;
@@ -13,6 +14,8 @@ use std::marker::Model;
 pub struct IdleLink<L: Link + Drop> {
     link: L,
     deadline: Option<u64>,
+    /// What the session before left for the next one.
+    place: ResponsePlace,
 }
 
 impl<L: Link + Drop> Model for IdleLink<L> {
@@ -51,6 +54,7 @@ impl<L: Link + Drop> IdleLink<L> {
 
     /// The link of a session, exactly where `reuse` gives it; any other link is shut. It may stand
     /// idle for so many milliseconds, and no longer than the peer said.
+    #[inline(always)]
     pub fn from_session(
         session: v1::HttpSession<L>,
         idle_timeout: Option<u64>,
@@ -63,15 +67,27 @@ impl<L: Link + Drop> IdleLink<L> {
         }) }
     {
         let deadline = deadline_of(now, idle_timeout, session.keepalive());
-        let link = session.reuse()?;
-        Some(IdleLink { link, deadline })
+        let mut session = session;
+        if !session.is_reusable() {
+            session.shutdown();
+            return None;
+        }
+        session.leave();
+        let (link, place) = session.into_parts();
+        Some(IdleLink {
+            link,
+            deadline,
+            place,
+        })
     }
 
     /// A new session with this peer over the link. Takes no memory.
+    #[inline(always)]
     pub fn into_session(self, alloc: Global, peer: &Peer) -> v1::HttpSession<L>
         ensures { IsNewSession self.link (peer_settings peer.now) result }
     {
-        v1::HttpSession::new_with_options(alloc, self.link, peer)
+        let tolerant = peer.allow_h1_response_invalid_content_length;
+        v1::HttpSession::with_place(alloc, self.link, tolerant, self.place)
     }
 
     /// Looks whether the link can still be used: one byte is read, and none is to be there. Where
@@ -91,6 +107,7 @@ impl<L: Link + Drop> IdleLink<L> {
             ReadStep::NotReady => Probe::Fresh(IdleLink {
                 link,
                 deadline: self.deadline,
+                place: self.place,
             }),
             ReadStep::Failed => Probe::Failed(link),
             ReadStep::NoMemory => Probe::NoMemory(link),

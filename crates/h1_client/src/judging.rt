@@ -2,15 +2,19 @@
 ghost use Rattle.std.specs.Prelude.{◌≡◌, ◌&&◌, false, length, ◌≤◌, IfSome};
 ghost use Rattle.h1_body.specs.declared.chunking.TheConstants.{CHUNK_LIMIT};
 ghost use Rattle.h1_transfer.specs.Calls.{read_fault_of};
-ghost use Rattle.h1_client.specs.ReadingBody.{at_link_end};
+ghost use Rattle.h1_client.specs.ReadingBody.{at_link_end, ends_with_link};
 ghost use Rattle.h1_client.specs.ClientView.{first_refusal, is_spent};
+ghost use Rattle.h1_client.specs.Responses.{final_of};
 ghost use Rattle.h1_client.specs.Reusing.{is_at_end, is_free, is_over, is_sent};
 ghost use Rattle.h1_client.specs.Written.{is_written};
 
+use crate::framing::{framing_to, is_until_close};
+use crate::response_place::ResponsePlace;
 use bytes::Bytes;
 use futures::task::Poll;
 use h1_body::{BodyReader, BodyWriter, FeedState};
 use h1_error::{Error, ErrorType};
+use h1_head::{RequestHeader, is_interim};
 use h1_transfer::{BodyState, Outgoing, Step};
 
 /// The refusal of the request's writing.
@@ -23,23 +27,39 @@ pub(crate) fn first_refusal(late: Option<Error>, refused: Option<Error>) -> Opti
     }
 }
 
-/// What a read of the body answers, where its body may end with the link.
+/// What a read of the body of the final response to this request answers, where the body may end
+/// with the link.
+#[inline(always)]
 pub(crate) fn at_link_end(
-    ends_with_link: bool,
+    request: &Option<RequestHeader>,
+    last: &ResponsePlace,
     told: Poll<Result<Option<Bytes>, Error>>,
 ) -> Poll<Result<Option<Bytes>, Error>>
-    ensures answer { result ≡ at_link_end ends_with_link told }
+    ensures answer { result
+        ≡ at_link_end (ends_with_link request.now (final_of last.now)) told }
     ensures told { read_fault_of result ≡ read_fault_of told }
 {
     match told {
         Poll::Ready(Err(error)) => {
-            if ends_with_link && error.kind == ErrorType::ConnectionClosed {
+            if error.kind == ErrorType::ConnectionClosed && ends_with_link(request, last) {
                 return Poll::Ready(Ok(None));
             }
             Poll::Ready(Err(error))
         }
         told => told,
     }
+}
+
+/// Whether the body of the final response to this request is read until the link ends.
+#[cold]
+#[inline(never)]
+fn ends_with_link(request: &Option<RequestHeader>, last: &ResponsePlace) -> bool
+    ensures { result ≡ ends_with_link request.now (final_of last.now) }
+{
+    let (Some(request), Some(last)) = (request, last.get()) else {
+        return false;
+    };
+    !is_interim(last.header.status()) && is_until_close(framing_to(request, &last.header))
 }
 
 /// Whether a call with this answer stopped because so many calls are left.

@@ -7,7 +7,8 @@ ghost use Rattle.h1_client.specs.Reusing.{is_on};
 
 use crate::framing::{framing_to, is_until_close};
 use crate::idle_time::stated_timeout;
-use h1_head::{RequestHeader, ResponseHead, ResponseHeader, is_interim};
+use crate::response_place::ResponsePlace;
+use h1_head::{RequestHeader, ResponseHeader, is_interim};
 use http::Version;
 
 /// Whether the link may serve the next request.
@@ -61,12 +62,12 @@ fn keep_by(request: &RequestHeader, said: &ResponseHeader, overread: bool) -> Ke
 /// The same, and off until the final head is read.
 pub(crate) fn keep_of(
     request: &Option<RequestHeader>,
-    last: &Option<ResponseHead>,
+    last: &ResponsePlace,
     overread: bool,
 ) -> Keepalive
     ensures { result ≡ keep_of request.now (final_of last.now) overread }
 {
-    let (Some(request), Some(last)) = (request, last) else {
+    let (Some(request), Some(last)) = (request, last.get()) else {
         return Keepalive::Off;
     };
     if is_interim(last.header.status()) {

@@ -13,6 +13,7 @@ mod pool;
 mod response_place;
 mod session;
 mod settings;
+mod spare;
 pub mod v1;
 
 pub use connector::Connector;

@@ -27,14 +27,14 @@ pub struct Settings {
 }
 
 impl Settings {
-    /// Nothing has a limit, and nothing is tolerated.
-    pub(crate) fn new() -> Self
-        ensures { result ≡ new_settings }
+    /// Nothing has a limit.
+    pub(crate) fn new(tolerant: bool) -> Self
+        ensures { result ≡ record new_settings { tolerant = tolerant } }
     {
         Settings {
             read_timeout: None,
             write_timeout: None,
-            tolerant: false,
+            tolerant,
         }
     }
 

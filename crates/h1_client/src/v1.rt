@@ -7,6 +7,7 @@ ghost use Rattle.h1_link.specs.Steps.{after_shutdown};
 use crate::answered::Answered;
 use crate::asked::Asked;
 use crate::judging::is_at_end;
+use crate::response_place::ResponsePlace;
 use crate::{Keepalive, Peer, Settings};
 use bytes::Bytes;
 use futures::task::Poll;
@@ -36,6 +37,8 @@ pub struct HttpSession<L: Link + Drop> {
     lent: Poll<Result<Option<Bytes>, Error>>,
     /// The last call stopped because its link calls that moved bytes were as many as it may make.
     spent: bool,
+    /// The place that the head of a response is read into, which no contract sees.
+    place: ResponsePlace,
 }
 
 impl<L: Link + Drop> Model for HttpSession<L> {
@@ -71,15 +74,29 @@ impl<L: Link + Drop> HttpSession<L> {
         requires { IsServed (L.state link) }
         ensures { IsNewSession link new_settings result }
     {
+        HttpSession::with_place(alloc, link, false, ResponsePlace::new())
+    }
+
+    /// The same with whether one value of Content-Length that is no number is tolerated, and with
+    /// what the session before left.
+    #[inline(always)]
+    pub(crate) fn with_place(alloc: Global, link: L, tolerant: bool, place: ResponsePlace) -> Self
+        requires { IsServed (L.state link) }
+        ensures { IsNewSession link (record new_settings { tolerant = tolerant }) result }
+    {
+        let mut place = place;
+        let mut transfer = Transfer::new(alloc, link);
+        place.lend(alloc, &mut transfer);
         HttpSession {
-            transfer: Transfer::new(alloc, link),
+            transfer,
             asked: Asked::new(),
             answered: Answered::new(),
             keepalive: Keepalive::Off,
-            settings: Settings::new(),
+            settings: Settings::new(tolerant),
             payload_read: 0,
             lent: Poll::Pending,
             spent: false,
+            place,
         }
     }
 
@@ -88,9 +105,8 @@ impl<L: Link + Drop> HttpSession<L> {
         requires { IsServed (L.state link) }
         ensures { IsNewSession link (peer_settings peer.now) result }
     {
-        let mut session = HttpSession::new(alloc, link);
-        session.settings.tolerant = peer.allow_h1_response_invalid_content_length;
-        session
+        let tolerant = peer.allow_h1_response_invalid_content_length;
+        HttpSession::with_place(alloc, link, tolerant, ResponsePlace::new())
     }
 
     /// Whether the head of a request was taken up.

@@ -6,9 +6,10 @@ ghost use Rattle.h1_client.specs.Responses.{final_of, is_upgraded, wishes_upgrad
 
 use super::HttpSession;
 use crate::framing::asks_upgrade;
+use crate::response_place::ResponsePlace;
 use bytes::Bytes;
 use h1_error::Error;
-use h1_head::{RequestHeader, ResponseHead, ResponseHeader, is_interim};
+use h1_head::{RequestHeader, ResponseHeader, is_interim};
 use h1_link::Link;
 use http::Version;
 
@@ -22,7 +23,7 @@ impl<L: Link + Drop> HttpSession<L> {
     pub fn resp_header(&self) -> Option<&ResponseHeader>
         ensures { option_copied result ≡ option_map (λ last. last.header) self.now.answered.last }
     {
-        match &self.answered.last {
+        match self.answered.last.get() {
             Some(last) => Some(&last.header),
             None => None,
         }
@@ -32,7 +33,7 @@ impl<L: Link + Drop> HttpSession<L> {
     pub fn get_status(&self) -> Option<u16>
         ensures { result ≡ option_map (λ last. last.header.status) self.now.answered.last }
     {
-        match &self.answered.last {
+        match self.answered.last.get() {
             Some(last) => Some(last.header.status()),
             None => None,
         }
@@ -42,7 +43,7 @@ impl<L: Link + Drop> HttpSession<L> {
     pub fn get_header(&self, name: &[u8]) -> Option<&[u8]>
         ensures { option_copied result ≡ header_of name.now self.now.answered.last }
     {
-        match &self.answered.last {
+        match self.answered.last.get() {
             Some(last) => last.header.get(name),
             None => None,
         }
@@ -64,7 +65,7 @@ impl<L: Link + Drop> HttpSession<L> {
         ensures ok { IfOk result (λ raw. IfSome self.now.answered.last (λ last. raw ≡ last.raw)) }
         ensures err { IsOkUnless result no_memory }
     {
-        let Some(last) = &self.answered.last else {
+        let Some(last) = self.answered.last.get() else {
             unreachable!()
         };
         Ok(last.raw.slice(..)?)
@@ -103,10 +104,10 @@ fn wishes_upgrade(request: &Option<RequestHeader>) -> bool
 }
 
 /// Whether the final response changes the protocol.
-fn is_upgraded(last: &Option<ResponseHead>) -> bool
+fn is_upgraded(last: &ResponsePlace) -> bool
     ensures { result ≡ is_upgraded (final_of last.now) }
 {
-    let Some(last) = last else {
+    let Some(last) = last.get() else {
         return false;
     };
     let said = &last.header;

@@ -4,17 +4,15 @@ ghost use Rattle.std.specs.Prelude.{◌≡◌, IsSome, None};
 ghost use Rattle.std.specs.Borrow.{sem};
 ghost use Rattle.h1_client.specs.Lending.{shown};
 ghost use Rattle.h1_client.specs.Reading.{CopyAnswer, IsCopied, IsThere};
-ghost use Rattle.h1_client.specs.ReadingBody.{ends_with_link, payload_behind};
-ghost use Rattle.h1_client.specs.Responses.{final_of};
+ghost use Rattle.h1_client.specs.ReadingBody.{payload_behind};
 
 use super::HttpSession;
-use crate::framing::{framing_to, is_until_close};
 use crate::judging::{at_link_end, is_spent};
 use crate::response_place::ResponsePlace;
 use bytes::Bytes;
 use futures::task::Poll;
 use h1_error::Error;
-use h1_head::{RequestHeader, ResponseHead, ResponseHeader, is_interim};
+use h1_head::{ResponseHead, ResponseHeader};
 use h1_link::Link;
 use h1_transfer::CALL_BUDGET;
 
@@ -38,12 +36,11 @@ impl<L: Link + Drop> HttpSession<L> {
         if let Some(error) = self.answered.refused {
             return Poll::Ready(Err(error));
         }
-        let mut place = ResponsePlace::new();
+        let (search, found) = (&mut self.answered.search, &mut self.place);
         let deadline = self.settings.read_deadline(now);
-        let search = &mut self.answered.search;
-        let read = self.transfer.read_head(search, &mut place, deadline);
-        let (tolerant, found) = (self.settings.tolerant, place.into_head());
+        let read = self.transfer.read_head(search, found, deadline);
         let (transfer, request) = (&mut self.transfer, &self.asked.request);
+        let tolerant = self.settings.tolerant;
         let answer = self
             .answered
             .judge(transfer, request, tolerant, found, read);
@@ -71,10 +68,7 @@ impl<L: Link + Drop> HttpSession<L> {
         self.transfer.set_budget(Some(CALL_BUDGET));
         let deadline = self.settings.read_deadline(now);
         let told = self.transfer.poll_read_body_bytes(deadline);
-        let answer = at_link_end(
-            ends_with_link(&self.asked.request, &self.answered.last),
-            told,
-        );
+        let answer = at_link_end(&self.asked.request, &self.answered.last, told);
         self.payload_read = payload_behind(self.payload_read, &answer);
         self.spent = is_spent(&answer, self.transfer.budget());
         answer
@@ -118,14 +112,14 @@ fn shown(answer: &Poll<Result<Option<Bytes>, Error>>) -> Poll<Result<Option<&[u8
 
 /// The answer of a read of a head with a copy of the head that was read last.
 fn copy_of(
-    last: &Option<ResponseHead>,
+    last: &ResponsePlace,
     told: Poll<Result<usize, Error>>,
 ) -> Poll<Result<ResponseHeader, Error>>
     requires { IsThere told last.now }
     ensures { CopyAnswer told last.now result }
 {
     match told {
-        Poll::Ready(Ok(_)) => match last {
+        Poll::Ready(Ok(_)) => match last.get() {
             Some(last) => copied(last),
             None => unreachable!(),
         },
@@ -142,14 +136,4 @@ fn copied(last: &ResponseHead) -> Poll<Result<ResponseHeader, Error>>
         Ok(copy) => Poll::Ready(Ok(copy)),
         Err(error) => Poll::Ready(Err(error)),
     }
-}
-
-/// Whether the body of the final response to this request is read until the link ends.
-fn ends_with_link(request: &Option<RequestHeader>, last: &Option<ResponseHead>) -> bool
-    ensures { result ≡ ends_with_link request.now (final_of last.now) }
-{
-    let (Some(request), Some(last)) = (request, last) else {
-        return false;
-    };
-    !is_interim(last.header.status()) && is_until_close(framing_to(request, &last.header))
 }

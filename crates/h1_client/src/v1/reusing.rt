@@ -1,11 +1,13 @@
 //! Handing the link on to the next request (RFC 9112, section 9.3).
-ghost use Rattle.std.specs.Prelude.{◌≡◌, IfSome, is_some};
+ghost use Rattle.std.specs.Prelude.{◌≡◌, IfSome, is_some, true};
 ghost use Rattle.h1_client.specs.Reusing.{is_nothing};
 
 use super::HttpSession;
 use crate::Keepalive;
 use crate::judging::{is_at_end, is_sent};
 use crate::keeping::keep_of;
+use crate::response_place::ResponsePlace;
+use crate::spare::MOST_KEPT;
 use h1_link::Link;
 
 impl<L: Link + Drop> HttpSession<L> {
@@ -67,6 +69,42 @@ impl<L: Link + Drop> HttpSession<L> {
             return None;
         }
         Some(self.transfer.into_link())
+    }
+
+    /// Puts memory that the next session over the link can use into the place of the response.
+    #[inline(always)]
+    pub(crate) fn leave(&mut self)
+        requires { is_reusable self.old ≡ true }
+        ensures { self.new ≡ self.old }
+    {
+        let (room, buffer) = (self.transfer.take_room(), self.transfer.head_buffer());
+        self.answered.last.keep(room, buffer);
+    }
+
+    /// The link, as `reuse` gives it, and what is left for the next session over it.
+    #[inline(always)]
+    pub(crate) fn into_parts(self) -> (L, ResponsePlace)
+        requires { is_reusable self ≡ true }
+        ensures link { result.0 ≡ self.transfer.link }
+        ensures served { IsServed (L.state result.0) }
+    {
+        let small = self.is_small();
+        let mut place = self.answered.last;
+        let (link, received) = self.transfer.into_parts();
+        place.keep_block(received);
+        if !small {
+            place.let_go();
+        }
+        (link, place)
+    }
+
+    /// Whether the heads of the exchange took little memory.
+    #[inline(always)]
+    fn is_small(&self) -> bool {
+        match self.answered.last.get() {
+            Some(last) => self.asked.length <= MOST_KEPT && last.raw.len() <= MOST_KEPT,
+            None => false,
+        }
     }
 }
 

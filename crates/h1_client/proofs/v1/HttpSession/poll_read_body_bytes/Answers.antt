@@ -1,4 +1,5 @@
 -- A part of the body is used.
+use Rattle.std.proofs.Common.{refl}
 use Rattle.h1_client.specs.Responses.{final_of}
 use Rattle.h1_client.proofs.CallLemmas.{called_begun, notes_spent, plan_begun, sound_begun, sound_payload}
 use Rattle.h1_client.proofs.ReadLemmas.{reads_part}
@@ -20,9 +21,9 @@ returns g c =
     let part = c.poll_read_body_bytes-told in
     record {
       reads = rw (← c.self.view_is) (reads_part g.L.Link.state c.args.now _ c.set_budget.new.self
-          part.new.self part.result _ c.ends_with_link.result _ _ _ c.set_budget.ensures
+          part.new.self part.result _ _ _ _ _ c.set_budget.ensures
           c.read_deadline-deadline.ensures part.ensures.again part.ensures.reads
-          c.ends_with_link.ensures c.at_link_end-answer.ensures.answer
+          refl c.at_link_end-answer.ensures.answer
           c.payload_behind-self-inside.ensures);
       spent = notes_spent _ _ _ _ c.is_spent-self-inside.ensures c.budget.ensures;
       calls = rw (← c.self.view_is) (called_begun g.L.Link.state c.self.inside.transfer

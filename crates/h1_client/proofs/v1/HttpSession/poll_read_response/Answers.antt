@@ -7,8 +7,8 @@ use Rattle.h1_client.proofs.v1.HttpSession.poll_read_response.Goals as goal
 
 pub judge-answer-requires-clause-place : goal.judge-answer-requires-clause-place
 judge-answer-requires-clause-place g c =
-    rw c.into_head-found.ensures (reads_place g.L.Link.state _ c.read_head-read.new.self _
-    c.read_head-read.new.found c.read_head-read.result c.read_head-read.ensures.reads)
+    reads_place g.L.Link.state _ c.read_head-read.new.self _ c.read_head-read.new.found
+    c.read_head-read.result c.read_head-read.ensures.reads
 
 pub invariant_of-self-2 : goal.invariant_of-self-2
 invariant_of-self-2 g c =
@@ -22,7 +22,7 @@ invariant_of-self-2 g c =
     (sound_begun g.L.Link.state s.transfer c.set_budget.new.self _ _ _ _ _ c.self.invariant
     c.set_budget.ensures)
     begun wants c.read_head-read.ensures.reads c.read_head-read.ensures.looked
-    (rw c.into_head-found.ensures at c.judge-answer.ensures.takes)
+    c.judge-answer.ensures.takes
 
 pub returns : goal.returns
 returns g c =
@@ -37,7 +37,7 @@ returns g c =
           (looked_takes s.settings.tolerant c.read_head-read.new.self c.judge-answer.new.transfer s.answered
           c.judge-answer.new.self c.read_head-read.new.search s.asked.request c.read_head-read.new.found
           c.read_head-read.result c.judge-answer.result
-          (rw c.into_head-found.ensures at c.judge-answer.ensures.takes))));
+          c.judge-answer.ensures.takes)));
       spent = notes_spent _ _ _ _ c.is_spent-self-inside.ensures c.budget.ensures;
       calls = rw (← c.self.view_is) (read_called g.L.Link.state c.self.inside.transfer c.set_budget.new.self
           c.read_head-read.new.self c.judge-answer.new.transfer c.read_head-read.result c.judge-answer.result _

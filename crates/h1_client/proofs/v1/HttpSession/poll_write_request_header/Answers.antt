@@ -11,7 +11,7 @@ invariant_of-self-2 g c =
     asked_sound g.L.Link.state s.transfer c.set_budget.new.self c.take_up.new.transfer
     c.poll_deliver-told.new.self s.answered.search s.asked c.take_up.new.self c.judge-answer.new.self
     (final_of s.answered.last) s.keepalive _ _ _ _ _ _ _ _ _ c.self.invariant c.set_budget.ensures at
-    c.take_up.ensures c.poll_deliver-told.ensures.delivers c.judge-answer.ensures
+    c.take_up.ensures.takes c.poll_deliver-told.ensures.delivers c.judge-answer.ensures
 
 pub returns : goal.returns
 returns g c = record {
@@ -20,7 +20,7 @@ returns g c = record {
   spent = search (rules, lives) depth 24;
   calls = rw (← c.self.view_is) (asked_called g.L.Link.state c.self.inside.transfer c.set_budget.new.self
       c.take_up.new.transfer c.poll_deliver-told.new.self c.self.inside.asked c.take_up.new.self
-      c.judge-answer.new.self _ _ _ _ _ _ _ _ c.set_budget.ensures c.take_up.ensures
+      c.judge-answer.new.self _ _ _ _ _ _ _ _ c.set_budget.ensures c.take_up.ensures.takes
       c.poll_deliver-told.ensures.calls c.judge-answer.ensures);
   plan = search (rules, lives) depth 24;
 }
