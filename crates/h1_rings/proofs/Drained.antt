@@ -21,7 +21,7 @@ module _ {T : Type 0} where
   next_holds n put before after left (Some x) slots e few next go =
       let rest : List T = next.1.0 in
       let more : before ++ left ≡ before ++ x ∷ rest = sym e
-          ∙ (sym next.1.1 ∙ (ap (λ l. l ++ rest) next.0 ∙ append_assoc before (x ∷ []) rest)) in
+      ∙ (sym next.1.1 ∙ (ap (λ l. l ++ rest) next.0 ∙ append_assoc before (x ∷ []) rest)) in
       let is : left ≡ x ∷ rest = cancels before left (x ∷ rest) more in
       let long : length left ≡ length rest + 1 = ap length is ∙ sym (add-one (length rest)) in
       (rest, is, go rest (sym next.1.1) (omega arith))
@@ -29,7 +29,7 @@ module _ {T : Type 0} where
   pub drained : (p0 p1 p2 p3 t0 t1 t2 t3 t4 : List T) (a b c d : Option T) → p1 ≡ p0 → p2 ≡ p1 → p3 ≡ p2
       → NextIs p0 t0 a t1 → NextIs p1 t1 b t2 → NextIs p2 t2 c t3 → NextIs p3 t3 d t4
       → (left : List T) × (p0 ≡ t0 ++ left) × (length left ≤ 4)
-          → (left : List T) × (p0 ≡ t0 ++ left) × Holds (a ∷ b ∷ c ∷ d ∷ []) left
+      → (left : List T) × (p0 ≡ t0 ++ left) × Holds (a ∷ b ∷ c ∷ d ∷ []) left
   drained p0 p1 p2 p3 t0 t1 t2 t3 t4 a b c d e1 e2 e3 na nb nc nd was =
       let nb' = subst (λ (p : List T). NextIs p t1 b t2) e1 nb in
       let nc' = subst (λ (p : List T). NextIs p t2 c t3) (e2 ∙ e1) nc in

@@ -43,8 +43,12 @@ module _ {T : Type 0} where
     order = refl;
     room = omega arith;
     each = all_set (KnowsQueue 0 0 [] []) (queue_view true true [] [] ∷ []) 0 (queue_view true true [] [])
-        record { writes = λ _. (refl, refl); reads = λ _. (refl, refl); seen_put = prefix_itself [];
-            seen_taken = prefix_itself [] }
+        record {
+          writes = λ _. (refl, refl);
+          reads = λ _. (refl, refl);
+          seen_put = prefix_itself [];
+          seen_taken = prefix_itself [];
+        }
         (λ j u other e. absurd (other (at_end [] _ u j (λ x. some-ne-none u (sym x)) e)));
   }
 
@@ -66,15 +70,26 @@ module _ {T : Type 0} where
           order = ap (λ l. l ++ x ∷ []) h.order ∙ append_assoc h.gone items (x ∷ []);
           room = (let e = length-append items (x ∷ []) in omega arith);
           each = all_set (KnowsQueue h.writer h.reader all h.gone) views port w
-              record { writes = λ _. (here.0, refl); reads = λ takes. ((mine.reads takes).0, refl);
-                  seen_put = prefix_itself all; seen_taken = prefix_itself h.gone }
+              record {
+                writes = λ _. (here.0, refl);
+                reads = λ takes. ((mine.reads takes).0, refl);
+                seen_put = prefix_itself all;
+                seen_taken = prefix_itself h.gone;
+              }
               (λ j u other e. let theirs = h.each j u e in
-              record { writes = λ p. absurd (other ((theirs.writes p).0 ∙ sym here.0));
-                  reads = theirs.reads; seen_put = prefix_more u.put h.all (x ∷ []) theirs.seen_put;
-                  seen_taken = theirs.seen_taken });
+              record {
+                writes = λ p. absurd (other ((theirs.writes p).0 ∙ sym here.0));
+                reads = theirs.reads;
+                seen_put = prefix_more u.put h.all (x ∷ []) theirs.seen_put;
+                seen_taken = theirs.seen_taken;
+              });
         },
-        record { same = (refl, refl); put = ap (λ l. l ++ x ∷ []) (sym here.1);
-            seen = mine.seen_taken; room = omega arith },
+        record {
+          same = (refl, refl);
+          put = ap (λ l. l ++ x ∷ []) (sym here.1);
+          seen = mine.seen_taken;
+          room = omega arith;
+        },
       )
 
   pub takes : (most port : ℕ) (v : QueueView T) → v.takes ≡ true → Pops (KeepsOrder most) port v (HasTaken v)
@@ -93,16 +108,26 @@ module _ {T : Type 0} where
           order = order;
           room = (let r = h.room in omega arith);
           each = all_set (KnowsQueue h.writer h.reader h.all gone) views port w
-              record { writes = λ puts. ((mine.writes puts).0, refl); reads = λ _. (here.0, refl);
-                  seen_put = prefix_itself h.all; seen_taken = prefix_itself gone }
+              record {
+                writes = λ puts. ((mine.writes puts).0, refl);
+                reads = λ _. (here.0, refl);
+                seen_put = prefix_itself h.all;
+                seen_taken = prefix_itself gone;
+              }
               (λ j u other e. let theirs = h.each j u e in
-              record { writes = theirs.writes;
-                  reads = λ p. absurd (other ((theirs.reads p).0 ∙ sym here.0));
-                  seen_put = theirs.seen_put;
-                  seen_taken = prefix_more u.taken h.gone (x ∷ []) theirs.seen_taken });
+              record {
+                writes = theirs.writes;
+                reads = λ p. absurd (other ((theirs.reads p).0 ∙ sym here.0));
+                seen_put = theirs.seen_put;
+                seen_taken = prefix_more u.taken h.gone (x ∷ []) theirs.seen_taken;
+              });
         },
-        record { same = (refl, refl); taken = ap (λ l. l ++ x ∷ []) (sym here.1);
-            seen = mine.seen_put; ahead = (items, sym order) },
+        record {
+          same = (refl, refl);
+          taken = ap (λ l. l ++ x ∷ []) (sym here.1);
+          seen = mine.seen_put;
+          ahead = (items, sym order);
+        },
       )
 
   pub forks : (most port : ℕ) (v : QueueView T) → v.puts ≡ true → v.takes ≡ true
@@ -114,16 +139,19 @@ module _ {T : Type 0} where
       let mine = h.each port v at in
       let vs : List (QueueView T) = set views port l in
       let Old : ℕ → QueueView T
-          → Type 0 = λ j u. (u.puts ≡ true → (j ≡ h.writer) × (u.put ≡ h.all)) × (u.takes ≢ true)
-          × IsPrefix u.put h.all × IsPrefix u.taken h.gone in
+      → Type 0 = λ j u. (u.puts ≡ true → (j ≡ h.writer) × (u.put ≡ h.all)) × (u.takes ≢ true)
+      × IsPrefix u.put h.all × IsPrefix u.taken h.gone in
       let old : All Old vs =
-          all_set Old views port l
-          ((λ _. mine.writes a), (λ p. true≢false (sym p)), mine.seen_put, mine.seen_taken)
+      all_set Old views port l
+      ((λ _. mine.writes a), (λ p. true≢false (sym p)), mine.seen_put, mine.seen_taken)
       (λ j u other e. let theirs =
-          h.each j u e in
-          (theirs.writes,
-          (λ p. other
-          ((theirs.reads p).0 ∙ sym (mine.reads b).0)), theirs.seen_put, theirs.seen_taken)) in
+      h.each j u e in (
+        theirs.writes,
+        (λ p. other
+            ((theirs.reads p).0 ∙ sym (mine.reads b).0)),
+        theirs.seen_put,
+        theirs.seen_taken,
+      )) in
       record {
         writer = h.writer;
         reader = length vs;
@@ -133,13 +161,19 @@ module _ {T : Type 0} where
         room = h.room;
         each = λ j u e. ⊎_elim
             (λ x. let was =
-            old j u x in record { writes = was.0; reads = λ p. absurd (was.1 p); seen_put = was.2;
-            seen_taken = was.3 })
+            old j u x in record {
+              writes = was.0;
+              reads = λ p. absurd (was.1 p);
+              seen_put = was.2;
+              seen_taken = was.3;
+            })
             (λ (is : r ≡ u). record {
               writes = λ p. absurd (true≢false (sym (ap (λ (y : QueueView T). y.puts) is ∙ p)));
-              reads = λ p.
-                  (at_end vs r u j (λ x. (old j u x).1 p) e, ap (λ (y : QueueView T). y.taken)
-                  (sym is) ∙ (mine.reads b).1);
+              reads = λ p. (
+                at_end vs r u j (λ x. (old j u x).1 p) e,
+                ap (λ (y : QueueView T). y.taken)
+                    (sym is) ∙ (mine.reads b).1,
+              );
               seen_put = subst (λ (y : QueueView T). IsPrefix y.put h.all) is mine.seen_put;
               seen_taken = subst (λ (y : QueueView T). IsPrefix y.taken h.gone) is mine.seen_taken;
             })
@@ -155,17 +189,24 @@ module _ {T : Type 0} where
       let mine = h.each port v at in
       let vs : List (QueueView T) = set views port both in
       let was : get_elem? views other ≡ some u =
-          ⊎_elim (λ x. absurd (two x.0)) (λ x. x.1) (at_set views port other both u at') in
+      ⊎_elim (λ x. absurd (two x.0)) (λ x. x.1) (at_set views port other both u at') in
       let theirs = h.each other u was in
       let Now : ℕ → QueueView T → Type 0 = λ j y. j ≢ other → KnowsQueue h.writer port h.all h.gone j y in
       let now : All Now vs =
-          all_set Now views port both
-          (λ _. record { writes = λ _. mine.writes a; reads = λ _. (refl, (theirs.reads b).1);
-          seen_put = mine.seen_put; seen_taken = theirs.seen_taken })
+      all_set Now views port both
+      (λ _. record {
+        writes = λ _. mine.writes a;
+        reads = λ _. (refl, (theirs.reads b).1);
+        seen_put = mine.seen_put;
+        seen_taken = theirs.seen_taken;
+      })
       (λ j y _ e apart. let its =
-          h.each j y e in record { writes = its.writes;
-          reads = λ p. absurd (apart ((its.reads p).0 ∙ sym (theirs.reads b).0));
-          seen_put = its.seen_put; seen_taken = its.seen_taken }) in
+      h.each j y e in record {
+        writes = its.writes;
+        reads = λ p. absurd (apart ((its.reads p).0 ∙ sym (theirs.reads b).0));
+        seen_put = its.seen_put;
+        seen_taken = its.seen_taken;
+      }) in
       record {
         writer = h.writer;
         reader = port;
@@ -174,9 +215,12 @@ module _ {T : Type 0} where
         order = h.order;
         room = h.room;
         each = all_set (KnowsQueue h.writer port h.all h.gone) vs other (queue_view false false [] [])
-            record { writes = λ p. absurd (true≢false (sym p));
-                reads = λ p. absurd (true≢false (sym p)); seen_put = (h.all, refl);
-                seen_taken = (h.gone, refl) }
+            record {
+              writes = λ p. absurd (true≢false (sym p));
+              reads = λ p. absurd (true≢false (sym p));
+              seen_put = (h.all, refl);
+              seen_taken = (h.gone, refl);
+            }
             (λ j y apart e. now j y e apart);
       }
 

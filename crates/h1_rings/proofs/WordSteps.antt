@@ -68,9 +68,11 @@ sets port v n may known x views h at =
         word = refl;
         each = all_set (KnowsWord h.owner (Some n)) views port w
             record { owning = λ _. (here.0, refl); saw = agrees_on v.seen h.now (Some n) (h.each port v at).saw on }
-            (λ j u other e. record { owning =
-                λ p. absurd (other (((h.each j u e).owning p).0 ∙ sym here.0));
-                saw = agrees_on u.seen h.now (Some n) (h.each j u e).saw on });
+            (λ j u other e. record {
+              owning =
+                  λ p. absurd (other (((h.each j u e).owning p).0 ∙ sym here.0));
+              saw = agrees_on u.seen h.now (Some n) (h.each j u e).saw on;
+            });
       },
       ap (λ o. word_view v.owns o v.seen) (sym (number-suc n)),
     )
@@ -90,8 +92,10 @@ looks port v x views h at =
         now = h.now;
         word = h.word;
         each = all_set
-            (KnowsWord h.owner h.now) views port w record { owning = mine.owning;
-            saw = subst (λ (o : Option ℕ). Agrees o h.now) (sym found) (itself h.now) }
+            (KnowsWord h.owner h.now) views port w record {
+              owning = mine.owning;
+              saw = subst (λ (o : Option ℕ). Agrees o h.now) (sym found) (itself h.now);
+            }
             (λ j u other e. h.each j u e);
       },
       record { seen = refl; stays = subst (λ (o : Option ℕ). Agrees v.seen o) (sym found) mine.saw },
@@ -102,9 +106,13 @@ pub compares : (port : ℕ) (v : WordView) → v.owns ≡ true
 compares port v may x views h at =
     let mine = h.each port v at in (
       v,
-      record { owner = h.owner; now = h.now; word = h.word;
-          each = all_set (KnowsWord h.owner h.now) views port v mine
-          (λ j u other e. h.each j u e) },
+      record {
+        owner = h.owner;
+        now = h.now;
+        word = h.word;
+        each = all_set (KnowsWord h.owner h.now) views port v mine
+            (λ j u other e. h.each j u e);
+      },
       subst (λ (o : Option ℕ). Agrees v.seen o) (sym (mine.owning may).1) mine.saw,
     )
 
@@ -115,15 +123,18 @@ forks port v x views h at =
     let mine = h.each port v at in
     let vs : List WordView = set views port v in
     let old : All (KnowsWord h.owner h.now) vs =
-        all_set (KnowsWord h.owner h.now) views port v mine (λ j u other e. h.each j u e) in
+    all_set (KnowsWord h.owner h.now) views port v mine (λ j u other e. h.each j u e) in
     record {
       owner = h.owner;
       now = h.now;
       word = h.word;
       each = λ j u e. ⊎_elim (old j u)
           (λ (is : r ≡ u). subst
-              (λ (y : WordView). KnowsWord h.owner h.now j y) is record { owning =
-              λ p. absurd (true≢false (sym p)); saw = mine.saw })
+          (λ (y : WordView). KnowsWord h.owner h.now j y) is record {
+            owning =
+                λ p. absurd (true≢false (sym p));
+            saw = mine.saw;
+          })
           (at_snoc vs r u j e);
     }
 
@@ -134,16 +145,19 @@ hands_on port v none x views h at =
     let mine = h.each port v at in
     let vs : List WordView = set views port l in
     let old : All (KnowsWord h.owner h.now) vs =
-        all_set (KnowsWord h.owner h.now) views port l (knows_nothing h.owner h.now port)
-        (λ j u other e. h.each j u e) in
+    all_set (KnowsWord h.owner h.now) views port l (knows_nothing h.owner h.now port)
+    (λ j u other e. h.each j u e) in
     record {
       owner = h.owner;
       now = h.now;
       word = h.word;
       each = λ j u e. ⊎_elim (old j u)
           (λ (is : v ≡ u). subst
-              (λ (y : WordView). KnowsWord h.owner h.now j y) is record { owning =
-              λ p. absurd (true≢false (sym p ∙ none)); saw = mine.saw })
+          (λ (y : WordView). KnowsWord h.owner h.now j y) is record {
+            owning =
+                λ p. absurd (true≢false (sym p ∙ none));
+            saw = mine.saw;
+          })
           (at_snoc vs v u j e);
     }
 
@@ -154,12 +168,12 @@ merges port v other u may x views h at two at' =
     let mine = h.each port v at in
     let vs : List WordView = set views port both in
     let was : get_elem? views other ≡ some u =
-        ⊎_elim (λ x. absurd (two x.0)) (λ x. x.1) (at_set views port other both u at') in
+    ⊎_elim (λ x. absurd (two x.0)) (λ x. x.1) (at_set views port other both u at') in
     let theirs = h.each other u was in
     let now : All (KnowsWord h.owner h.now) vs =
-        all_set
-        (KnowsWord h.owner h.now) views port both record { owning = mine.owning; saw = theirs.saw }
-        (λ j y _ e. h.each j y e) in
+    all_set
+    (KnowsWord h.owner h.now) views port both record { owning = mine.owning; saw = theirs.saw }
+    (λ j y _ e. h.each j y e) in
     record {
       owner = h.owner;
       now = h.now;

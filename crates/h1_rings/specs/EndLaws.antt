@@ -12,8 +12,10 @@ module _ {T : Type 0} where
   pub ring_puts_on : (a b c : PutView T) (some more : List T) → RingPuts a some b
       → RingPuts b more c → RingPuts a (some ++ more) c
   ring_puts_on a b c some more p q =
-      record { same = q.same ∙ p.same;
-      moved = q.moved ∙ (ap (λ l. l ++ more) p.moved ∙ append_assoc a.put some more) }
+      record {
+        same = q.same ∙ p.same;
+        moved = q.moved ∙ (ap (λ l. l ++ more) p.moved ∙ append_assoc a.put some more);
+      }
 
   pub ring_takes_none : (end : TakeView T) → RingTakes end [] end
   ring_takes_none end = record { same = refl; moved = sym (append-nil end.taken) }
@@ -21,8 +23,10 @@ module _ {T : Type 0} where
   pub ring_takes_on : (a b c : TakeView T) (some more : List T) → RingTakes a some b
       → RingTakes b more c → RingTakes a (some ++ more) c
   ring_takes_on a b c some more p q =
-      record { same = q.same ∙ p.same;
-      moved = q.moved ∙ (ap (λ l. l ++ more) p.moved ∙ append_assoc a.taken some more) }
+      record {
+        same = q.same ∙ p.same;
+        moved = q.moved ∙ (ap (λ l. l ++ more) p.moved ∙ append_assoc a.taken some more);
+      }
 
 pub list_puts_none : (end : List HttpTask) (gone : Bool) → ListPuts end gone [] end gone
 list_puts_none end gone = (sym (append-nil end), refl)
