@@ -13,8 +13,8 @@ use h1_link::Tap;
 use std::alloc::Global;
 use std::marker::Model;
 
-/// A first run of payload that has at most so many bytes is held in memory that small pieces share.
-const SHORT: usize = 512;
+/// A run of payload that has at most so many bytes stands in memory that small pieces share.
+pub(crate) const SHORT: usize = 512;
 
 /// What memory holds of a body's payload, and how much of it may be read.
 #[derive(Clone, Copy, Debug, PartialEq, Eq)]

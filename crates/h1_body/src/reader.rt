@@ -10,6 +10,7 @@ ghost use Rattle.h1_body.specs.Takes.{Cuts, HasNextRun, LacksRoom, Takes, payloa
 ghost use Rattle.h1_body.specs.declared.fed.FeedState.TheVariants as state;
 
 use crate::chunking::{Chunking, state_of, step};
+use crate::payload::SHORT;
 use crate::{BodyBytes, Fed, FeedState, Framing, Payload, Taken};
 use bytes::{Bytes, BytesMut};
 use h1_error::Error;
@@ -100,10 +101,10 @@ impl BodyReader {
     }
 
     /// Takes the first run of payload out of the front of received bytes, with the bytes of the
-    /// body before it. No byte is copied: the payload keeps the block alive that it was received
-    /// in.
+    /// body before it. A short run is copied into the room's memory; a longer one is not, and keeps
+    /// the block alive that it was received in.
     #[inline(always)]
-    pub fn take(&mut self, buf: &mut BytesMut) -> Result<Taken, Error>
+    pub fn take(&mut self, buf: &mut BytesMut, room: &mut Room) -> Result<Taken, Error>
         ensures ok { IfOk result
             (λ taken. Takes self.old self.new buf.old.items buf.new.items taken) }
         ensures err { IfErr result (λ error. (error ≡ no_memory)
@@ -112,7 +113,7 @@ impl BodyReader {
     {
         let mut behind = *self;
         let fed = behind.feed(buf.as_slice());
-        let payload = cut(buf, fed.payload.start, fed.payload.end)?;
+        let payload = cut_or_copy(buf, fed.payload.start, fed.payload.end, room)?;
         *self = behind;
         Ok(Taken {
             payload,
@@ -177,6 +178,27 @@ pub(crate) fn cut(buf: &mut BytesMut, start: usize, end: usize) -> Result<Option
     }
     let mut piece = buf.freeze_to(end)?;
     piece.advance(start);
+    Ok(Some(piece))
+}
+
+/// The same, but for a short run, of which a copy is handed out.
+#[inline(always)]
+fn cut_or_copy(
+    buf: &mut BytesMut,
+    start: usize,
+    end: usize,
+    room: &mut Room,
+) -> Result<Option<Bytes>, Error>
+    requires ordered { start ≤ end }
+    requires within { end ≤ length buf.old.items }
+    ensures ok { IfOk result (Cuts buf.old.items buf.new.items start end) }
+    ensures err { IfErr result (λ error. LacksRoom start end error × (buf.new ≡ buf.old)) }
+{
+    if start == end || SHORT < end - start {
+        return cut(buf, start, end);
+    }
+    let piece = room.copy(&buf.as_slice()[start..end])?;
+    buf.advance(end);
     Ok(Some(piece))
 }
 

@@ -28,7 +28,7 @@ use Rattle.h1_client.specs.declared.keeping.Keepalive.{Keepalive}
 use Rattle.h1_client.specs.declared.keeping.Keepalive.TheVariants.{Off, On}
 use Rattle.h1_client.specs.declared.settings.Settings.{Settings}
 use Rattle.h1_client.proofs.HoldsLemmas.{holds_moves, holds_takes}
-use Rattle.h1_client.proofs.ExchangeLemmas.{head_of_and}
+use Rattle.h1_client.proofs.ExchangeLemmas.{head_of_and, no_bytes}
 use Rattle.h1_client.proofs.SoundLemmas.{sound_new, sound_takes, sound_keeps, sound_sends, sound_reads, sound_ends}
 use Rattle.h1_client.proofs.WrittenLemmas.{writes_piece, writes_end, writes_short}
 
@@ -379,6 +379,35 @@ sound_reuse {L} state t asked answered k settings payload_read spent sound is =
 none_of : {T : Type 0} (told : Option T) → is_none told ≡ true → told ≡ None
 none_of None is = refl
 none_of (Some value) is = absurd (false≢true is)
+
+-- nothing is received of a session that may be used again
+pub unreceived : {L : Type 0} (t : TransferView L) (asked : Asked) (answered : Answered)
+    (k : Keepalive) (settings : Settings) (payload_read : ℕ) (spent : Bool)
+    → is_reusable (record {
+      transfer = t;
+      asked = asked;
+      answered = answered;
+      keepalive = k;
+      settings = settings;
+      payload_read = payload_read;
+      spent = spent;
+    }) ≡ true
+    → t.received ≡ []
+unreceived {L} t asked answered k settings payload_read spent is =
+    let s : ClientView L = record {
+      transfer = t;
+      asked = asked;
+      answered = answered;
+      keepalive = k;
+      settings = settings;
+      payload_read = payload_read;
+      spent = spent;
+    } in
+    let both = is_some asked.request && is_some (final_of answered.last) in
+    let read = is_at_end t.body.reader in
+    let whole = (head_of_and (is_on k) (is_exchanged s) is).1 in
+    no_bytes t.received
+    (head_of_and (both && is_sent t.outgoing && read) (is_nothing t.received) whole).1
 
 -- no write of a session that may be used again was refused
 pub unrefused : {L : Type 0} (t : TransferView L) (asked : Asked) (answered : Answered)

@@ -219,7 +219,7 @@ head_of_and true true is = (refl, refl)
 head_of_and true false is = absurd (false≢true is)
 head_of_and false b is = absurd (false≢true is)
 
-no_bytes : (bytes : List ℕ) → is_nothing bytes ≡ true → bytes ≡ []
+pub no_bytes : (bytes : List ℕ) → is_nothing bytes ≡ true → bytes ≡ []
 no_bytes [] is = refl
 no_bytes (b ∷ bytes) is = absurd (false≢true is)
 

@@ -1,10 +1,11 @@
 -- Lemmas on which idle link is handed out.
-use Rattle.std.proofs.Common.{◌≡◌, ℕ, ◌+◌, ◌-◌, ◌^◌, ◌<◌, min, List, [], ◌∷◌, ◌++◌, length, Some, None, refl, sym, ap, ◌∙◌, arith, append_assoc, append-nil, length-append}
+use Rattle.std.proofs.Common.{◌≡◌, ℕ, ◌+◌, ◌-◌, ◌^◌, ◌<◌, min, List, [], ◌∷◌, ◌++◌, length, Option, Some, None, refl, sym, ap, subst, ◌∙◌, arith, append_assoc, append-nil, length-append}
 use Rattle.std.specs.Prelude.{unwrap_or}
 use Rattle.std.proofs.lemmas.Option.{none-some}
 use Rattle.h1_link.specs.LinkState.{LinkState}
 use Rattle.h1_client.specs.Idle.{IdleView, is_past}
-use Rattle.h1_client.specs.Picking.{Look, AllGone, Picks, idles, unasked, all_unasked, fresh_of}
+use Rattle.h1_client.specs.Getting.{IsFoundFresh}
+use Rattle.h1_client.specs.Picking.{Look, AllGone, Picked, Picks, idles, unasked, all_unasked, fresh_of}
 use Rattle.h1_client.specs.Pool.{under, StandsBeside, TakesLatest}
 use Rattle.h1_client.specs.Probing.{Probes}
 use Rattle.h1_client.specs.declared.idle.Probe.{Probe}
@@ -111,3 +112,13 @@ fewer key old new idle takes =
     let len : length (under key old) ≡ length (under key new) + 1 =
     ap (λ xs. length xs) takes.0 ∙ length-append (under key new) (idle ∷ []) in
     omega arith
+
+-- a link that is handed out was found fresh in that call
+pub found_fresh : {L : Type 0} (state : L → LinkState) (key now : ℕ) (old new : Pool L)
+    (answer : Option (IdleView L)) (bytes : ℕ) (idle : IdleView L) (link : L)
+    → Picks state key now old new answer bytes → answer ≡ Some idle → link ≡ idle.link
+    → IsFoundFresh state now link
+found_fresh {L} state key now old new answer bytes idle link picks is at =
+    let picked : Picked state key now old new picks.gone (Some idle) =
+    subst (λ (a : Option (IdleView L)). Picked state key now old new picks.gone a) is picks.picked in
+    record { before = picked.0; found = idle; is = sym at; probes = picked.2 }

@@ -58,6 +58,8 @@ pub record IsNewSession {L : Type 0} (over : L) (said : Settings) (new : ClientV
   pub transfer : IsNewTransfer over new.transfer
   pub request : new.asked.request ≡ None
   pub in_time : new.asked.late ≡ None
+  -- no wait began
+  pub unwaited : new.asked.since ≡ None
   pub response : new.answered.last ≡ None
   pub unrefused : new.answered.refused ≡ None
   pub keepalive : new.keepalive ≡ Off

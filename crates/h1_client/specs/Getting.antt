@@ -1,5 +1,5 @@
 -- What asking for a session with a peer answers, and what releasing one does.
-use Rattle.std.specs.Prelude.{◌≡◌, Bool, true, false, Result, Ok, Err}
+use Rattle.std.specs.Prelude.{◌≡◌, ℕ, Bool, true, false, Result, Ok, Err}
 use Rattle.futures.specs.declared.task.Poll.{Poll}
 use Rattle.futures.specs.declared.task.Poll.TheVariants.{Pending, Ready}
 use Rattle.h1_error.specs.declared.error.ConnectFault.TheVariants.{DialFailed}
@@ -9,18 +9,14 @@ use Rattle.h1_error.specs.declared.error.ErrorType.TheVariants as kind
 use Rattle.h1_link.specs.Counts.{Rose}
 use Rattle.h1_link.specs.DialerState.{DialerState}
 use Rattle.h1_link.specs.LinkState.{LinkState, IsFresh}
-use Rattle.h1_client.specs.ClientView.{ClientView, IsNewSession, request_of, response_of}
-use Rattle.h1_client.specs.Keeping.{keep_of}
-use Rattle.h1_client.specs.Reusing.{is_overread, is_reusable}
+use Rattle.h1_client.specs.ClientView.{ClientView, IsNewSession}
+use Rattle.h1_client.specs.Idle.{IdleView, is_past}
+use Rattle.h1_client.specs.Probing.{Probes}
+use Rattle.h1_client.specs.Reusing.{is_reusable, respected}
 use Rattle.h1_client.specs.Served.{IsServed}
-use Rattle.h1_client.specs.Settings.{new_settings}
+use Rattle.h1_client.specs.Settings.{peer_settings}
+use Rattle.h1_client.specs.declared.idle.Probe.TheVariants.{Fresh}
 use Rattle.h1_client.specs.declared.settings.Peer.{Peer}
-use Rattle.h1_client.specs.declared.settings.Settings.{Settings}
-
--- a session is set so at first
-abbrev pub peer_settings : Peer → Settings
-peer_settings peer =
-    record new_settings { tolerant = peer.allow_h1_response_invalid_content_length }
 
 -- a new session with this peer
 abbrev pub IsNewWith : {L : Type 0} → Peer → ClientView L → Type 0
@@ -33,6 +29,23 @@ IsReused state peer session = IsNewWith peer session × IsServed (state session.
 -- over a link that was dialled just now
 abbrev pub IsDialled : {L : Type 0} → (L → LinkState) → Peer → ClientView L → Type 0
 IsDialled state peer session = IsNewWith peer session × IsFresh (state session.transfer.link)
+
+-- a look found this link fresh at this moment: its deadline wasn't reached, and a read of one byte was
+-- not ready
+pub record IsFoundFresh {L : Type 0} (state : L → LinkState) (now : ℕ) (link : L) : Type 0 where
+  pub before : IdleView L
+  pub found : IdleView L
+  pub is : found.link ≡ link
+  pub probes : Probes state before (Fresh found) (is_past before.deadline now)
+
+-- a link that was used before was looked at in this call
+abbrev pub IsLookedAt : {L : Type 0} → (L → LinkState) → ℕ
+    → Poll (Result (ClientView L × Bool) Error) → Type 0
+IsLookedAt state now (Ready (Ok (session, true))) =
+    IsFoundFresh state now session.transfer.link
+IsLookedAt state now (Ready (Ok (session, false))) = Unit {0}
+IsLookedAt state now (Ready (Err error)) = Unit {0}
+IsLookedAt state now Pending = Unit {0}
 
 -- when each refusal comes
 abbrev pub GetRefusal : DialerState → DialerState → ErrorType → Type 0
@@ -51,13 +64,6 @@ GetAnswer state dials peer before now (Ready (Err error)) =
     GetRefusal (dials before) (dials now) error.kind × (error.retry ≡ false)
 GetAnswer state dials peer before now Pending =
     Rose (dials before).dial_waits (dials now).dial_waits
-
--- the session once keep-alive was respected
-abbrev pub respected : {L : Type 0} → ClientView L → ClientView L
-respected s = record s {
-  keepalive = keep_of (request_of s) (response_of s)
-      (is_overread s.transfer.body.reader s.transfer.received);
-}
 
 -- the link of a session is to stand idle
 abbrev pub is_kept : {L : Type 0} → ClientView L → Bool

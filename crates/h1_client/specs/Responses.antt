@@ -1,24 +1,20 @@
 -- Which response is the final one, and how its body ends (RFC 9110, sections 7.8 and 15.2; RFC 9112,
 -- section 6.3).
-use Rattle.std.specs.Prelude.{ℕ, Bool, true, false, ◌&&◌, ◌==◌, not, List, [], ◌∷◌, codes, Option, Some, None, if◌then◌else◌}
+use Rattle.std.specs.Prelude.{ℕ, Bool, true, false, ◌&&◌, not, List, [], ◌∷◌, codes, Option, Some, None, if◌then◌else◌}
 use Rattle.std.specs.List.{list_any}
 use Rattle.h1_body.specs.Framing.{is_head, response_framing}
 use Rattle.h1_fields.specs.ContentLength.{content_length}
-use Rattle.h1_fields.specs.Lines.{Line, first_value, has_line, values_of}
+use Rattle.h1_fields.specs.Lines.{Line, first_value, values_of}
 use Rattle.h1_fields.specs.ListParts.{is_comma}
 use Rattle.h1_fields.specs.declared.content_length.ContentLength.{ContentLength}
 use Rattle.h1_fields.specs.declared.content_length.ContentLength.TheVariants as stated
-use Rattle.h1_head.specs.Versions.{is_http_11}
+use Rattle.h1_head.specs.Upgrade.{asks_upgrade, is_switch}
 use Rattle.h1_client.specs.Words.{RequestView, ResponseView, ResponseHead, Framing, Counted, is_interim}
 
 -- the final response, once its head was the last that was read
 abbrev pub final_of : Option ResponseHead → Option ResponseView
 final_of None = None
 final_of (Some last) = if is_interim last.header.status then None else Some last.header
-
--- the request asks for another protocol
-abbrev pub asks_upgrade : RequestView → Bool
-asks_upgrade request = is_http_11 request.version && has_line (codes "Upgrade") request.fields
 
 -- how the body of a response to this request ends; an interim one has none
 abbrev pub framing_to : RequestView → ResponseView → Framing
@@ -56,4 +52,4 @@ wishes_upgrade (Some request) = asks_upgrade request
 -- the final response changes the protocol
 abbrev pub is_upgraded : Option ResponseView → Bool
 is_upgraded None = false
-is_upgraded (Some said) = said.status == 101 && is_http_11 said.version
+is_upgraded (Some said) = is_switch said

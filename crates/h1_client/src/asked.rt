@@ -4,12 +4,12 @@ ghost use Rattle.h1_client.specs.Asking.{IsAskStep, JudgesAsk, PutsHead, TakesUp
 ghost use Rattle.h1_transfer.specs.Deadline.{went_so};
 
 use crate::framing::request_framing;
-use crate::response_place::ResponsePlace;
 use futures::task::Poll;
 use h1_error::{Error, ErrorType, HeadFault};
 use h1_head::{HeadBuffer, RequestHeader, push_request_head};
 use h1_link::Link;
 use h1_transfer::{CALL_BUDGET, Deadline, Transfer, Went};
+use std::mem;
 
 /// The request that a session asks with.
 #[derive(Drop)]
@@ -36,29 +36,26 @@ impl Asked {
         }
     }
 
-    /// Takes up the head that is handed in, whose bytes are put together in the buffer that the
-    /// session before left. Where it can't be written all stays as it is.
+    /// Takes up the head that is handed in. Where it can't be written all stays as it is.
     pub fn take_up<L: Link + Drop>(
         &mut self,
         transfer: &mut Transfer<L>,
-        place: &mut ResponsePlace,
         head: &mut Option<RequestHeader>,
     ) -> Result<(), Error>
         requires at { IsAskStep head.old self.old.request transfer.old.outgoing.step }
         requires unrefused { transfer.old.outgoing.refused ≡ None }
         ensures takes { TakesUp transfer.old transfer.new self.old self.new head.old head.new
             result }
-        ensures place { place.new ≡ place.old }
     {
         let Some(asking) = head else {
             return Ok(());
         };
-        let mut bytes = place.buffer_for(transfer.head_buffer());
+        let mut bytes = transfer.head_buffer();
         put_head(asking, &mut bytes)?;
         let framing = request_framing(asking);
         self.length = bytes.len();
         transfer.take_up_head(bytes, framing);
-        self.request = head.take();
+        mem::swap(&mut self.request, head);
         Ok(())
     }
 

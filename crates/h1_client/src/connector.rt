@@ -23,7 +23,7 @@ pub struct Connector<L: Link + Drop> {
 }
 
 impl<L: Link + Drop> Connector<L> {
-    ghost use Rattle.h1_client.specs.Getting.{GetAnswer, IsReused, is_kept};
+    ghost use Rattle.h1_client.specs.Getting.{GetAnswer, IsFoundFresh, IsLookedAt, IsReused, is_kept};
 
     /// A connector with no link.
     pub fn new(alloc: Global) -> Result<Self, Error>
@@ -47,6 +47,7 @@ impl<L: Link + Drop> Connector<L> {
         now: u64,
     ) -> Poll<Result<(v1::HttpSession<L>, bool), Error>>
         ensures answer { GetAnswer L.state D.state peer.now dialer.old dialer.new result }
+        ensures looked { IsLookedAt L.state now result }
         ensures plan { D.same_plan dialer.old dialer.new }
     {
         if let Some(session) = self.reused_http_session(rt, peer, now) {
@@ -73,7 +74,9 @@ impl<L: Link + Drop> Connector<L> {
         peer: &Peer,
         now: u64,
     ) -> Option<v1::HttpSession<L>>
-        ensures { IfSome result (IsReused L.state peer.now) }
+        ensures reused { IfSome result (IsReused L.state peer.now) }
+        ensures looked { IfSome result
+            (λ session. IsFoundFresh L.state now session.transfer.link) }
     {
         let pick = self.pool.lock(rt).pick_idle(peer.key, now);
         self.unexpected.fetch_add(pick.unasked, Ordering::SeqCst);
@@ -104,12 +107,13 @@ impl<L: Link + Drop> Connector<L> {
         Ok(true)
     }
 
-    /// How many idle links had a byte that no request asked for.
+    /// How many idle links had a byte that no request asked for. It has no clause: contracts see
+    /// nothing of what atomic numbers hold.
     pub fn unexpected_data_connection_count(&self) -> u64 {
         self.unexpected.load(Ordering::SeqCst)
     }
 
-    /// The counter of those links, which more than one owner may read.
+    /// The counter of those links, which more than one owner may read. It has no clause either.
     pub fn unexpected_data_connection_counter(&self) -> &Arc<AtomicU64> {
         &self.unexpected
     }

@@ -4,22 +4,15 @@ ghost use Rattle.std.specs.Prelude.{◌≡◌, codes};
 ghost use Rattle.h1_body.specs.Framing.{framing};
 ghost use Rattle.h1_body.specs.Reader.{is_until_close};
 ghost use Rattle.h1_fields.specs.Lines.{values_of};
-ghost use Rattle.h1_client.specs.Responses.{asks_upgrade, framing_to, has_bad_length, is_single};
+ghost use Rattle.h1_client.specs.Responses.{framing_to, has_bad_length, is_single};
 ghost use Rattle.h1_client.specs.Written.{FitsRequest};
 
 use h1_body::{Framing, framing_of, is_head_only, response_framing};
 use h1_fields::{ContentLength, Fields};
-use h1_head::{RequestHeader, ResponseHeader, is_interim};
-use http::Version;
-
-/// Whether the request asks for another protocol.
-pub(crate) fn asks_upgrade(request: &RequestHeader) -> bool
-    ensures { result ≡ asks_upgrade request.now }
-{
-    request.version() == Version::HTTP_11 && request.fields().contains(b"Upgrade")
-}
+use h1_head::{RequestHeader, ResponseHeader, is_interim, is_upgrade_req};
 
 /// How the body of a response to this request ends.
+#[inline(always)]
 pub(crate) fn framing_to(request: &RequestHeader, said: &ResponseHeader) -> Framing
     ensures { result ≡ framing_to request.now said.now }
 {
@@ -27,7 +20,7 @@ pub(crate) fn framing_to(request: &RequestHeader, said: &ResponseHeader) -> Fram
         return Framing::Counted(0);
     }
     // The lines of the request are looked through for that status alone.
-    let upgrade = said.status() == 101 && asks_upgrade(request);
+    let upgrade = said.status() == 101 && is_upgrade_req(request);
     response_framing(is_head_only(request.method()), upgrade, said)
 }
 

@@ -48,7 +48,7 @@ pub enum Probe<L: Link + Drop> {
 
 impl<L: Link + Drop> IdleLink<L> {
     ghost use Rattle.h1_client.specs.ClientView.{IsNewSession};
-    ghost use Rattle.h1_client.specs.Getting.{peer_settings};
+    ghost use Rattle.h1_client.specs.Settings.{peer_settings};
     ghost use Rattle.h1_client.specs.Probing.{Probes, link_of};
     ghost use Rattle.h1_client.specs.Reusing.{is_reusable};
 
@@ -67,13 +67,16 @@ impl<L: Link + Drop> IdleLink<L> {
         }) }
     {
         let deadline = deadline_of(now, idle_timeout, session.keepalive());
+        let kept = session.is_reusable();
         let mut session = session;
-        if !session.is_reusable() {
-            session.shutdown();
+        if kept {
+            session.leave();
+        }
+        let (mut link, place) = session.into_parts();
+        if !kept {
+            link.shutdown();
             return None;
         }
-        session.leave();
-        let (link, place) = session.into_parts();
         Some(IdleLink {
             link,
             deadline,

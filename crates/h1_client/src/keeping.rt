@@ -1,13 +1,15 @@
 //! Whether a link may serve the next request (RFC 9112, section 9.3).
 ghost use Rattle.std.specs.Prelude.{◌≡◌};
 ghost use Rattle.h1_head.specs.Versions.{is_http_10};
+ghost use Rattle.h1_body.specs.Reader.{is_until_close};
 ghost use Rattle.h1_client.specs.Keeping.{keep_by, keep_of};
-ghost use Rattle.h1_client.specs.Responses.{final_of};
+ghost use Rattle.h1_client.specs.Responses.{final_of, framing_to};
 ghost use Rattle.h1_client.specs.Reusing.{is_on};
 
 use crate::framing::{framing_to, is_until_close};
 use crate::idle_time::stated_timeout;
 use crate::response_place::ResponsePlace;
+use h1_fields::ContentLength;
 use h1_head::{RequestHeader, ResponseHeader, is_interim};
 use http::Version;
 
@@ -38,7 +40,7 @@ fn keep_by(request: &RequestHeader, said: &ResponseHeader, overread: bool) -> Ke
     if said.status() == 101 {
         return Keepalive::Off;
     }
-    if is_until_close(framing_to(request, said)) {
+    if ends_with_link(request, said) {
         return Keepalive::Off;
     }
     if overread {
@@ -74,6 +76,18 @@ pub(crate) fn keep_of(
         return Keepalive::Off;
     }
     keep_by(request, &last.header, overread)
+}
+
+/// Whether the body of this response ends where the link does.
+#[inline(always)]
+fn ends_with_link(request: &RequestHeader, said: &ResponseHeader) -> bool
+    ensures { result ≡ is_until_close (framing_to request.now said.now) }
+{
+    // A length that is stated ends the body, unless the protocol changes.
+    match said.fields().content_length() {
+        ContentLength::Number(_) if said.status() != 101 => false,
+        _ => is_until_close(framing_to(request, said)),
+    }
 }
 
 fn is_http_10(version: Version) -> bool

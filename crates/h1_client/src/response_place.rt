@@ -2,17 +2,15 @@
 ghost use Rattle.std.specs.Prelude.{◌≡◌, [], IsOkUnless, IsSome, None, OnOk, option_map};
 ghost use Rattle.h1_error.specs.Memory.{no_memory};
 ghost use Rattle.h1_client.specs.Reading.{IsPlaceOf};
-ghost use Rattle.h1_client.specs.Words.{NotYetAt, RefusedAt};
+ghost use Rattle.h1_client.specs.Words.{Free, NotYetAt, RefusedAt};
 
 use crate::spare::{MOST_KEPT, Spare};
-use bytes::BytesMut;
 use h1_error::Error;
-use h1_head::{HeadBuffer, HeadSearch, ResponseHead, Room};
+use h1_head::{HeadSearch, ResponseHead, Room};
 use h1_link::Link;
 use h1_transfer::{Head, HeadFound, Transfer};
 use std::alloc::Global;
 use std::marker::Model;
-use std::mem;
 
 /// The place that the head of a response is read into, with what else a session leaves for the next
 /// one over its link. Contracts see the head.
@@ -62,63 +60,38 @@ impl ResponsePlace {
         Ok(())
     }
 
-    /// Hands out a buffer for the head of a request, with nothing in it: this one, or that of the
-    /// session before.
+    /// Takes the memory of a session's transfer for the next one, or gives it that of the session
+    /// before.
     #[inline(always)]
-    pub fn buffer_for(&mut self, fresh: HeadBuffer) -> HeadBuffer
-        ensures empty { result ≡ [] }
-        ensures same { self.new ≡ self.old }
+    pub fn swap_memory<L: Link + Drop>(&mut self, transfer: &mut Transfer<L>)
+        requires received { transfer.old.received ≡ [] }
+        requires free { transfer.old.outgoing.step ≡ Free }
+        requires unrefused { transfer.old.outgoing.refused ≡ None }
+        ensures place { self.new ≡ self.old }
+        ensures transfer { transfer.new ≡ transfer.old }
     {
-        let mut buffer = match &mut self.spare {
-            Some(spare) => mem::replace(&mut spare.buffer, fresh),
-            None => fresh,
-        };
-        buffer.clear();
-        buffer
+        if let Some(spare) = &mut self.spare {
+            transfer.swap_memory(&mut spare.memory);
+        }
     }
 
-    /// Takes what a session leaves for the next one.
-    #[inline(always)]
-    pub fn keep(&mut self, room: Room, buffer: HeadBuffer)
+    /// Lets go of a large block that the session received bytes in.
+    #[cold]
+    #[inline(never)]
+    pub fn let_go_of_large(&mut self)
         ensures { self.new ≡ self.old }
     {
         if let Some(spare) = &mut self.spare {
-            spare.room = room;
-            spare.buffer = buffer;
+            spare.memory.let_go_above(MOST_KEPT);
         }
     }
 
-    /// Takes the block that a session received bytes in, unless it is large. None of the bytes
-    /// stays.
+    /// Leaves nothing for the next session, unless the heads were small. It has no clause:
+    /// contracts see nothing of what a session leaves.
     #[inline(always)]
-    pub fn keep_block(&mut self, received: BytesMut) {
-        if let Some(spare) = &mut self.spare {
-            spare.received = received;
-            spare.received.clear();
-            if spare.received.try_reclaim(MOST_KEPT + 1) {
-                spare.received = BytesMut::new(*spare.received.allocator());
-            }
-        }
-    }
-
-    /// Leaves nothing for the next session.
-    #[cold]
-    #[inline(never)]
-    pub fn let_go(&mut self) {
-        self.spare = None;
-    }
-
-    /// Gives a new session's transfer what the session before left for it.
-    #[inline(always)]
-    pub fn lend<L: Link + Drop>(&mut self, alloc: Global, transfer: &mut Transfer<L>)
-        requires { transfer.old.received ≡ [] }
-        ensures { transfer.new ≡ transfer.old }
-    {
-        if let Some(spare) = &mut self.spare {
-            let mut received = mem::replace(&mut spare.received, BytesMut::new(alloc));
-            received.clear();
-            transfer.set_received(received);
-            transfer.put_room(mem::replace(&mut spare.room, Room::new(alloc)));
+    pub fn leave_small(&mut self, small: bool) {
+        if !small {
+            self.spare = None;
         }
     }
 }
@@ -138,6 +111,10 @@ impl Head for ResponsePlace {
         room: &mut Room,
         found: &mut Self,
     ) -> Result<HeadFound, Error> {
+        // Before the first byte there is nothing to look at.
+        if bytes.is_empty() {
+            return Ok(HeadFound::NotYet);
+        }
         found.open(alloc)?;
         match &mut found.spare {
             Some(spare) => spare.look(alloc, search, bytes, room),

@@ -4,10 +4,10 @@ ghost use Rattle.h1_error.specs.Memory.{no_memory};
 ghost use Rattle.h1_transfer.specs.Heads.{FoundIn};
 ghost use Rattle.h1_client.specs.Words.{HasLooked, IsWholeAt, MAX_HEADER_SIZE, NotYetAt, RefusedAt};
 
-use bytes::BytesMut;
 use h1_error::Error;
-use h1_head::{HeadBuffer, HeadSearch, ResponseFound, ResponseHead, Room, search_response_head};
-use h1_transfer::HeadFound;
+use h1_head::{FEW_HEADERS, HeadSearch, ResponseFound, ResponseHead, Room, search_response_head};
+use h1_transfer::{HeadFound, Memory};
+use httparse::spans::{EMPTY_HEADER_SPAN, HeaderSpan};
 use std::alloc::Global;
 
 /// So many bytes has a block at most that the next session takes, and a head whose block it takes.
@@ -19,23 +19,20 @@ pub(crate) const MOST_KEPT: usize = 16_384;
 pub(crate) struct Spare {
     /// The head of the response, whose memory the next one takes.
     pub head: ResponseHead,
-    /// The block that bytes are received in, while the link stands idle.
-    pub received: BytesMut,
-    /// The room for small pieces of bytes, while the link stands idle.
-    pub room: Room,
-    /// The buffer of the request's head, until a request is taken up.
-    pub buffer: HeadBuffer,
+    /// Where the lines of the head lie, while it is read.
+    pub spans: [HeaderSpan; FEW_HEADERS],
+    /// The memory of the transfer, while the link stands idle.
+    pub memory: Memory,
 }
 
 impl Spare {
-    /// Takes no memory.
+    /// Takes no memory. It has no clause: contracts see nothing of what a session leaves.
     #[inline(always)]
     pub fn new(alloc: Global) -> Self {
         Spare {
             head: ResponseHead::new(alloc),
-            received: BytesMut::new(alloc),
-            room: Room::new(alloc),
-            buffer: HeadBuffer::new(alloc),
+            spans: [EMPTY_HEADER_SPAN; FEW_HEADERS],
+            memory: Memory::new(alloc),
         }
     }
 
@@ -53,7 +50,7 @@ impl Spare {
         ensures err { IsOkUnless result no_memory }
         ensures looked { HasLooked MAX_HEADER_SIZE search.new bytes.now }
     {
-        match search_response_head(alloc, search, bytes, room, &mut self.head)? {
+        match search_response_head(alloc, search, bytes, room, &mut self.spans, &mut self.head)? {
             ResponseFound::Whole(used) => Ok(HeadFound::Whole(used)),
             ResponseFound::NotYet => Ok(HeadFound::NotYet),
             ResponseFound::Refused(fault) => Ok(HeadFound::Refused(fault)),

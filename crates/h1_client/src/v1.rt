@@ -86,7 +86,7 @@ impl<L: Link + Drop> HttpSession<L> {
     {
         let mut place = place;
         let mut transfer = Transfer::new(alloc, link);
-        place.lend(alloc, &mut transfer);
+        place.swap_memory(&mut transfer);
         HttpSession {
             transfer,
             asked: Asked::new(),

@@ -1,7 +1,7 @@
 //! Exchanges over one link, one behind the other.
 use crate::flow::Flow;
-use crate::turns::{ask, finish, read_piece, read_response};
 use futures::task::Poll;
+use h1_asking::{ask, finish, read_piece, read_response};
 use h1_client::v1::HttpSession;
 use h1_client::{IdleLink, Peer};
 use h1_error::Error;
@@ -24,17 +24,17 @@ fn request(alloc: Global) -> Result<RequestHeader, Error> {
 fn exchange(session: &mut HttpSession<Flow>, head: RequestHeader) -> usize {
     let mut head = Some(head);
     for _ in 0..MOST_POLLS {
-        if let Poll::Ready(_) = ask(session, &mut head) {
+        if let Poll::Ready(_) = ask(session, &mut head, 0) {
             break;
         }
     }
     for _ in 0..MOST_POLLS {
-        if let Poll::Ready(_) = finish(session) {
+        if let Poll::Ready(_) = finish(session, 0) {
             break;
         }
     }
     for _ in 0..MOST_POLLS {
-        if let Poll::Ready(_) = read_response(session) {
+        if let Poll::Ready(_) = read_response(session, 0) {
             break;
         }
     }
@@ -45,7 +45,7 @@ fn exchange(session: &mut HttpSession<Flow>, head: RequestHeader) -> usize {
 fn body_len(session: &mut HttpSession<Flow>) -> usize {
     let mut length = 0usize;
     for _ in 0..MOST_POLLS {
-        match read_piece(session) {
+        match read_piece(session, 0) {
             Poll::Ready(Ok(Some(piece))) => length = length.saturating_add(piece.len()),
             Poll::Ready(_) => break,
             Poll::Pending => {}

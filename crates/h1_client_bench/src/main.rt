@@ -12,7 +12,6 @@
 mod asking;
 mod flow;
 mod response;
-mod turns;
 
 use asking::ask_often;
 use response::response;

@@ -7,21 +7,21 @@ use Rattle.h1_link.specs.DialerState.{DialerState}
 use Rattle.h1_link.specs.LinkState.{LinkState}
 use Rattle.h1_link.specs.SinkState.{SinkState}
 use Rattle.h1_link.proofs.Laters.{append_known-on, append_known-nil}
-use Rattle.h1_head.specs.Views.{RequestView}
 use Rattle.h1_client.specs.declared.settings.Peer.{Peer}
-use Rattle.h1_fetch.specs.Fetching.{Fetches, FetchFault}
+use Rattle.h1_asking.specs.Fetching.{Fetches, FetchFault}
 use Rattle.h1_fetch.specs.Getting.{Came, Gets, GetCause, Stops, response_line, response_lines, links_line, one_if, reused_of, dialled_of}
+use Rattle.h1_fetch.specs.Request.{Request}
 use Rattle.h1_fetch.specs.Output.{Wrote}
 use Rattle.h1_fetch.specs.Telling.{DoneCause, GivesUp, TellCause, ToldFault}
-use Rattle.h1_fetch.specs.declared.fetching.Fault.{Fault}
-use Rattle.h1_fetch.specs.declared.fetching.Fault.TheVariants as fault
-use Rattle.h1_fetch.specs.declared.fetching.Fetched.{Fetched}
+use Rattle.h1_asking.specs.declared.fetching.Fault.{Fault}
+use Rattle.h1_asking.specs.declared.fetching.Fault.TheVariants as fault
+use Rattle.h1_asking.specs.declared.fetching.Fetched.{Fetched}
 use Rattle.h1_fetch.specs.declared.status.Status.{Status}
 use Rattle.h1_fetch.specs.declared.status.Status.TheVariants as status
 
 -- what holds while responses come: so many came, and so many of them over links that served before
 pub record GetsSoFar {L D : Type 0} (state : L → LinkState) (dials : D → DialerState) (peer : Peer)
-    (request : RequestView) (count reused : ℕ) (sink sink' : SinkState) (dialer dialer' : D)
+    (request : Request) (count reused : ℕ) (sink sink' : SinkState) (dialer dialer' : D)
     : Type 0 where
   pub gets : Gets state dials peer request count sink sink' dialer dialer'
   pub counted : reused ≡ reused_of gets.all
@@ -60,17 +60,17 @@ links_of [] = refl
 links_of (fetched ∷ more) = omega (arith, links_of more, one_of fetched.is_reused)
 
 came_more : {L D : Type 0} (state : L → LinkState) (dials : D → DialerState) (peer : Peer)
-    (request : RequestView) (before now behind : D) (all : List Fetched) (one : Fetched)
-    → Came state dials peer request before all now → Fetches state dials peer request now behind one
+    (request : Request) (before now behind : D) (all : List Fetched) (one : Fetched)
+    → Came state dials peer request before all now → Fetches state dials peer request.head request.body now behind one
     → Came state dials peer request before (all ++ one ∷ []) behind
 came_more state dials peer request before now behind [] one came is =
-    (behind, subst (λ d. Fetches state dials peer request d behind one) came is, refl)
+    (behind, subst (λ d. Fetches state dials peer request.head request.body d behind one) came is, refl)
 came_more state dials peer request before now behind (fetched ∷ more) one came is =
     (came.0, came.1, came_more state dials peer request came.0 now behind more one came.2 is)
 
 -- no response came yet
 pub gets_none : {L D : Type 0} (state : L → LinkState) (dials : D → DialerState) (peer : Peer)
-    (request : RequestView) (sink : SinkState) (dialer : D)
+    (request : Request) (sink : SinkState) (dialer : D)
     → GetsSoFar state dials peer request 0 0 sink sink dialer dialer
 gets_none state dials peer request sink dialer = record {
   gets = record {
@@ -78,16 +78,17 @@ gets_none state dials peer request sink dialer = record {
     many = refl;
     came = refl;
     took = record { taken = sym (append_known-nil sink.taken); faults = refl };
+    flushed = λ some. absurd (omega (arith, some));
   };
   counted = refl;
 }
 
 -- one response more, whose line was written
 pub gets_more : {L D : Type 0} (state : L → LinkState) (dials : D → DialerState) (peer : Peer)
-    (request : RequestView) (number reused after : ℕ) (sink sink' sink'' : SinkState)
+    (request : Request) (number reused after : ℕ) (sink sink' sink'' : SinkState)
     (dialer dialer' dialer'' : D) (one : Fetched)
     → GetsSoFar state dials peer request number reused sink sink' dialer dialer'
-    → Fetches state dials peer request dialer' dialer'' one
+    → Fetches state dials peer request.head request.body dialer' dialer'' one
     → Wrote sink' sink'' (response_line number one) → after ≡ reused + one_if one.is_reused
     → GetsSoFar state dials peer request (number + 1) after sink sink'' dialer dialer''
 gets_more state dials peer request number reused after sink sink' sink'' dialer dialer' dialer'' one
@@ -107,6 +108,7 @@ gets_more state dials peer request number reused after sink sink' sink'' dialer 
               ∙ ap (append_known sink.taken) (sym (lines_more 0 all one));
           faults = wrote.took.faults ∙ far.gets.took.faults;
         };
+        flushed = λ some. wrote.flushed;
       };
       counted = counted ∙ ap (λ n. n + one_if one.is_reused) far.counted
           ∙ sym (reused_more all one);
@@ -114,7 +116,7 @@ gets_more state dials peer request number reused after sink sink' sink'' dialer 
 
 -- no more links served before than responses came
 pub reused_few : {L D : Type 0} (state : L → LinkState) (dials : D → DialerState) (peer : Peer)
-    (request : RequestView) (number reused : ℕ) (sink sink' : SinkState) (dialer dialer' : D)
+    (request : Request) (number reused : ℕ) (sink sink' : SinkState) (dialer dialer' : D)
     → GetsSoFar state dials peer request number reused sink sink' dialer dialer' → reused ≤ number
 reused_few state dials peer request number reused sink sink' dialer dialer' far =
     omega (arith, far.counted, far.gets.many, links_of far.gets.all)
@@ -124,7 +126,7 @@ rose_behind before now then same rose = subst (λ n. Rose n then) same rose
 
 -- the cause of the status where a line isn't written whole
 pub tell_cause : {L D : Type 0} (state : L → LinkState) (dials : D → DialerState) (peer : Peer)
-    (request : RequestView) (count : ℕ) (sink sink' sink'' messages messages' : SinkState)
+    (request : Request) (count : ℕ) (sink sink' sink'' messages messages' : SinkState)
     (dialer dialer' : D) (answer : Status) → sink'.faults ≡ sink.faults
     → TellCause sink' sink'' answer
     → GetCause state dials peer request count sink sink'' messages messages' dialer dialer' answer
@@ -147,7 +149,7 @@ tell_cause state dials peer request count sink sink' sink'' messages messages' d
 
 -- the cause of the status once the last line was handed to the sink
 pub done_cause : {L D : Type 0} (state : L → LinkState) (dials : D → DialerState) (peer : Peer)
-    (request : RequestView) (count dialled reused : ℕ) (sink sink' sink'' messages : SinkState)
+    (request : Request) (count dialled reused : ℕ) (sink sink' sink'' messages : SinkState)
     (dialer dialer' : D) (answer : Status)
     → GetsSoFar state dials peer request count reused sink sink' dialer dialer'
     → dialled + reused ≡ count → DoneCause sink' sink'' (links_line dialled reused) answer
@@ -194,7 +196,7 @@ done_cause state dials peer request count dialled reused sink sink' sink'' messa
 
 -- a request has no response
 stopped : {L D : Type 0} (state : L → LinkState) (dials : D → DialerState) (peer : Peer)
-    (request : RequestView) (count number : ℕ) (sink sink' messages messages' : SinkState)
+    (request : Request) (count number : ℕ) (sink sink' messages messages' : SinkState)
     (dialer dialer' dialer'' : D) (error : Error) (why : Fault) (said answer : Status)
     → (Stops state dials peer request count sink sink' messages messages' dialer dialer'' error why
     → GetCause state dials peer request count sink sink' messages messages' dialer dialer'' said)
@@ -218,7 +220,7 @@ stopped state dials peer request count number sink sink' messages messages' dial
 
 -- the cause of the status where the request of this number has no response
 pub gives_up : {L D : Type 0} (state : L → LinkState) (dials : D → DialerState) (peer : Peer)
-    (request : RequestView) (count number : ℕ) (sink sink' messages messages' : SinkState)
+    (request : Request) (count number : ℕ) (sink sink' messages messages' : SinkState)
     (dialer dialer' dialer'' : D) (why : Fault) (answer : Status)
     → number < count → Gets state dials peer request number sink sink' dialer dialer'
     → FetchFault state dials peer dialer' dialer'' why

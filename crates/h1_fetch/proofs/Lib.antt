@@ -1,8 +1,5 @@
 pub mod OutputLemmas
-pub mod WriteLemmas
-pub mod ReadLemmas
 pub mod GetLemmas
-pub mod FetchLemmas
 pub mod WordsLemmas
 pub mod PlayLemmas
 pub mod StepLemmas

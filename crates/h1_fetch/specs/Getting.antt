@@ -8,13 +8,13 @@ use Rattle.h1_link.specs.DialerState.{DialerState}
 use Rattle.h1_link.specs.LinkState.{LinkState}
 use Rattle.h1_link.specs.SinkState.{SinkState}
 use Rattle.h1_words.specs.Report.{end_text}
-use Rattle.h1_head.specs.Views.{RequestView}
 use Rattle.h1_client.specs.declared.settings.Peer.{Peer}
-use Rattle.h1_fetch.specs.Fetching.{Fetches, FetchFault}
+use Rattle.h1_asking.specs.Fetching.{Fetches, FetchFault}
+use Rattle.h1_fetch.specs.Request.{Request}
 use Rattle.h1_fetch.specs.Output.{Took, Wrote, WriteCause}
-use Rattle.h1_fetch.specs.declared.fetching.Fault.{Fault}
-use Rattle.h1_fetch.specs.declared.fetching.Fault.TheVariants as fault
-use Rattle.h1_fetch.specs.declared.fetching.Fetched.{Fetched}
+use Rattle.h1_asking.specs.declared.fetching.Fault.{Fault}
+use Rattle.h1_asking.specs.declared.fetching.Fault.TheVariants as fault
+use Rattle.h1_asking.specs.declared.fetching.Fetched.{Fetched}
 use Rattle.h1_fetch.specs.declared.output.Written.{Written}
 use Rattle.h1_fetch.specs.declared.status.Status.{Status}
 use Rattle.h1_fetch.specs.declared.status.Status.TheVariants as status
@@ -63,24 +63,25 @@ no_response_line number error =
     codes "response " ++ decimal number ++ codes ": " ++ end_text (end.Failed error) ++ (10 ∷ [])
 
 -- this came for the requests, one after another: each begins with the dialer as the one before left it
-abbrev pub Came : {L D : Type 0} → (L → LinkState) → (D → DialerState) → Peer → RequestView → D
+abbrev pub Came : {L D : Type 0} → (L → LinkState) → (D → DialerState) → Peer → Request → D
     → List Fetched → D → Type 0
 Came state dials peer request before [] now = now ≡ before
 Came {L} {D} state dials peer request before (fetched ∷ more) now =
-    (between : D) × Fetches state dials peer request before between fetched
+    (between : D) × Fetches state dials peer request.head request.body before between fetched
     × Came state dials peer request between more now
 
--- so many responses came, and the sink took the lines of them and nothing else
+-- so many responses came, and the sink took the lines of them and nothing else, and flushed them
 pub record Gets {L D : Type 0} (state : L → LinkState) (dials : D → DialerState) (peer : Peer)
-    (request : RequestView) (count : ℕ) (sink sink' : SinkState) (dialer dialer' : D) : Type 0 where
+    (request : Request) (count : ℕ) (sink sink' : SinkState) (dialer dialer' : D) : Type 0 where
   pub all : List Fetched
   pub many : length all ≡ count
   pub came : Came state dials peer request dialer all dialer'
   pub took : Took sink sink' (response_lines 0 all)
+  pub flushed : 0 < count → sink'.flushed ≡ true
 
 -- and the line of the links, and flushed all
 pub record GetsAll {L D : Type 0} (state : L → LinkState) (dials : D → DialerState) (peer : Peer)
-    (request : RequestView) (count : ℕ) (sink sink' : SinkState) (dialer dialer' : D) : Type 0 where
+    (request : Request) (count : ℕ) (sink sink' : SinkState) (dialer dialer' : D) : Type 0 where
   pub all : List Fetched
   pub many : length all ≡ count
   pub came : Came state dials peer request dialer all dialer'
@@ -89,7 +90,7 @@ pub record GetsAll {L D : Type 0} (state : L → LinkState) (dials : D → Diale
 
 -- for the request behind so many there is no response, and its line was written as messages
 pub record Stops {L D : Type 0} (state : L → LinkState) (dials : D → DialerState) (peer : Peer)
-    (request : RequestView) (count : ℕ) (sink sink' messages messages' : SinkState)
+    (request : Request) (count : ℕ) (sink sink' messages messages' : SinkState)
     (dialer dialer' : D) (error : Error) (why : Fault) : Type 0 where
   pub number : ℕ
   pub few : number < count
@@ -100,7 +101,7 @@ pub record Stops {L D : Type 0} (state : L → LinkState) (dials : D → DialerS
   pub told : WriteCause messages messages' (no_response_line number error) written
 
 -- the cause of each status of the task `get`, with this request and this count
-abbrev pub GetCause : {L D : Type 0} → (L → LinkState) → (D → DialerState) → Peer → RequestView → ℕ
+abbrev pub GetCause : {L D : Type 0} → (L → LinkState) → (D → DialerState) → Peer → Request → ℕ
     → SinkState → SinkState → SinkState → SinkState → D → D → Status → Type 0
 GetCause state dials peer request count sink sink' messages messages' dialer dialer' status.Done =
     GetsAll state dials peer request count sink sink' dialer dialer' × (messages' ≡ messages)

@@ -2,13 +2,10 @@ pub mod Input
 pub mod Output
 pub mod Words
 pub mod Request
-pub mod Reading
-pub mod Turns
 pub mod ScriptState
 pub mod Told
 pub mod Steps
 pub mod Playing
-pub mod Fetching
 pub mod Getting
 pub mod Telling
 pub mod Status

@@ -16,3 +16,11 @@ abbrev pub request_for : List ℕ → Option (List ℕ) → RequestView
 request_for path None = record (new_request (codes "GET") path) { fields = host_line ∷ [] }
 request_for path (Some body) =
     record (new_request (codes "POST") path) { fields = host_line ∷ length_line body ∷ [] }
+
+-- a head, and the body that is sent behind it
+pub record Request : Type 0 where
+  pub head : RequestView
+  pub body : Option (List ℕ)
+
+abbrev pub whole_request : List ℕ → Option (List ℕ) → Request
+whole_request path body = record { head = request_for path body; body = body }

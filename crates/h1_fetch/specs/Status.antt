@@ -9,7 +9,7 @@ use Rattle.h1_fetch.specs.Getting.{GetCause, peer_at}
 use Rattle.h1_fetch.specs.Input.{ReadsScript}
 use Rattle.h1_fetch.specs.Output.{Wrote, usage_line, fault_line}
 use Rattle.h1_fetch.specs.Playing.{IsTextOf}
-use Rattle.h1_fetch.specs.Request.{request_for}
+use Rattle.h1_fetch.specs.Request.{whole_request}
 use Rattle.h1_fetch.specs.Words.{Job, script, get}
 use Rattle.h1_fetch.specs.declared.lines.Line.{Line}
 use Rattle.h1_fetch.specs.declared.output.Written.{Written}
@@ -66,7 +66,7 @@ CauseBy state dials (Some script) source source' sink sink' messages messages' d
     ScriptCause source source' sink sink' status × Alone messages messages' dialer dialer'
 CauseBy state dials (Some (get ask)) source source' sink sink' messages messages' dialer dialer'
     status =
-    GetCause state dials (peer_at ask.port) (request_for ask.path ask.body) ask.count sink sink'
+    GetCause state dials (peer_at ask.port) (whole_request ask.path ask.body) ask.count sink sink'
     messages messages' dialer dialer' status
     × (source' ≡ source)
 

@@ -1,21 +1,14 @@
 -- One poll of a client's script: the call of its session that is next, and what that answers.
-use Rattle.std.specs.Prelude.{◌≡◌, ◌⊎◌, ℕ, Bool, true, false, ◌&&◌, ◌||◌, not, is_some, if◌then◌else◌, ◌==◌, List, [], ◌∷◌, length, Option, Some, None, Result}
+use Rattle.std.specs.Prelude.{◌≡◌, ℕ, Bool, true, false, ◌&&◌, ◌||◌, not, is_some, if◌then◌else◌, ◌==◌, List, [], ◌∷◌, length, Option, Some, None, Result}
 use Rattle.h1_link.specs.MemPlan.{SamePlan}
-use Rattle.h1_client.specs.Words.{Poll, Pending, Error, Step, Finish, Free, Head, Piece}
-use Rattle.h1_client.specs.Calls.{EndWrite, HeadReading, HeadWrite, PieceWrite}
-use Rattle.h1_client.specs.ClientView.{ClientView, response_of}
-use Rattle.h1_client.specs.ReadingBody.{PartCall}
+use Rattle.h1_client.specs.Words.{Poll, Error, Step, Finish, Free, Head, Piece}
+use Rattle.h1_client.specs.ClientView.{response_of}
+use Rattle.h1_asking.specs.Turns.{AskTurn, EndTurn, HeadTurn, PartTurn, PieceTurn, is_head}
 use Rattle.h1_fetch.specs.ScriptState.{State, link_state}
 use Rattle.h1_fetch.specs.Told.{asked_told, body_told, finished_told, is_finished, response_told, sent_told}
 use Rattle.h1_fetch.specs.declared.stepping.Call.{Call}
 use Rattle.h1_fetch.specs.declared.stepping.Call.TheVariants as call
 use Rattle.h1_fetch.specs.declared.told.Told.{Told}
-
-abbrev pub is_head : Step → Bool
-is_head Free = false
-is_head Head = true
-is_head (Piece count) = false
-is_head Finish = false
 
 abbrev pub is_piece : Step → Bool
 is_piece Free = false
@@ -49,22 +42,17 @@ left_over true pieces = pieces
 left_over false [] = []
 left_over false (piece ∷ pieces) = pieces
 
--- a call is made that does this, or it isn't its turn: then it is pending, and nothing is done
-abbrev pub MadeOr : {L T : Type 0} → Type 0 → ClientView L → ClientView L → Poll T → Type 0
-MadeOr Made old new outcome = Made ⊎ ((outcome ≡ Pending) × (new ≡ old))
-
 pub record StepsHead (moment : ℕ) (s t : State) (told : Told) : Type 0 where
   pub outcome : Poll (Result ℕ Error)
-  pub made : MadeOr (HeadWrite link_state SamePlan moment s.session t.session s.head t.head outcome)
-      s.session t.session outcome
+  pub made : AskTurn link_state SamePlan moment s.session t.session s.head t.head outcome
   pub told_is : told ≡ asked_told t.session.spent outcome
   pub rest : t ≡ record s { session = t.session; head = t.head }
 
 pub record StepsPiece (moment : ℕ) (s t : State) (told : Told) : Type 0 where
   pub kept : Option (List ℕ)
   pub outcome : Poll (Result (Option ℕ) Error)
-  pub made : MadeOr (PieceWrite link_state SamePlan moment s.session t.session
-      (handed_in (is_piece (step_of s)) s.pieces) kept outcome) s.session t.session outcome
+  pub made : PieceTurn link_state SamePlan moment s.session t.session
+      (handed_in (is_piece (step_of s)) s.pieces) kept outcome
   pub told_is : told ≡ sent_told t.session.spent outcome
   pub rest : t ≡ record s {
     session = t.session;
@@ -73,22 +61,19 @@ pub record StepsPiece (moment : ℕ) (s t : State) (told : Told) : Type 0 where
 
 pub record StepsEnd (moment : ℕ) (s t : State) (told : Told) : Type 0 where
   pub outcome : Poll (Result (Option ℕ) Error)
-  pub made : MadeOr (EndWrite link_state SamePlan s.session t.session outcome)
-      s.session t.session outcome
+  pub made : EndTurn link_state SamePlan s.session t.session outcome
   pub told_is : told ≡ finished_told t.session.spent outcome
   pub rest : t ≡ record s { session = t.session; ended = is_finished told }
 
 pub record StepsResponse (moment : ℕ) (s t : State) (told : Told) : Type 0 where
   pub outcome : Poll (Result ℕ Error)
-  pub made : MadeOr (HeadReading link_state SamePlan moment s.session t.session outcome)
-      s.session t.session outcome
+  pub made : HeadTurn link_state SamePlan moment s.session t.session outcome
   pub told_is : told ≡ response_told t.session.spent outcome
   pub rest : t ≡ record s { session = t.session }
 
 pub record StepsBody (moment : ℕ) (s t : State) (told : Told) : Type 0 where
   pub outcome : Poll (Result (Option (List ℕ)) Error)
-  pub made : MadeOr (PartCall link_state SamePlan moment s.session t.session outcome)
-      s.session t.session outcome
+  pub made : PartTurn link_state SamePlan moment s.session t.session outcome
   pub told_is : told ≡ body_told t.session.spent outcome
   pub rest : t ≡ record s { session = t.session }
 

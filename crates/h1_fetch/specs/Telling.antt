@@ -5,8 +5,8 @@ use Rattle.h1_link.specs.Counts.{Rose}
 use Rattle.h1_link.specs.SinkState.{SinkState}
 use Rattle.h1_fetch.specs.Getting.{no_response_line}
 use Rattle.h1_fetch.specs.Output.{Wrote, WriteCause}
-use Rattle.h1_fetch.specs.declared.fetching.Fault.{Fault}
-use Rattle.h1_fetch.specs.declared.fetching.Fault.TheVariants as fault
+use Rattle.h1_asking.specs.declared.fetching.Fault.{Fault}
+use Rattle.h1_asking.specs.declared.fetching.Fault.TheVariants as fault
 use Rattle.h1_fetch.specs.declared.output.Written.{Written}
 use Rattle.h1_fetch.specs.declared.status.Status.{Status}
 use Rattle.h1_fetch.specs.declared.status.Status.TheVariants as status

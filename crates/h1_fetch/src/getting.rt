@@ -3,13 +3,14 @@ ghost use Rattle.std.specs.Prelude.{◌≡◌, ◌+◌, ◌<◌, ◌≤◌, ◌-
 ghost use Rattle.std.specs.Option.{option_copied};
 ghost use Rattle.h1_fetch.specs.Getting.{GetCause, link_text, links_line, no_response_line, one_if, peer_at, response_line};
 ghost use Rattle.h1_fetch.specs.Output.{WriteCause, Wrote};
-ghost use Rattle.h1_fetch.specs.Request.{request_for};
+ghost use Rattle.h1_fetch.specs.Request.{whole_request};
 ghost use Rattle.h1_fetch.specs.Telling.{DoneCause, GivesUp, TellCause, ToldFault};
 
-use crate::fetching::{Fault, Fetched, fetch};
 use crate::output::{Written, write_whole};
+use crate::request::ask_for;
 use crate::status::Status;
 use crate::words::Asked;
+use h1_asking::{Fault, Fetched};
 use h1_client::{Connector, Peer};
 use h1_error::{End, Error, Progress};
 use h1_link::{Clock, Dialer, Sink};
@@ -30,7 +31,7 @@ pub(crate) fn get<R: Wait, K: Sink, M: Sink, D: Dialer, T: Clock>(
     clock: &mut T,
 ) -> Status
     ensures { GetCause D.Link.state D.state (peer_at asked.entry.port)
-        (request_for asked.entry.path.now (option_copied asked.entry.body)) asked.entry.count
+        (whole_request asked.entry.path.now (option_copied asked.entry.body)) asked.entry.count
         (K.state sink.old) (K.state sink.new) (M.state messages.old) (M.state messages.new)
         dialer.old dialer.new result }
 {
@@ -41,7 +42,7 @@ pub(crate) fn get<R: Wait, K: Sink, M: Sink, D: Dialer, T: Clock>(
     let mut reused = 0u32;
     for number in 0..asked.count {
         let (path, body) = (asked.path, asked.body);
-        match fetch(rt, alloc, &connector, dialer, clock, &peer, path, body) {
+        match ask_for(rt, alloc, &connector, dialer, clock, &peer, path, body) {
             Ok(fetched) => {
                 reused += one_if(fetched.is_reused);
                 if let Err(status) = tell(alloc, number, fetched, sink) {

@@ -9,19 +9,17 @@
 #![tactic(auto)]
 
 mod command;
-mod fetching;
 mod getting;
 mod input;
 mod lines;
 mod output;
+mod request;
 mod script;
 mod scripted;
 mod status;
 mod stepping;
 mod told;
-mod turns;
 mod words;
 
 pub use command::run;
-pub use fetching::{Fetched, MOST_POLLS, TIMEOUT};
 pub use words::MOST_REQUESTS;

@@ -1,14 +1,15 @@
 //! The next call of a script's session.
 ghost use Rattle.std.specs.Prelude.{◌≡◌, false};
+ghost use Rattle.h1_asking.specs.Turns.{is_head};
 ghost use Rattle.h1_fetch.specs.ScriptState.{state_of};
-ghost use Rattle.h1_fetch.specs.Steps.{StepsBody, StepsBy, StepsEnd, StepsHead, StepsPiece, StepsResponse, call_of, handed_in, has_pieces, is_head, is_piece, left_over};
+ghost use Rattle.h1_fetch.specs.Steps.{StepsBody, StepsBy, StepsEnd, StepsHead, StepsPiece, StepsResponse, call_of, handed_in, has_pieces, is_piece, left_over};
 
 use crate::scripted::Scripted;
 use crate::told::{
     Told, asked_told, body_told, finished_told, is_finished, response_told, sent_told,
 };
-use crate::turns::{ask, finish, read_piece, read_response, write_piece};
 use bytes::Bytes;
+use h1_asking::{ask, finish, read_piece, read_response, write_piece};
 use h1_transfer::Step;
 use std::collections::VecDeque;
 

@@ -1,9 +1,10 @@
--- Where the grammar of a request's head is complete, the head ends.
-use Rattle.std.proofs.Common.{◌≡◌, ℕ, ◌+◌, ◌==◌, Bool, true, false, Option, Some, List, [], ◌∷◌, ◌++◌, length, All, IsTrue, refl, sym, ◌∙◌, ap, subst, arith, length-append, append_assoc}
+-- Where the grammar of a head is complete, the head ends.
+use Rattle.std.proofs.Common.{◌≡◌, ℕ, ◌+◌, ◌==◌, Bool, true, false, Option, Some, None, List, [], ◌∷◌, ◌++◌, length, All, IsTrue, refl, sym, ◌∙◌, ap, subst, arith, length-append, append_assoc}
+use Rattle.std.specs.Char.{is_ascii_digit}
 use Rattle.std.specs.List.{flat_map}
 use Rattle.std.proofs.lemmas.Bool.{false≢true, ne_eqb}
 use Rattle.std.proofs.lemmas.List.Elements.{All-head, All-tail}
-use Rattle.httparse.specs.Grammar.{is_token_byte, is_uri_byte, is_value_byte, AllPass, IsToken, LineEnd, crlf, lf, print_end, print_blank, print_version, Field, IsField, print_field, RequestHead, IsRequestHead, print_request, ReadsRequest}
+use Rattle.httparse.specs.Grammar.{is_token_byte, is_uri_byte, is_value_byte, AllPass, IsToken, LineEnd, crlf, lf, print_end, print_blank, print_version, print_section, Field, IsField, print_field, RequestHead, IsRequestHead, print_request, ReadsRequest, print_reason, reason_phrase, ResponseHead, IsResponseHead, print_response, ReadsResponse}
 use Rattle.h1_cut.specs.declared.line.LineSoFar.{LineSoFar}
 use Rattle.h1_cut.specs.declared.line.LineSoFar.TheVariants.{Nothing, Cr, Text}
 use Rattle.h1_cut.specs.Cut.{cut, cut_from}
@@ -117,12 +118,30 @@ field_lines (f ∷ fields) are =
     goes_on (field f (All-head IsField f fields are))
     (field_lines fields (All-tail IsField f fields are))
 
+-- the lines of fields, and the empty line that ends them
+section : (fields : List Field) (last : LineEnd) → All IsField fields
+    → Goes (on true Nothing) (print_section fields last) ended
+section fields last are = goes_on (field_lines fields are) (last_end last)
+
+-- a version, behind its first byte
+abbrev version_tail : ℕ → List ℕ
+version_tail minor = 84 ∷ 84 ∷ 80 ∷ 47 ∷ 49 ∷ 46 ∷ (48 + minor) ∷ []
+
+tail_goes : {begun : Bool} (minor : ℕ)
+    → Goes (on begun Text) (version_tail minor) (on begun Text)
+tail_goes minor =
+    let digit : (48 + minor == 10) ≡ false = ne_eqb (48 + minor) 10 (λ e. absurd (omega arith)) in
+    text_byte 84 refl (text_byte 84 refl (text_byte 80 refl (text_byte 47 refl (text_byte 49 refl
+    (text_byte 46 refl (text_byte (48 + minor) digit none_at))))))
+
 version : {begun : Bool} (minor : ℕ)
     → Goes (on begun Text) (print_version minor) (on begun Text)
-version minor =
-    let digit : (48 + minor == 10) ≡ false = ne_eqb (48 + minor) 10 (λ e. absurd (omega arith)) in
-    text_byte 72 refl (text_byte 84 refl (text_byte 84 refl (text_byte 80 refl (text_byte 47 refl
-    (text_byte 49 refl (text_byte 46 refl (text_byte (48 + minor) digit none_at)))))))
+version minor = text_byte 72 refl (tail_goes minor)
+
+-- a version at the beginning of a line
+first_version : {begun : Bool} (minor : ℕ)
+    → Goes (on begun Nothing) (print_version minor) (on begun Text)
+first_version minor = one_more (λ at rest. refl) (tail_goes minor)
 
 head_goes : (h : RequestHead) → IsRequestHead h → Goes (on false Nothing) (print_request h) ended
 unfolding print_request
@@ -134,11 +153,36 @@ head_goes h is =
     (text_byte 32 refl (text is_uri_byte h.target refl is.target.1)))
     (text_byte 32 refl (version h.minor)))
     (text_end h.line_end))
-    (goes_on (field_lines h.fields is.fields) (last_end h.last))
+    (section h.fields h.last is.fields)
 
--- bytes that begin with a head of the grammar are cut where it ends
+reason : {begun : Bool} (phrase : Option (List ℕ)) → AllPass is_value_byte (reason_phrase phrase)
+    → Goes (on begun Text) (print_reason phrase) (on begun Text)
+reason None pass = none_at
+reason (Some phrase) pass = text_byte 32 refl (text is_value_byte phrase refl pass)
+
+response_goes : (h : ResponseHead) → IsResponseHead h
+    → Goes (on false Nothing) (print_response h) ended
+unfolding print_response
+response_goes h is =
+    goes_on
+    (goes_on
+    (goes_on
+    (goes_on (goes_on (blanks h.blank) (first_version h.minor))
+    (text_byte 32 refl (text is_ascii_digit h.digits refl is.digits.1)))
+    (reason h.reason is.reason))
+    (text_end h.line_end))
+    (section h.fields h.last is.fields)
+
+-- bytes that begin with a request's head of the grammar are cut where it ends
 pub cut_of_grammar : (bytes rest : List ℕ) (h : RequestHead) → ReadsRequest bytes h rest
     → cut bytes ≡ Some (length (print_request h))
 cut_of_grammar bytes rest h reads =
     let same : 0 + length (print_request h) ≡ length (print_request h) = omega arith in
     ap cut reads.1 ∙ (head_goes h reads.0).go 0 rest ∙ ap Some same
+
+-- the same of a response's
+pub cut_of_response : (bytes rest : List ℕ) (h : ResponseHead) → ReadsResponse bytes h rest
+    → cut bytes ≡ Some (length (print_response h))
+cut_of_response bytes rest h reads =
+    let same : 0 + length (print_response h) ≡ length (print_response h) = omega arith in
+    ap cut reads.1 ∙ (response_goes h reads.0).go 0 rest ∙ ap Some same

@@ -1,5 +1,5 @@
 -- The answer for a stream's first head is one, and it stays.
-use Rattle.std.proofs.Common.{◌≡◌, ℕ, ◌<◌, ◌≤◌, ◌⊎◌, Bool, Some, None, List, [], ◌∷◌, ◌++◌, length, take, refl, sym, ◌∙◌, ap, subst, inl, inr, arith, length-append}
+use Rattle.std.proofs.Common.{◌≡◌, ℕ, ◌<◌, ◌≤◌, ◌⊎◌, ◌==◌, Bool, true, Some, None, List, [], ◌∷◌, ◌++◌, length, take, refl, sym, ◌∙◌, ap, subst, inl, inr, arith, length-append}
 use Rattle.std.proofs.lemmas.List.{length-take-le}
 use Rattle.httparse.proofs.GrammarLemmas.{request_unique}
 use Rattle.h1_cut.specs.Limit.{CutsAt, HasNoCut}
@@ -193,3 +193,9 @@ refused_cause bytes fault (inr r) = let long = r.1 in omega arith
 
 pub RefusedAt-some : (bytes : List ℕ) (fault : HeadFault) → RefusedAt bytes fault → 0 < length bytes
 RefusedAt-some bytes fault x = refused_cause bytes fault x.cause
+
+-- in no bytes no head ends, and one may still end
+pub not_yet_empty : (bytes : List ℕ) → true ≡ (length bytes == 0) → NotYetAt bytes
+unfolding HasNoCut
+not_yet_empty [] none = record { uncut = refl; short = omega arith }
+not_yet_empty (b ∷ bytes) none = absurd (grind arith)

@@ -1,22 +1,25 @@
 -- What a head of the grammar says can stand in a response.
-use Rattle.std.proofs.Common.{◌≡◌, ◌≢◌, ℕ, ◌<◌, ◌≤◌, ◌-◌, true, false, Some, None, List, [], ◌++◌, length, map, take, drop, refl, sym, ap, ◌∙◌, arith, subst, nat_le, rules, tests}
+use Rattle.std.proofs.Common.{◌≡◌, ◌≢◌, ℕ, ◌<◌, ◌≤◌, ◌-◌, true, false, Some, None, List, [], ◌++◌, length, map, take, drop, refl, sym, ap, ◌∙◌, arith, subst, nat_le, rules, tests, inl, inr, Option}
 use Rattle.std.proofs.lemmas.List.{length-drop, nil_from_length}
-use Rattle.std.proofs.lemmas.Grind.{common_steps}
-use Rattle.httparse.specs.Grammar.{ResponseHead, print_response, reason_phrase, status_code}
+use Rattle.httparse.specs.Grammar.{print_response, reason_phrase, status_code}
 use Rattle.httparse.specs.Spans.{IsResponseOf, IsResponseWithin, header_bytes, name_and_value, span_bytes}
 use Rattle.httparse.specs.declared.spans.HeaderSpan.{HeaderSpan}
 use Rattle.httparse.specs.declared.spans.ResponseSpans.{ResponseSpans}
 use Rattle.httparse.proofs.GrammarLemmas.{response_unique}
+use Rattle.h1_cut.specs.Limit.{CutsAt}
 use Rattle.h1_head.specs.Faults.{status_fault}
-use Rattle.h1_fields.specs.Lines.{Line}
+use Rattle.h1_error.specs.declared.head_fault.HeadFault.{HeadFault}
 use Rattle.h1_error.specs.declared.head_fault.HeadFault.TheVariants.{BadStatus}
-use Rattle.h1_head.specs.declared.limits.TheConstants.{MAX_HEADERS}
+use Rattle.h1_head.specs.declared.limits.TheConstants.{MAX_HEADER_SIZE, MAX_HEADERS}
 use Rattle.h1_head.specs.Views.{ResponseView}
+use Rattle.h1_head.specs.declared.response_head.ResponseHead.{ResponseHead}
 use Rattle.h1_head.specs.declared.response_grammar.Parsed.{Parsed}
 use Rattle.h1_head.specs.declared.response_grammar.Parsed.TheVariants.{Faulty, Head, NoHead}
 use Rattle.h1_head.specs.Normal.{normal}
-use Rattle.h1_head.specs.ResponseGrammar.{HasNoHead, IsHead, response_read}
-use Rattle.h1_head.specs.ResponseVerdict.{IsHeadAt, IsParsedAs, response_at}
+use Rattle.h1_head.specs.ResponseGrammar.{HasNoHead, IsHead}
+use Rattle.h1_head.specs.ResponseVerdict.{IsHeadAt, IsJudged, IsParsedAs, IsSettledAs, response_at, told}
+use Rattle.h1_head.specs.ResponseHead.{IsFoundIn}
+use Rattle.h1_head.proofs.FrontLemmas.{few_lines, read_same}
 use Rattle.h1_head.proofs.NormalLemmas.{normal_of_grammar}
 
 -- bytes behind a head are no part of it
@@ -28,15 +31,6 @@ longer_head bytes spans head parsed more spelled whole =
     let none : 0 ≡ length bytes - head.len = ap length same.1 ∙ length-drop head.len bytes in
     omega arith
 
-read_same : (a b : ℕ) (c d : ℕ) (e f : List ℕ) (g h : List Line) → a ≡ b → c ≡ d → e ≡ f → g ≡ h
-    → response_read a c e g ≡ response_read b d f h
-read_same a b c d e f g h p q r s = λ i. response_read (p i) (q i) (r i) (s i)
-
-few_lines : (bytes : List ℕ) (spans : List HeaderSpan) (head : ResponseSpans) (h : ResponseHead)
-    → map (header_bytes bytes) (take head.headers spans) ≡ map name_and_value h.fields
-    → length h.fields ≤ length spans
-few_lines bytes spans head h same = grind (arith, common_steps)
-
 -- where the parser finds a head to the last byte, the bytes are one
 pub whole_head : (bytes : List ℕ) (spans : List HeaderSpan) (head : ResponseSpans)
     → IsResponseWithin bytes spans head → IsResponseOf bytes spans head
@@ -46,7 +40,7 @@ whole_head bytes spans head within parsed all few =
     let at = parsed.1 in
     let none : drop head.len bytes ≡ [] =
     nil_from_length _ (omega (arith, length-drop head.len bytes)) in
-    let lines = few_lines bytes spans head h at.fields in
+    let lines = few_lines bytes spans head.headers h.fields at.fields in
     record {
       within = within;
       parsed = parsed;
@@ -94,3 +88,35 @@ parsed_normal bytes response (Faulty fault) other (said, says, faulty) =
     let same = normal_of_grammar bytes says.0 says.1.reads in
     (said, subst (λ (b : List ℕ). IsHead b said) (sym same) says, faulty)
 parsed_normal bytes response NoHead other none = absurd (other refl)
+
+-- what the grammar makes of bytes that are a head, it makes of their normal form
+pub front_normal : (bytes : List ℕ) (spans : List HeaderSpan) (head : ResponseSpans)
+    (response : ResponseView) (parsed : Parsed) → IsHeadAt bytes spans head
+    → IsParsedAs bytes response parsed → IsParsedAs (normal bytes) response parsed
+front_normal bytes spans head response parsed is said =
+    parsed_normal bytes response parsed
+    (λ none. no_head (subst (IsParsedAs bytes response) none said)) said
+  where
+    no_head : HasNoHead bytes → ⊥
+    no_head none = none is.says.0 is.says.1
+
+-- what becomes of bytes that are a head, or none
+pub settled_is : (bytes : List ℕ) (said : ResponseView) (head : ResponseHead) (parsed : Parsed)
+    (fault : Option HeadFault) → IsParsedAs (normal bytes) said parsed
+    → IsSettledAs said head.header parsed fault → head.raw ≡ bytes → IsJudged bytes head fault
+settled_is bytes said head Head fault (says, sound) (none, is) raw =
+    subst (IsJudged bytes head) (sym none)
+    (record { said = said; says = says; sound = sound; response_is = is }, raw)
+settled_is bytes said head (Faulty why) fault (other, says, faulty) is raw =
+    subst (IsJudged bytes head) (sym is)
+    (inr (record { said = other; says = says; faulty = faulty }))
+settled_is bytes said head NoHead fault none is raw =
+    subst (IsJudged bytes head) (sym is) (inl (none, refl))
+
+-- what is known of a head that takes so many of the bytes
+pub found_told : (bytes : List ℕ) (head : ResponseHead) (fault : Option HeadFault) (n : ℕ)
+    → CutsAt MAX_HEADER_SIZE bytes n → IsJudged (take n bytes) head fault
+    → IsFoundIn bytes head (told fault n)
+found_told bytes head None n cuts (accepted, raw) =
+    (record { cuts = cuts; accepted = accepted }, raw)
+found_told bytes head (Some fault) n cuts refused = record { cause = inl (n, cuts, refused) }

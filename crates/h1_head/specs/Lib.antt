@@ -25,3 +25,4 @@ pub mod ValueDates
 pub mod NotModified
 pub mod ErrorReply
 pub mod Task
+pub mod Upgrade

@@ -48,8 +48,16 @@ coding_fault request =
     else (if is_chunked_last request.fields then None else Some FinalCodingNotChunked))
     else None
 
--- the first of these faults
+-- the first of these faults, where the lines state this length
+abbrev pub first_fault_by : RequestView → ContentLength → Option HeadFault
+first_fault_by request length =
+    option_or (host_fault request) (option_or (length_fault length) (coding_fault request))
+
 abbrev pub first_fault : RequestView → Option HeadFault
-first_fault request =
-    option_or (host_fault request)
-    (option_or (length_fault (content_length request.fields)) (coding_fault request))
+first_fault request = first_fault_by request (content_length request.fields)
+
+-- the same where Content-Length may stand beside Transfer-Encoding, and then doesn't count
+abbrev pub fault_of : RequestView → Option HeadFault
+fault_of request =
+    first_fault_by request
+    (if has_coding_line request.fields then Absent else content_length request.fields)

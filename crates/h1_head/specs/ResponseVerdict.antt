@@ -4,16 +4,22 @@ use Rattle.httparse.specs.Grammar.{ResponseHead as Spelled}
 use Rattle.httparse.specs.declared.spans.HeaderSpan.{HeaderSpan}
 use Rattle.httparse.specs.declared.spans.ResponseSpans.{ResponseSpans}
 use Rattle.httparse.specs.Spans.{IsResponseOf, IsResponseWithin, header_bytes, span_bytes}
+use Rattle.h1_cut.specs.Limit.{CutsAt}
 use Rattle.h1_error.specs.declared.head_fault.HeadFault.{HeadFault}
+use Rattle.h1_error.specs.declared.head_fault.HeadFault.TheVariants.{NotAHead}
+use Rattle.h1_head.specs.declared.limits.TheConstants.{MAX_HEADER_SIZE}
 use Rattle.h1_head.specs.Faults.{status_fault}
 use Rattle.h1_head.specs.Views.{ResponseView}
 use Rattle.h1_head.specs.declared.response_grammar.Found.{Found}
 use Rattle.h1_head.specs.declared.response_grammar.Found.TheVariants.{Head, NoHead, NoRoom}
 use Rattle.h1_head.specs.declared.response_grammar.Parsed.{Parsed}
 use Rattle.h1_head.specs.declared.response_grammar.Parsed.TheVariants as parsed
+use Rattle.h1_head.specs.declared.response_head.ResponseFound.{ResponseFound}
+use Rattle.h1_head.specs.declared.response_head.ResponseFound.TheVariants as found
 use Rattle.h1_head.specs.declared.response_head.ResponseHead.{ResponseHead}
 use Rattle.h1_head.specs.ResponseGrammar.{HasNoHead, IsHead, IsHeadOf, response_read}
 use Rattle.h1_head.specs.ResponseHead.{IsAccepted, IsRefused}
+use Rattle.h1_head.specs.Settled.{settled}
 
 -- the response whose parts lie at these places of the bytes
 abbrev pub response_at : List ℕ → List HeaderSpan → ResponseSpans → ResponseView
@@ -26,6 +32,11 @@ pub record IsHeadAt (bytes : List ℕ) (spans : List HeaderSpan) (head : Respons
   pub within : IsResponseWithin bytes spans head
   pub parsed : IsResponseOf bytes spans head
   pub says : IsHead bytes (response_at bytes spans head)
+
+-- the bytes begin with a head within the limit, and its parts lie at these places
+pub record IsFrontAt (bytes : List ℕ) (spans : List HeaderSpan) (head : ResponseSpans) : Type 0 where
+  pub cuts : CutsAt MAX_HEADER_SIZE bytes head.len
+  pub front : IsHeadAt (take head.len bytes) spans head
 
 -- the bytes are no head that has so few lines
 abbrev pub HasMoreLines : ℕ → List ℕ → Type 0
@@ -50,3 +61,19 @@ IsParsedAs bytes response parsed.NoHead = HasNoHead bytes
 abbrev pub IsJudged : List ℕ → ResponseHead → Option HeadFault → Type 0
 IsJudged bytes head None = IsAccepted bytes head.header × (head.raw ≡ bytes)
 IsJudged bytes head (Some fault) = IsRefused bytes fault
+
+-- the bytes begin with a head that takes so many of them, and it is accepted or has a fault
+abbrev pub IsJudgedAt : List ℕ → ResponseHead → Option HeadFault × ℕ → Type 0
+IsJudgedAt bytes head judged =
+    CutsAt MAX_HEADER_SIZE bytes judged.1 × IsJudged (take judged.1 bytes) head judged.0
+
+-- what is known of a head that takes so many bytes, and is accepted or has a fault
+abbrev pub told : Option HeadFault → ℕ → ResponseFound
+told None n = found.Whole n
+told (Some fault) n = found.Refused fault
+
+-- what becomes of a response that was read from bytes that are this by the grammar
+abbrev pub IsSettledAs : ResponseView → ResponseView → Parsed → Option HeadFault → Type 0
+IsSettledAs said response parsed.Head fault = (fault ≡ None) × (response ≡ settled said)
+IsSettledAs said response (parsed.Faulty why) fault = fault ≡ Some why
+IsSettledAs said response parsed.NoHead fault = fault ≡ Some NotAHead

@@ -28,6 +28,7 @@ mod response_laws;
 mod room;
 mod syntax;
 mod task;
+mod upgrade;
 mod version;
 mod wire;
 
@@ -50,7 +51,7 @@ pub use reading_laws::{
     request_heads_have_no_front,
 };
 pub use request::RequestHeader;
-pub use request_checks::validate_request_authority;
+pub use request_checks::{validate_request, validate_request_authority};
 pub use request_grammar::FEW_HEADERS;
 pub use request_head::{
     HeadEnd, HeadStep, RequestHead, Verdict, find_head_end, judge_front, judge_head,
@@ -65,6 +66,7 @@ pub use response_laws::{
 };
 pub use room::Room;
 pub use task::HttpTask;
+pub use upgrade::{is_upgrade_req, is_upgrade_resp};
 pub use version::is_http_1;
 pub use wire::{
     http_req_header_to_wire, print_reply_head, push_request_head, push_response_head,

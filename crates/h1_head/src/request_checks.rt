@@ -2,11 +2,10 @@
 //! 6.3; RFC 9110, section 8.6), and whether it wishes the connection kept (RFC 9112, section 9.3).
 ghost use Rattle.std.specs.Prelude.{◌≡◌, codes, MatchOption};
 ghost use Rattle.h1_fields.specs.Codings.{has_coding_line};
-ghost use Rattle.h1_fields.specs.ContentLength.{content_length};
 ghost use Rattle.h1_fields.specs.Lines.{values_of};
 ghost use Rattle.h1_authority.specs.AuthorityFault.{hosts_seen, hosts_behind, no_host};
 ghost use Rattle.h1_head.specs.Faults.{refusal};
-ghost use Rattle.h1_head.specs.RequestFault.{coding_fault, first_fault, host_fault, is_both, length_fault, settled};
+ghost use Rattle.h1_head.specs.RequestFault.{coding_fault, fault_of, first_fault_by, host_fault, is_both, length_fault, settled};
 ghost use Rattle.h1_head.specs.Wish.{wish};
 
 use crate::RequestHeader;
@@ -23,6 +22,25 @@ pub fn validate_request_authority(req: &RequestHeader) -> Result<(), Error>
         (λ fault. result ≡ Err (refusal fault)) }
 {
     match req.host_fault() {
+        None => Ok(()),
+        Some(fault) => Err(refuse(fault)),
+    }
+}
+
+/// What a request is refused for as it is now: its authority (RFC 9112, section 3.2), its length and
+/// its codings (RFC 9112, sections 6.1 and 6.3). A length beside a coding doesn't count. The error
+/// says the first fault.
+pub fn validate_request(req: &RequestHeader) -> Result<(), Error>
+    ensures { MatchOption (fault_of req.now) (result ≡ Ok tt)
+        (λ fault. result ≡ Err (refusal fault)) }
+{
+    let coded = req.fields().has_transfer_encoding();
+    let length = if coded {
+        ContentLength::Absent
+    } else {
+        req.fields().content_length()
+    };
+    match req.first_fault(coded, length) {
         None => Ok(()),
         Some(fault) => Err(refuse(fault)),
     }
@@ -59,12 +77,11 @@ impl RequestHeader {
     }
 
     /// The first fault of the request. `coded` says whether Transfer-Encoding is there, and `length`
-    /// what the Content-Length lines state.
+    /// what the Content-Length lines state that count.
     #[inline(always)]
     pub(crate) fn first_fault(&self, coded: bool, length: ContentLength) -> Option<HeadFault>
-        requires coded { coded ≡ has_coding_line self.now.fields }
-        requires length { length ≡ content_length self.now.fields }
-        ensures { result ≡ first_fault self.now }
+        requires { coded ≡ has_coding_line self.now.fields }
+        ensures { result ≡ first_fault_by self.now length }
     {
         if let Some(fault) = self.host_fault() {
             return Some(fault);

@@ -1,10 +1,10 @@
 //! The head of a response by the grammar (RFC 9112, sections 2.2, 4 and 5).
-ghost use Rattle.std.specs.Prelude.{◌≤◌, length, IfOk, IsOkUnless};
+ghost use Rattle.std.specs.Prelude.{◌≤◌, length, IfOk, IfSome, IsOkUnless};
 ghost use Rattle.h1_error.specs.Memory.{no_memory};
 ghost use Rattle.h1_head.specs.declared.limits.TheConstants.{MAX_HEADERS};
-ghost use Rattle.h1_head.specs.ResponseVerdict.{IsFoundBy, IsHeadAt, IsParsedAs};
+ghost use Rattle.h1_head.specs.ResponseVerdict.{IsFoundBy, IsFrontAt, IsHeadAt, IsParsedAs};
 
-use crate::{FEW_HEADERS, MAX_HEADERS, ResponseHeader};
+use crate::{FEW_HEADERS, MAX_HEADER_SIZE, MAX_HEADERS, ResponseHeader};
 use bytes::Bytes;
 use h1_error::{Error, HeadFault};
 use httparse::Status;
@@ -76,10 +76,23 @@ fn find_head(bytes: &[u8], spans: &mut [HeaderSpan]) -> Found
     }
 }
 
+/// Where the parts of the head at the front of the bytes lie, if the grammar is complete in them
+/// within the limit, and the spans are room enough for its lines.
+#[inline(always)]
+pub(crate) fn find_front(bytes: &[u8], spans: &mut [HeaderSpan]) -> Option<ResponseSpans>
+    requires { length spans.old ≤ MAX_HEADERS }
+    ensures { IfSome result (IsFrontAt bytes.now spans.new) }
+{
+    match parse_response(bytes, spans) {
+        Ok(Status::Complete(head)) if head.len <= MAX_HEADER_SIZE => Some(head),
+        _ => None,
+    }
+}
+
 /// Puts the response whose parts lie at these places in the place of the header.
 #[inline(always)]
 #[tactic(auto, using(crate::proofs::ResponseGrammarLemmas::code_sound))]
-fn put_head(
+pub(crate) fn put_head(
     bytes: &Bytes,
     spans: &[HeaderSpan],
     head: ResponseSpans,

@@ -2,7 +2,7 @@
 //!
 //! What came so far goes in, and what is known of the head comes out. The answer depends on nothing
 //! but these bytes, and an accepted or refused head stays so whatever comes after it.
-ghost use Rattle.std.specs.Prelude.{◌≡◌, [], IfOk, IsOkUnless};
+ghost use Rattle.std.specs.Prelude.{◌≡◌, [], IfOk, IfSome, IsOkUnless};
 ghost use Rattle.h1_cut.specs.Search.{HasLooked};
 ghost use Rattle.h1_error.specs.Memory.{no_memory};
 ghost use Rattle.h1_head.specs.declared.limits.TheConstants.{MAX_HEADER_SIZE};
@@ -10,14 +10,15 @@ ghost use Rattle.h1_head.specs.Response.{new_response};
 ghost use Rattle.h1_head.specs.Normal.{normal};
 ghost use Rattle.h1_head.specs.Settled.{settled};
 ghost use Rattle.h1_head.specs.ResponseHead.{IsFoundIn, IsStepOf};
-ghost use Rattle.h1_head.specs.ResponseVerdict.{IsJudged, IsParsedAs};
+ghost use Rattle.h1_head.specs.ResponseVerdict.{IsJudged, IsJudgedAt, IsParsedAs, IsSettledAs, told};
 
 use crate::normal::normal;
-use crate::response_grammar::{Parsed, parse_head, parse_long_head};
-use crate::{HeadEnd, ResponseHeader, Room, find_head_end};
+use crate::response_grammar::{Parsed, find_front, parse_head, parse_long_head, put_head};
+use crate::{FEW_HEADERS, HeadEnd, ResponseHeader, Room, find_head_end};
 use bytes::Bytes;
 use h1_cut::HeadSearch;
 use h1_error::{Error, HeadFault};
+use httparse::spans::{EMPTY_HEADER_SPAN, HeaderSpan};
 use std::alloc::Global;
 
 /// An accepted head.
@@ -74,7 +75,8 @@ pub fn read_response_head(alloc: Global, bytes: &[u8]) -> Result<ResponseStep, E
     let mut head = ResponseHead::new(alloc);
     let mut search = HeadSearch::new();
     let mut room = Room::new(alloc);
-    match search_response_head(alloc, &mut search, bytes, &mut room, &mut head)? {
+    let mut spans = [EMPTY_HEADER_SPAN; FEW_HEADERS];
+    match search_response_head(alloc, &mut search, bytes, &mut room, &mut spans, &mut head)? {
         ResponseFound::Whole(len) => Ok(ResponseStep::Whole(head, len)),
         ResponseFound::NotYet => Ok(ResponseStep::NotYet),
         ResponseFound::Refused(fault) => Ok(ResponseStep::Refused(fault)),
@@ -83,8 +85,38 @@ pub fn read_response_head(alloc: Global, bytes: &[u8]) -> Result<ResponseStep, E
 
 /// The same for bytes that grow from call to call: the search has looked at a front of them, and
 /// goes on from there. A new head needs a new search. An accepted head is put in its place, with its
-/// bytes in the room's memory. Where no head is accepted, what stands in the place has no meaning.
+/// bytes in the room's memory. Where no head is accepted, what stands in the place has no meaning,
+/// and what the spans hold has none before and after.
 pub fn search_response_head(
+    alloc: Global,
+    search: &mut HeadSearch,
+    bytes: &[u8],
+    room: &mut Room,
+    spans: &mut [HeaderSpan; FEW_HEADERS],
+    found: &mut ResponseHead,
+) -> Result<ResponseFound, Error>
+    requires looked { HasLooked MAX_HEADER_SIZE search.old bytes.now }
+    ensures ok { IfOk result (IsFoundIn bytes.now found.new) }
+    ensures err { IsOkUnless result no_memory }
+    ensures looked { HasLooked MAX_HEADER_SIZE search.new bytes.now }
+{
+    // Before the first byte there is nothing to look at.
+    if bytes.is_empty() {
+        return Ok(ResponseFound::NotYet);
+    }
+    // Most heads are whole at the first look, and the grammar tells their end without a search.
+    if search.at() == 0 {
+        if let Some((fault, len)) = judge_front(bytes, room, spans, found)? {
+            return Ok(told(fault, len));
+        }
+    }
+    search_on(alloc, search, bytes, room, found)
+}
+
+/// The same where the search has to find the end. It isn't inlined, since a head that is whole at
+/// the first look would pay for its locals.
+#[inline(never)]
+fn search_on(
     alloc: Global,
     search: &mut HeadSearch,
     bytes: &[u8],
@@ -99,11 +131,41 @@ pub fn search_response_head(
     match find_head_end(search, bytes) {
         HeadEnd::NotYet => Ok(ResponseFound::NotYet),
         HeadEnd::TooLong => Ok(ResponseFound::Refused(HeadFault::TooLong)),
-        HeadEnd::At(len) => match judge_head(alloc, &bytes[..len], room, found)? {
-            None => Ok(ResponseFound::Whole(len)),
-            Some(fault) => Ok(ResponseFound::Refused(fault)),
-        },
+        HeadEnd::At(len) => Ok(told(judge_head(alloc, &bytes[..len], room, found)?, len)),
     }
+}
+
+/// What is known of a head that takes so many bytes, and is accepted or has a fault.
+#[inline(always)]
+fn told(fault: Option<HeadFault>, len: usize) -> ResponseFound
+    ensures { result ≡ told fault len }
+{
+    match fault {
+        None => ResponseFound::Whole(len),
+        Some(fault) => ResponseFound::Refused(fault),
+    }
+}
+
+/// Accepts or refuses the head at the front of the bytes, without a search for its end, where its
+/// grammar is complete in them (RFC 9112, section 4), and says how many of the bytes it takes. Where
+/// the answer is none, a search tells more. An accepted head is put in its place.
+#[inline(always)]
+fn judge_front(
+    bytes: &[u8],
+    room: &mut Room,
+    spans: &mut [HeaderSpan; FEW_HEADERS],
+    found: &mut ResponseHead,
+) -> Result<Option<(Option<HeadFault>, usize)>, Error>
+    ensures ok { IfOk result (λ judged. IfSome judged (IsJudgedAt bytes.now found.new)) }
+    ensures err { IsOkUnless result no_memory }
+{
+    let Some(front) = find_front(bytes, spans) else {
+        return Ok(None);
+    };
+    let len = front.len;
+    found.raw = room.copy(&bytes[..len])?;
+    let parsed = put_head(&found.raw, spans, front, &mut found.header)?;
+    Ok(Some((settle(parsed, &mut found.header), len)))
 }
 
 /// Accepts or refuses a whole head. An accepted one is put in its place.
@@ -118,13 +180,23 @@ fn judge_head(
     ensures err { IsOkUnless result no_memory }
 {
     found.raw = room.copy(head)?;
-    match parse_normal(alloc, &found.raw, &mut found.header)? {
+    let parsed = parse_normal(alloc, &found.raw, &mut found.header)?;
+    Ok(settle(parsed, &mut found.header))
+}
+
+/// The fault of bytes that are this by the grammar, if they have one. Of a head that has none the
+/// length is settled.
+#[inline(always)]
+fn settle(parsed: Parsed, header: &mut ResponseHeader) -> Option<HeadFault>
+    ensures { IsSettledAs header.old header.new parsed result }
+{
+    match parsed {
         Parsed::Head => {
-            settle_length(&mut found.header);
-            Ok(None)
+            settle_length(header);
+            None
         }
-        Parsed::Faulty(fault) => Ok(Some(fault)),
-        Parsed::NoHead => Ok(Some(HeadFault::NotAHead)),
+        Parsed::Faulty(fault) => Some(fault),
+        Parsed::NoHead => Some(HeadFault::NotAHead),
     }
 }
 

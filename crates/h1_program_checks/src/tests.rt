@@ -3,6 +3,7 @@
 
 mod fetching;
 mod greeting;
+mod health;
 mod hello;
 mod listening;
 mod long;

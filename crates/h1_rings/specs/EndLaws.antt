@@ -29,11 +29,15 @@ module _ {T : Type 0} where
       }
 
 pub list_puts_none : (end : List HttpTask) (gone : Bool) → ListPuts end gone [] end gone
-list_puts_none end gone = (sym (append-nil end), refl)
+list_puts_none end gone = (sym (append-nil end), refl, λ is. refl)
 
 pub list_puts_on : (a b c : List HttpTask) (x y z : Bool) (some more : List HttpTask)
     → ListPuts a x some b y → ListPuts b y more c z → ListPuts a x (some ++ more) c z
-list_puts_on a b c x y z some more p q = (q.0 ∙ (ap (λ l. l ++ more) p.0 ∙ append_assoc a some more), q.1 ∙ p.1)
+list_puts_on a b c x y z some more p q = (
+  q.0 ∙ (ap (λ l. l ++ more) p.0 ∙ append_assoc a some more),
+  q.1 ∙ p.1,
+  λ is. ap (λ l. l ++ more) (p.2 is) ∙ q.2 (p.1 ∙ is),
+)
 
 pub list_takes_none : (end : List HttpTask) (ended : Bool) → ListTakes end ended [] end ended
 list_takes_none end ended = (refl, refl)

@@ -1,5 +1,5 @@
 -- What a contract sees of the two ends of a ring, and what their calls leave.
-use Rattle.std.specs.Prelude.{◌≡◌, ℕ, ◌+◌, ◌≤◌, Option, Some, IsSome, ◌<◌, ◌-◌, ◌^◌, min, List, [], ◌∷◌, ◌++◌, length}
+use Rattle.std.specs.Prelude.{◌≡◌, ◌≢◌, ℕ, ◌+◌, ◌≤◌, Option, Some, None, IsSome, ◌<◌, ◌-◌, ◌^◌, min, List, [], ◌∷◌, ◌++◌, length}
 use mathlib.Core.List.{IsPrefix}
 use Rattle.atomic_table.specs.Seated.{TableId}
 use Rattle.h1_rings.specs.declared.put_end.Put.{Put}
@@ -58,9 +58,11 @@ module _ {T : Type 0} where
   OfferOf most v x (p.Full y) w = (y ≡ x) × WasFull most v × (w ≡ v)
   OfferOf most v x (p.Gone y) w = ⊥
 
+  -- a put, behind a look at the other's word: nothing is put where that is set
   abbrev pub PutStepOf : ℕ → PutView T → T → Put T → PutView T → Type 0
-  PutStepOf most v x p.Put w = HasPut most v x w
-  PutStepOf most v x (p.Full y) w = (y ≡ x) × WasFull most v × (w ≡ record v { gone = w.gone })
+  PutStepOf most v x p.Put w = HasPut most v x w × (w.gone ≡ None)
+  PutStepOf most v x (p.Full y) w =
+      (y ≡ x) × WasFull most v × (w.gone ≡ None) × (w ≡ record v { gone = w.gone })
   PutStepOf most v x (p.Gone y) w = (y ≡ x) × IsSome w.gone × (w ≡ record v { gone = w.gone })
 
   pub record HasTaken (v : TakeView T) (x : T) (w : TakeView T) : Type 0 where
@@ -73,9 +75,12 @@ module _ {T : Type 0} where
   abbrev pub TakesNone : TakeView T → TakeView T → Type 0
   TakesNone v w = WasEmpty v × (w ≡ record v { ended = w.ended })
 
+  -- a take: it answers Empty only where it doesn't know that its sender was closed behind all that was
+  -- taken
   abbrev pub TakeStepOf : TakeView T → Take T → TakeView T → Type 0
   TakeStepOf v (t.Item x) w = HasTaken v x w
-  TakeStepOf v t.Empty w = TakesNone v w
+  TakeStepOf v t.Empty w =
+      TakesNone v w × (length v.taken < 2 ^ 64 - 2 → w.ended ≢ Some (length v.taken))
   TakeStepOf v t.Ended w = WasEmpty v × (length v.taken < 2 ^ 64 - 2) × (w ≡ record v { ended = Some (length v.taken) })
 
   -- from one state of a ring's end to the other these items were put, or taken

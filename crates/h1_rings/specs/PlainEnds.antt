@@ -40,9 +40,10 @@ Gives items closed task (p.Full back) after = (closed ≡ false) × (is_four ite
 Gives items closed task (p.Gone back) after = (closed ≡ true) × (back ≡ task) × (after ≡ items)
 
 -- these tasks were put into a plain end that has so many before and after, and whose mark that its
--- receiver is gone stays
+-- receiver is gone stays; behind that mark none is put
 abbrev pub ListPuts : List HttpTask → Bool → List HttpTask → List HttpTask → Bool → Type 0
 ListPuts before gone tasks after gone_after = (after ≡ before ++ tasks) × (gone_after ≡ gone)
+    × (gone ≡ true → tasks ≡ [])
 
 -- these tasks were taken from a plain end, whose mark that its sender ended stays
 abbrev pub ListTakes : List HttpTask → Bool → List HttpTask → List HttpTask → Bool → Type 0

@@ -30,7 +30,8 @@ pub fn once<T: Drop, W: Wait + Clone + Drop>(
     rt: &W,
     alloc: Global,
 ) -> Result<(OnceTx<T, W>, OnceRx<T, W>), Error>
-    ensures ok { IfOk result (λ e. (e.0.end.ring ≡ e.1.end.ring) × (e.1.end.taken ≡ [])) }
+    ensures ok { IfOk result (λ e. (e.0.end.ring ≡ e.1.end.ring) × (e.1.end.taken ≡ [])
+        × (e.1.end.closed ≡ None)) }
     ensures err { IsOkUnless result no_memory }
 {
     let (end, other) = shared::open::<T, One, W>(rt, alloc)?;

@@ -1,5 +1,5 @@
 //! The sending end of a ring of items.
-ghost use Rattle.std.specs.Prelude.{◌≡◌, ◌<◌, ◌≤◌, ◌++◌, ◌+◌, ◌-◌, ◌^◌, [], ◌∷◌, length, true, false, List, Some, None, IsTrue, IsSome, min};
+ghost use Rattle.std.specs.Prelude.{◌≡◌, ◌<◌, ◌≤◌, ◌++◌, ◌+◌, ◌-◌, ◌^◌, [], ◌∷◌, length, true, false, List, Some, None, is_some, min};
 ghost use Rattle.h1_rings.specs.CloseWord.{Agrees};
 ghost use Rattle.h1_rings.specs.Ends.{counted, OfferOf, PutStepOf};
 
@@ -79,7 +79,7 @@ impl<T, R: Room, W: Wait + Drop> PutEnd<T, R, W> {
 
     /// Whether the receiver is closed.
     fn sees_gone(&mut self) -> bool
-        ensures gone { IsTrue result → IsSome self.new.gone }
+        ensures gone { result ≡ is_some self.new.gone }
         ensures stays { Agrees self.old.gone self.new.gone }
         ensures same { self.new ≡ record self.old { gone = self.new.gone } }
     {

@@ -1,5 +1,5 @@
 //! The receiving end of a ring of items.
-ghost use Rattle.std.specs.Prelude.{◌≡◌, ◌<◌, ◌≤◌, ◌++◌, ◌+◌, ◌-◌, ◌^◌, [], ◌∷◌, length, true, false, List, Some, None, IsTrue, IsSome, min};
+ghost use Rattle.std.specs.Prelude.{◌≡◌, ◌↔◌, ◌<◌, ◌≤◌, ◌++◌, ◌+◌, ◌-◌, ◌^◌, [], ◌∷◌, length, true, false, List, Some, None, IsTrue, IsSome, min};
 ghost use Rattle.h1_rings.specs.CloseWord.{Agrees};
 ghost use Rattle.h1_rings.specs.Ends.{counted, TakeStepOf};
 
@@ -96,7 +96,7 @@ impl<T, R: Room, W: Wait + Drop> TakeEnd<T, R, W> {
 
 /// Whether so many items are all that the sender put before it was closed.
 fn is_all(put: Option<u64>, count: u64) -> bool
-    ensures { IsTrue result → (put ≡ Some count) × (count < 2 ^ 64 - 2) }
+    ensures { IsTrue result ↔ (put ≡ Some count) × (count < 2 ^ 64 - 2) }
 {
     match put {
         Some(all) => all == count && all < MAX_COUNT,

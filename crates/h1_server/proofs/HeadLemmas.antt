@@ -1,6 +1,5 @@
 -- Lemmas on reading the head of a request.
-use Rattle.std.proofs.Common.{◌≡◌, ℕ, ◌<◌, ◌==◌, nat_lt, Bool, true, false, cond, List, [], ◌∷◌, length, arith, drop, Option, Some, None, IfSome, Result, Ok, refl, ap, ◌∙◌, inl, inr}
-use Rattle.h1_cut.specs.Limit.{HasNoCut}
+use Rattle.std.proofs.Common.{◌≡◌, ℕ, ◌<◌, nat_lt, Bool, true, false, cond, List, [], ◌∷◌, length, arith, drop, Option, Some, None, IfSome, Result, Ok, refl, ap, ◌∙◌, inl, inr}
 use Rattle.h1_server.specs.Words.{Poll, Ready, Error, LinkState, HasLooked, MAX_HEADER_SIZE, RefusedAt, NotYetAt, body, reads, Settings, TransferView, BodyState, HeadStop, ReadRequest, Request}
 use Rattle.h1_transfer.specs.Heads.{HeadIsTimed, ReadsHead, StopCause}
 use Rattle.h1_transfer.specs.Budget.{allowance}
@@ -26,12 +25,6 @@ nothing (b ∷ bytes) is = absurd (true≢false is)
 something : (bytes : List ℕ) → false ≡ is_nothing bytes → 0 < length bytes
 something [] is = absurd (false≢true is)
 something (b ∷ bytes) is = omega arith
-
--- in no bytes no head ends, and one may still end
-pub not_yet_empty : (bytes : List ℕ) → true ≡ (length bytes == 0) → NotYetAt bytes
-unfolding HasNoCut
-not_yet_empty [] none = record { uncut = refl; short = omega arith }
-not_yet_empty (b ∷ bytes) none = absurd (grind arith)
 
 -- what a call answers that read no head, and keeps as the refusal of later ones
 stop_answer : {L C : Type 0} (state : L → LinkState) (old new : SessionView L C) (stop : HeadStop)

@@ -2,6 +2,7 @@ pub mod Keepalive
 pub mod Persistence
 pub mod SessionView
 pub mod Heads
+pub mod HeadCalls
 pub mod Limit
 pub mod Times
 pub mod RequestMade

@@ -19,6 +19,7 @@ use h1_transfer::Transfer;
 use std::alloc::Global;
 use std::marker::Model;
 
+mod heads;
 mod keeping;
 mod replies;
 mod requests;

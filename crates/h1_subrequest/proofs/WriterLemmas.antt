@@ -2,13 +2,14 @@
 use Rattle.std.proofs.Common.{◌≡◌, ℕ, ◌+◌, ◌-◌, ◌<◌, ◌≤◌, Bool, true, false, true≢false, List, [], ◌∷◌, ◌++◌, length, take, min, nat_lt, Option, Some, None, sym, refl, ap, ◌∙◌, subst, arith, length-take}
 use Rattle.std.specs.Prelude.{IfSome, if◌then◌else◌, ◌==◌, ◌||◌, ◌&&◌, not, nat_le}
 use Rattle.std.proofs.lemmas.Bool.Decides.{nat_tests}
+use Rattle.h1_head.specs.Upgrade.{asks_upgrade}
 use Rattle.h1_head.specs.Versions.{is_http_11}
 use Rattle.h1_body.specs.declared.framing.Framing.TheVariants as framed
 use Rattle.h1_subrequest.specs.Words.{Body, BodyMode, Done, Drops, Failed, Framing, Header, HttpTask, Passes, Passing, RequestView, ResponseView, Trailer, UpgradedBody, is_interim, out}
 use Rattle.h1_subrequest.specs.declared.body_mode.BodyMode.TheVariants as mode
 use Rattle.h1_subrequest.specs.Interleavings.{end_in, ends, length_in, limit, limit_by, payload, payload_in}
 use Rattle.h1_subrequest.specs.Reading.{counted}
-use Rattle.h1_subrequest.specs.Upgrade.{asks_upgrade, completes, is_answer, is_answered, is_last}
+use Rattle.h1_subrequest.specs.Upgrade.{completes, is_answer, is_answered, is_last}
 use Rattle.h1_subrequest.specs.Writing.{body_passing, carried, done_passing, header_mode, is_final, mode_of, passing}
 use Rattle.h1_subrequest.proofs.TaskLemmas.{answered-snoc, either_way, ends-snoc, limit-first, limit-same, limit_by-none, or_false, payload-snoc}
 

@@ -6,3 +6,6 @@ pub mod Events
 pub mod Interleavings
 pub mod ReadBody
 pub mod WriteBody
+pub mod SessionView
+pub mod SessionHead
+pub mod SessionBodies

@@ -1,17 +1,11 @@
 -- When a subrequest goes on with another protocol (RFC 9110, section 7.8).
-use Rattle.std.specs.Prelude.{Bool, false, List, [], ◌∷◌, ◌||◌, ◌&&◌, ◌==◌, not, codes}
-use Rattle.h1_fields.specs.Lines.{has_line}
-use Rattle.h1_head.specs.Versions.{is_http_11}
+use Rattle.std.specs.Prelude.{Bool, false, List, [], ◌∷◌, ◌||◌, ◌&&◌, not}
+use Rattle.h1_head.specs.Upgrade.{asks_upgrade, is_switch}
 use Rattle.h1_subrequest.specs.Words.{HttpTask, Header, RequestView, ResponseView, is_interim}
-
--- the request asks for another protocol
-abbrev pub asks_upgrade : RequestView → Bool
-asks_upgrade request = is_http_11 request.version && has_line (codes "Upgrade") request.fields
 
 -- the response to this request changes to the protocol that it asks for
 abbrev pub completes : RequestView → ResponseView → Bool
-completes request header =
-    asks_upgrade request && (header.status == 101 && is_http_11 header.version)
+completes request header = asks_upgrade request && is_switch header
 
 -- no header follows this one: it is final, or a 101
 abbrev pub is_last : ResponseView → Bool

@@ -1,6 +1,7 @@
 //! How far the body of a subrequest's request is read.
-ghost use Rattle.std.specs.Prelude.{◌≡◌, ◌+◌, ◌^◌, ◌-◌, min};
-ghost use Rattle.h1_subrequest.specs.Reading.{converted, counted, counted_reader, finished, reader_of, reads, reads_end, reads_on, reads_part};
+ghost use Rattle.std.specs.Prelude.{◌≡◌, ◌+◌, ◌^◌, ◌-◌, min, false};
+ghost use Rattle.h1_subrequest.specs.ReadBody.{is_unset};
+ghost use Rattle.h1_subrequest.specs.Reading.{converted, count_of, counted, counted_reader, finished, reader_of, reads, reads_end, reads_on, reads_part};
 
 use bytes::Bytes;
 use h1_body::Framing;
@@ -24,7 +25,8 @@ pub enum ParseState {
 impl ParseState {
     /// A body of this framing that is not begun.
     pub(crate) fn of(framing: Framing) -> ParseState
-        ensures { result ≡ reader_of framing }
+        ensures state { result ≡ reader_of framing }
+        ensures set { is_unset result ≡ false }
     {
         match framing {
             Framing::Counted(n) => ParseState::of_length(n as usize),
@@ -34,12 +36,26 @@ impl ParseState {
 
     /// A body of so many bytes that is not begun.
     pub(crate) fn of_length(n: usize) -> ParseState
-        ensures { result ≡ counted_reader n }
+        ensures state { result ≡ counted_reader n }
+        ensures set { is_unset result ≡ false }
     {
         if n == 0 {
             ParseState::Complete(0)
         } else {
             ParseState::Partial(0, n)
+        }
+    }
+
+    /// How many bytes of payload were counted.
+    pub(crate) fn count(self) -> usize
+        ensures { result ≡ count_of self }
+    {
+        match self {
+            ParseState::ToStart => 0,
+            ParseState::Complete(count) => count,
+            ParseState::Partial(count, _) => count,
+            ParseState::Done(count) => count,
+            ParseState::UntilClose(count) => count,
         }
     }
 
@@ -71,7 +87,8 @@ impl ParseState {
 
     /// Behind a change of protocol.
     pub(crate) fn converted(self) -> ParseState
-        ensures { result ≡ converted self }
+        ensures state { result ≡ converted self }
+        ensures set { is_unset result ≡ false }
     {
         match self {
             ParseState::UntilClose(_) => self,
@@ -81,7 +98,8 @@ impl ParseState {
 
     /// Behind the end of a response that changed the protocol.
     pub(crate) fn finished(self) -> ParseState
-        ensures { result ≡ finished self }
+        ensures state { result ≡ finished self }
+        ensures set { is_unset result ≡ false }
     {
         match self {
             ParseState::Complete(_) | ParseState::Done(_) => self,

@@ -1,5 +1,5 @@
 //! Reads the body of a subrequest's request from a ring of tasks.
-ghost use Rattle.std.specs.Prelude.{◌≡◌, Err, false, true};
+ghost use Rattle.std.specs.Prelude.{◌≡◌, Err, None, false, true};
 ghost use Rattle.h1_subrequest.specs.Reading.{converted, counted_reader};
 ghost use Rattle.h1_subrequest.specs.ReadBody as spec;
 ghost use Rattle.h1_subrequest.specs.ReadBody.{ReadBy, ReadLive};
@@ -25,7 +25,7 @@ pub struct BodyReader<W: Wait + Drop> {
 impl<W: Wait + Drop> BodyReader<W> {
     /// A reader of which it isn't known yet how its body ends. The first read sends the notice.
     pub fn new(notify: Option<OnceTx<(), W>>) -> Self
-        ensures { result.body_state ≡ ToStart }
+        ensures { result ≡ record { body_state = ToStart; notify = notify } }
     {
         BodyReader {
             body_state: ParseState::ToStart,
@@ -42,14 +42,14 @@ impl<W: Wait + Drop> BodyReader<W> {
 
     /// The body has so many bytes.
     pub fn init_content_length(&mut self, n: usize)
-        ensures { self.new.body_state ≡ counted_reader n }
+        ensures { self.new ≡ record self.old { body_state = counted_reader n } }
     {
         self.body_state = ParseState::of_length(n);
     }
 
     /// The body ends where its sender does.
     pub fn init_close_delimited(&mut self)
-        ensures { self.new.body_state ≡ UntilClose 0 }
+        ensures { self.new ≡ record self.old { body_state = UntilClose 0 } }
     {
         self.body_state = ParseState::UntilClose(0);
     }
@@ -57,7 +57,7 @@ impl<W: Wait + Drop> BodyReader<W> {
     /// From here on the body ends where its sender does. The count begins anew, unless it ended so
     /// before.
     pub fn convert_to_close_delimited(&mut self)
-        ensures { self.new.body_state ≡ converted self.old.body_state }
+        ensures { self.new ≡ record self.old { body_state = converted self.old.body_state } }
     {
         self.body_state = self.body_state.converted();
     }
@@ -85,6 +85,7 @@ impl<W: Wait + Drop> BodyReader<W> {
         requires set { spec.is_unset self.old.body_state ≡ false }
         ensures read { ReadBy R.takes (R.was_empty rx.old rx.new) (R.was_ended rx.old rx.new)
             rx.old rx.new self.old.body_state self.new.body_state result }
+        ensures told { self.new.notify ≡ None }
         ensures set { spec.is_unset self.new.body_state ≡ false }
         ensures same { R.is_closed rx.new ≡ R.is_closed rx.old }
     {
@@ -100,6 +101,7 @@ impl<W: Wait + Drop> BodyReader<W> {
         requires { spec.is_partial self.old.body_state ≡ true }
         ensures read { ReadLive R.takes (R.was_empty rx.old rx.new) (R.was_ended rx.old rx.new)
             rx.old rx.new self.old.body_state self.new.body_state result }
+        ensures told { self.new.notify ≡ None }
         ensures same { R.is_closed rx.new ≡ R.is_closed rx.old }
     {
         self.tell();
@@ -114,6 +116,7 @@ impl<W: Wait + Drop> BodyReader<W> {
         requires { spec.is_until_close self.old.body_state ≡ true }
         ensures read { ReadLive R.takes (R.was_empty rx.old rx.new) (R.was_ended rx.old rx.new)
             rx.old rx.new self.old.body_state self.new.body_state result }
+        ensures told { self.new.notify ≡ None }
         ensures same { R.is_closed rx.new ≡ R.is_closed rx.old }
     {
         self.tell();
@@ -122,7 +125,7 @@ impl<W: Wait + Drop> BodyReader<W> {
 
     /// Sends the notice, if there is one that wasn't sent.
     fn tell(&mut self)
-        ensures { self.new.body_state ≡ self.old.body_state }
+        ensures { self.new ≡ record self.old { notify = None } }
     {
         if let Some(notify) = self.notify.take() {
             notify.send(());
@@ -134,6 +137,7 @@ impl<W: Wait + Drop> BodyReader<W> {
         requires { spec.is_live self.old.body_state ≡ true }
         ensures read { ReadLive R.takes (R.was_empty rx.old rx.new) (R.was_ended rx.old rx.new)
             rx.old rx.new self.old.body_state self.new.body_state result }
+        ensures notify { self.new.notify ≡ self.old.notify }
         ensures same { R.is_closed rx.new ≡ R.is_closed rx.old }
     {
         let state = self.body_state;

@@ -1,22 +1,16 @@
 //! When a subrequest goes on with another protocol (RFC 9110, section 7.8).
-ghost use Rattle.std.specs.Prelude.{◌≡◌, codes};
-ghost use Rattle.h1_subrequest.specs.Upgrade.{asks_upgrade, completes, is_answer, is_last, is_upgrade};
+ghost use Rattle.std.specs.Prelude.{◌≡◌};
+ghost use Rattle.h1_subrequest.specs.Upgrade.{completes, is_answer, is_last, is_upgrade};
 
-use h1_head::{HttpTask, RequestHeader, ResponseHeader, is_interim};
-use http::Version;
-
-/// Whether the request asks for another protocol.
-pub fn asks_upgrade(request: &RequestHeader) -> bool
-    ensures { result ≡ asks_upgrade request.now }
-{
-    request.version() == Version::HTTP_11 && request.fields().contains(b"Upgrade")
-}
+use h1_head::{
+    HttpTask, RequestHeader, ResponseHeader, is_interim, is_upgrade_req, is_upgrade_resp,
+};
 
 /// Whether the response changes to the protocol that its request asks for.
 pub fn completes(request: &RequestHeader, header: &ResponseHeader) -> bool
     ensures { result ≡ completes request.now header.now }
 {
-    asks_upgrade(request) && header.status() == 101 && header.version() == Version::HTTP_11
+    is_upgrade_req(request) && is_upgrade_resp(header)
 }
 
 /// Whether no header follows this task.

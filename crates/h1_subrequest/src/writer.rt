@@ -167,7 +167,7 @@ fn dropped(mode: BodyMode) -> Result<Option<usize>, Error>
 }
 
 /// How many bytes of payload were put.
-fn written(mode: BodyMode) -> usize
+pub(crate) fn written(mode: BodyMode) -> usize
     ensures { result ≡ spec.written mode }
 {
     match mode {

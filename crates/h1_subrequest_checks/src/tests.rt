@@ -2,7 +2,9 @@
 //! promises anything: an expectation that isn't met ends the test.
 mod read_body;
 mod reading;
+mod replies;
 mod running;
+mod session;
 mod write_body;
 mod writing;
 

@@ -123,7 +123,7 @@ impl Kept {
         if self.is_kept {
             reader.take_into(received, &mut self.payload, room)
         } else {
-            reader.take(received)
+            reader.take(received, room)
         }
     }
 }

@@ -54,6 +54,19 @@ impl Owed {
         buffer
     }
 
+    /// Changes the buffer of the last head for this one, where nothing is owed.
+    #[inline(always)]
+    pub(crate) fn swap_buffer(&mut self, buffer: &mut HeadBuffer)
+        requires none { self.old ≡ [] }
+        requires empty { buffer.old ≡ [] }
+        ensures same { self.new ≡ [] }
+        ensures empty { buffer.new ≡ [] }
+    {
+        self.sent = 0;
+        self.head.clear();
+        mem::swap(&mut self.head, buffer);
+    }
+
     /// Owes a head, where nothing is owed.
     pub fn put_head(&mut self, head: HeadBuffer)
         requires { self.old ≡ [] }

@@ -6,7 +6,7 @@ ghost use Rattle.std.specs.Fn.{FnOnceTakesAtMut, FnOnceReturnsAtMut};
 ghost use Rattle.h1_link.specs.Steps.{after_shutdown};
 ghost use Rattle.h1_link.specs.Later.{KeepsBytes};
 
-use crate::{BodyState, Outgoing};
+use crate::{BodyState, Memory, Outgoing};
 use bytes::BytesMut;
 use h1_body::{BodyReader, Framing, Gathering, Payload};
 use h1_head::Room;
@@ -54,6 +54,7 @@ impl<L: Link + Drop> Transfer<L> {
     ghost use Rattle.h1_body.specs.Payload.{no_payload};
     ghost use Rattle.h1_transfer.specs.Decoding.{held_of, noted_of};
     ghost use Rattle.h1_transfer.specs.TransferView.{IsNewTransfer, StartsOver};
+    ghost use Rattle.h1_transfer.specs.declared.outgoing.Step.TheVariants.{Free};
 
     /// A transfer over a link, before the first message.
     pub fn new(alloc: Global, link: L) -> Self
@@ -95,6 +96,20 @@ impl<L: Link + Drop> Transfer<L> {
         ensures { self.new ≡ self.old }
     {
         self.room = room;
+    }
+
+    /// Changes the memory of the transfer for this, between two messages.
+    #[inline(always)]
+    pub fn swap_memory(&mut self, memory: &mut Memory)
+        requires received { self.old.received ≡ [] }
+        requires free { self.old.outgoing.step ≡ Free }
+        requires unrefused { self.old.outgoing.refused ≡ None }
+        ensures { self.new ≡ self.old }
+    {
+        self.received.clear();
+        mem::swap(&mut self.received, &mut memory.received);
+        mem::swap(&mut self.room, &mut memory.room);
+        self.outgoing.owed.swap_buffer(&mut memory.head);
     }
 
     /// The bytes that are received and not used.

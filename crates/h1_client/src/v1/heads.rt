@@ -5,13 +5,11 @@ ghost use Rattle.h1_error.specs.Memory.{no_memory};
 ghost use Rattle.h1_client.specs.Responses.{final_of, is_upgraded, wishes_upgrade};
 
 use super::HttpSession;
-use crate::framing::asks_upgrade;
 use crate::response_place::ResponsePlace;
 use bytes::Bytes;
 use h1_error::Error;
-use h1_head::{RequestHeader, ResponseHeader, is_interim};
+use h1_head::{RequestHeader, ResponseHeader, is_interim, is_upgrade_req, is_upgrade_resp};
 use h1_link::Link;
-use http::Version;
 
 impl<L: Link + Drop> HttpSession<L> {
     ghost use Rattle.std.specs.Prelude.{option_map};
@@ -98,7 +96,7 @@ fn wishes_upgrade(request: &Option<RequestHeader>) -> bool
     ensures { result ≡ wishes_upgrade request.now }
 {
     match request {
-        Some(request) => asks_upgrade(request),
+        Some(request) => is_upgrade_req(request),
         None => false,
     }
 }
@@ -111,5 +109,5 @@ fn is_upgraded(last: &ResponsePlace) -> bool
         return false;
     };
     let said = &last.header;
-    !is_interim(said.status()) && said.status() == 101 && said.version() == Version::HTTP_11
+    !is_interim(said.status()) && is_upgrade_resp(said)
 }

@@ -10,6 +10,9 @@ use crate::response_place::ResponsePlace;
 use crate::spare::MOST_KEPT;
 use h1_link::Link;
 
+/// So few bytes need no large block.
+const FEW_BYTES: usize = 4096;
+
 impl<L: Link + Drop> HttpSession<L> {
     ghost use Rattle.h1_client.specs.Reusing.{is_exchanged, is_on, is_reusable, respected};
     ghost use Rattle.h1_client.specs.Served.{IsServed};
@@ -77,33 +80,45 @@ impl<L: Link + Drop> HttpSession<L> {
         requires { is_reusable self.old ≡ true }
         ensures { self.new ≡ self.old }
     {
-        let (room, buffer) = (self.transfer.take_room(), self.transfer.head_buffer());
-        self.answered.last.keep(room, buffer);
+        self.answered.last.swap_memory(&mut self.transfer);
+        if !self.is_block_small() {
+            self.answered.last.let_go_of_large();
+        }
     }
 
-    /// The link, as `reuse` gives it, and what is left for the next session over it.
+    /// The link, and what is left for the next session over it. Where the link is kept it is that
+    /// which `reuse` gives.
     #[inline(always)]
     pub(crate) fn into_parts(self) -> (L, ResponsePlace)
-        requires { is_reusable self ≡ true }
         ensures link { result.0 ≡ self.transfer.link }
-        ensures served { IsServed (L.state result.0) }
+        ensures served { is_reusable self ≡ true → IsServed (L.state result.0) }
     {
-        let small = self.is_small();
+        let small = self.are_heads_small();
         let mut place = self.answered.last;
-        let (link, received) = self.transfer.into_parts();
-        place.keep_block(received);
-        if !small {
-            place.let_go();
-        }
-        (link, place)
+        place.leave_small(small);
+        (self.transfer.into_link(), place)
     }
 
     /// Whether the heads of the exchange took little memory.
     #[inline(always)]
-    fn is_small(&self) -> bool {
+    fn are_heads_small(&self) -> bool {
         match self.answered.last.get() {
             Some(last) => self.asked.length <= MOST_KEPT && last.raw.len() <= MOST_KEPT,
             None => false,
+        }
+    }
+
+    /// Whether no block that bytes were received in can be large, since few bytes were: one head,
+    /// and a body of a stated length.
+    #[inline(always)]
+    fn is_block_small(&self) -> bool {
+        match (self.place.get(), self.answered.last.get()) {
+            (None, Some(last)) => {
+                last.raw.len() <= FEW_BYTES
+                    && self.payload_read <= FEW_BYTES as u64
+                    && !last.header.fields().has_transfer_encoding()
+            }
+            _ => false,
         }
     }
 }

@@ -38,8 +38,7 @@ impl<L: Link + Drop> HttpSession<L> {
         if let Some(error) = first_refusal(self.asked.late, self.transfer.outgoing().refused) {
             return Poll::Ready(Err(error));
         }
-        let (transfer, place) = (&mut self.transfer, &mut self.place);
-        if let Err(error) = self.asked.take_up(transfer, place, req) {
+        if let Err(error) = self.asked.take_up(&mut self.transfer, req) {
             return Poll::Ready(Err(error));
         }
         let told = self.transfer.poll_deliver(Delivery::Flushed);

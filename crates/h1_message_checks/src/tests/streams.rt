@@ -110,7 +110,10 @@ pub(super) fn receive(
 
 /// Takes the next piece of payload: the piece, and the state.
 pub(super) fn take(rt: &impl Abort, received: &mut Received) -> (Option<Bytes>, FeedState) {
-    let taken = received.reader.take(&mut received.buf).expect(rt, "memory");
+    let taken = received
+        .reader
+        .take(&mut received.buf, &mut received.room)
+        .expect(rt, "memory");
     (taken.payload, taken.state)
 }
 

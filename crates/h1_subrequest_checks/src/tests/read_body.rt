@@ -82,7 +82,6 @@ fn reads_hand_out_a_body_up_to_its_length(rt: HostRuntime) {
     let none = (Told::NoMore, ParseState::Complete(3));
     let short = Told::Refused(ErrorType::PrematureBodyEnd);
     let cut = Told::Refused(ErrorType::ConnectionClosed);
-    let header = Told::Refused(ErrorType::UnexpectedTask(TaskKind::Done));
     reads(
         &rt,
         rt.alloc(),
@@ -119,6 +118,13 @@ fn reads_hand_out_a_body_up_to_its_length(rt: HostRuntime) {
         false,
         &[first, (cut, ParseState::Done(1))],
     );
+}
+
+#[test]
+fn reads_wait_for_more_and_refuse_what_is_no_body(rt: HostRuntime) {
+    let a = Part::Body("a", false);
+    let first = (Told::Piece("a"), ParseState::Partial(1, 2));
+    let header = Told::Refused(ErrorType::UnexpectedTask(TaskKind::Done));
     reads(
         &rt,
         rt.alloc(),

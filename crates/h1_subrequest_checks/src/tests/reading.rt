@@ -87,7 +87,10 @@ fn a_body_that_ends_before_its_length_is_done(rt: HostRuntime) {
             (Read, ParseState::Done(1)),
         ],
     );
-    // What was put before the close is taken first.
+}
+
+#[test]
+fn what_was_put_before_the_close_is_taken_first(rt: HostRuntime) {
     reads(
         &rt,
         rt.alloc(),

@@ -6,6 +6,6 @@ use Rattle.h1_client.proofs.v1.HttpSession.with_place.Goals as goal
 
 pub invariant_of-result : goal.invariant_of-result
 invariant_of-result g c =
-    rw c.lend.ensures (sound_start g.L.Link.state c.new-transfer.result c.new.result c.new-2.result _
+    rw c.swap_memory.ensures.transfer (sound_start g.L.Link.state c.new-transfer.result c.new.result c.new-2.result _
     c.requires c.new-transfer.ensures (ap (λ (a : Asked). a.request) c.new.ensures)
     c.new-2.ensures.none.0 c.new-2.ensures.searched)

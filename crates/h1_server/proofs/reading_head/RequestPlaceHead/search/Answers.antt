@@ -1,5 +1,5 @@
 -- In no bytes there is no head yet.
-use Rattle.h1_server.proofs.HeadLemmas.{not_yet_empty}
+use Rattle.h1_head.proofs.RequestHeadLemmas.{not_yet_empty}
 use Rattle.h1_server.proofs.reading_head.RequestPlaceHead.search.Goals as goal
 
 pub returns-then-is_empty-clause-ok : goal.returns-then-is_empty-clause-ok

@@ -1,0 +1,6 @@
+-- In no bytes there is no head yet.
+use Rattle.h1_head.proofs.RequestHeadLemmas.{not_yet_empty}
+use Rattle.h1_client.proofs.response_place.ResponsePlaceHead.search.Goals as goal
+
+pub returns-then-is_empty-clause-ok : goal.returns-then-is_empty-clause-ok
+returns-then-is_empty-clause-ok c = not_yet_empty c.args.bytes.now c.if-is_empty.ensures
