@@ -4,6 +4,7 @@ use h1_error::{Error, ErrorType, HeadFault};
 use h1_rings::{ListRx, ListTx, OnceTx, once};
 use h1_subrequest::HttpSession;
 use std::alloc::Global;
+use std::marker::Model;
 use std::process::Abort;
 use std::sync::Wait;
 use std::test::*;
@@ -17,52 +18,94 @@ enum Told {
     Waits,
 }
 
-/// A session with this head, over ends in memory.
-fn begun<W: Abort + Wait + Drop>(
+/// A session over ends in memory. Contracts see nothing of it.
+#[derive(Drop)]
+struct Begun<W: Wait + Drop> {
+    session: HttpSession<ListTx, ListRx, W>,
+}
+
+impl<W: Wait + Drop> Model for Begun<W> {
+    ghost Value = { Unit {0} };
+
+    ghost view = { λ _. tt };
+}
+
+/// A session with this head.
+fn session_with<W: Abort + Wait + Drop>(
     rt: &W,
     alloc: Global,
     head: &str,
     told: Option<OnceTx<Error, W>>,
-) -> HttpSession<ListTx, ListRx, W> {
-    HttpSession::with_ends(
+) -> Begun<W> {
+    let session = HttpSession::with_ends(
         alloc,
         head.as_bytes(),
         ListTx::new(),
         ListRx::new(),
         None,
         told,
-    )
-    .expect(rt, "memory")
-}
-
-/// Reads the head, once.
-fn read<W: Wait + Drop>(session: &mut HttpSession<ListTx, ListRx, W>) -> Told {
-    if session.has_request() {
-        return Told::Waits;
-    }
-    match session.poll_read_request(0) {
-        Poll::Ready(Ok(Some(len))) => Told::Whole(len),
-        Poll::Ready(Ok(None)) => Told::Nothing,
-        Poll::Ready(Err(error)) => Told::Refused(error.kind),
-        Poll::Pending => Told::Waits,
+    );
+    Begun {
+        session: session.expect(rt, "memory"),
     }
 }
 
-/// Whether the body is read to its end and has no byte. Before the head nothing is asked.
-fn is_empty<W: Wait + Drop>(session: &mut HttpSession<ListTx, ListRx, W>) -> bool {
-    session.has_request() && session.is_body_empty()
+impl<W: Wait + Drop> Begun<W> {
+    /// Reads the head, once.
+    fn read(&mut self) -> Told {
+        if self.session.has_request() {
+            return Told::Waits;
+        }
+        match self.session.poll_read_request(0) {
+            Poll::Ready(Ok(Some(len))) => Told::Whole(len),
+            Poll::Ready(Ok(None)) => Told::Nothing,
+            Poll::Ready(Err(error)) => Told::Refused(error.kind),
+            Poll::Pending => Told::Waits,
+        }
+    }
+
+    /// Whether the body is read to its end and has no byte. Before the head nothing is asked.
+    fn is_empty(&mut self) -> bool {
+        self.session.has_request() && self.session.is_body_empty()
+    }
+
+    fn has(&self, name: &[u8], expected: Option<&[u8]>) -> bool {
+        match (self.session.get_header(name), expected) {
+            (Some(value), Some(other)) => value == other,
+            (None, None) => self.session.get_header_bytes(name).is_empty(),
+            _ => false,
+        }
+    }
+
+    fn clear(&mut self) {
+        self.session.clear_request_body_headers();
+    }
+
+    fn fail(&mut self, kind: ErrorType) {
+        self.session.on_proxy_failure(Error::from(kind));
+    }
+
+    fn asks_for_upgrade(&self) -> bool {
+        self.session.is_upgrade_req()
+    }
+
+    fn was_upgraded(&self) -> bool {
+        self.session.was_upgraded()
+    }
+
+    fn has_written(&self) -> bool {
+        self.session.response_written().is_some()
+    }
 }
 
-fn has<W: Wait + Drop>(
-    session: &HttpSession<ListTx, ListRx, W>,
-    name: &[u8],
-    expected: Option<&[u8]>,
-) -> bool {
-    match (session.get_header(name), expected) {
-        (Some(value), Some(other)) => value == other,
-        (None, None) => session.get_header_bytes(name).is_empty(),
-        _ => false,
-    }
+/// The summary of the session is this.
+fn is_summary<W: Abort + Wait + Drop>(rt: &W, session: &Begun<W>, expected: &str) -> bool {
+    session
+        .session
+        .request_summary()
+        .expect(rt, "memory")
+        .as_str()
+        == expected
 }
 
 #[test]
@@ -77,71 +120,69 @@ fn a_head_is_read_from_the_bytes_that_are_there(rt: HostRuntime) {
         ("GET\r\n\r\n", bad),
     ];
     for (head, expected) in rows {
-        let mut session = begun(&rt, rt.alloc(), head, None);
-        assert_eq!(rt; read(&mut session), expected, "{head}");
+        let mut session = session_with(&rt, rt.alloc(), head, None);
+        assert_eq!(rt; session.read(), expected, "{head}");
         // A refusal comes again; a head is there once.
         let again = match expected {
             Told::Whole(_) => Told::Waits,
             other => other,
         };
-        assert_eq!(rt; read(&mut session), again, "{head}");
+        assert_eq!(rt; session.read(), again, "{head}");
     }
 }
 
 #[test]
 fn a_summary_names_a_subrequest(rt: HostRuntime) {
-    let mut session = begun(
+    let mut session = session_with(
         &rt,
         rt.alloc(),
         "GET /a?b HTTP/1.1\r\nhost: c\r\n\r\n",
         None,
     );
-    let text = session.request_summary().expect(&rt, "memory");
-    assert_eq!(rt; text.as_str(), "- , Host:  (subrequest)");
-    assert!(rt; has(&session, b"Host", None));
-    let _ = read(&mut session);
-    let text = session.request_summary().expect(&rt, "memory");
-    assert_eq!(rt; text.as_str(), "GET /a?b, Host: c (subrequest)");
-    assert!(rt; has(&session, b"Host", Some(b"c")));
-    assert!(rt; session.response_written().is_none());
+    assert!(rt; is_summary(&rt, &session, "- , Host:  (subrequest)"));
+    assert!(rt; session.has(b"Host", None));
+    let _ = session.read();
+    assert!(rt; is_summary(&rt, &session, "GET /a?b, Host: c (subrequest)"));
+    assert!(rt; session.has(b"Host", Some(b"c")));
+    assert!(rt; !session.has_written());
 }
 
 const POST: &str = "POST / HTTP/1.1\r\nHost: a\r\nContent-Length: 3\r\nContent-Type: b\r\n\r\n";
 
 #[test]
 fn a_body_is_taken_off_before_the_head_or_behind_it(rt: HostRuntime) {
-    let mut session = begun(&rt, rt.alloc(), POST, None);
-    session.clear_request_body_headers();
-    let _ = read(&mut session);
-    assert!(rt; is_empty(&mut session));
-    assert!(rt; has(&session, b"Content-Length", None));
-    assert!(rt; has(&session, b"Content-Type", None));
-    assert!(rt; has(&session, b"Host", Some(b"a")));
+    let mut session = session_with(&rt, rt.alloc(), POST, None);
+    session.clear();
+    let _ = session.read();
+    assert!(rt; session.is_empty());
+    assert!(rt; session.has(b"Content-Length", None));
+    assert!(rt; session.has(b"Content-Type", None));
+    assert!(rt; session.has(b"Host", Some(b"a")));
 
-    let mut session = begun(&rt, rt.alloc(), POST, None);
-    let _ = read(&mut session);
-    assert!(rt; has(&session, b"Content-Length", Some(b"3")));
-    session.clear_request_body_headers();
-    assert!(rt; has(&session, b"Content-Length", None));
-    assert!(rt; is_empty(&mut session));
+    let mut session = session_with(&rt, rt.alloc(), POST, None);
+    let _ = session.read();
+    assert!(rt; session.has(b"Content-Length", Some(b"3")));
+    session.clear();
+    assert!(rt; session.has(b"Content-Length", None));
+    assert!(rt; session.is_empty());
 }
 
 #[test]
 fn a_body_that_was_asked_for_stays(rt: HostRuntime) {
-    let mut session = begun(&rt, rt.alloc(), POST, None);
-    let _ = read(&mut session);
-    assert!(rt; !is_empty(&mut session));
-    session.clear_request_body_headers();
-    assert!(rt; has(&session, b"Content-Length", None));
-    assert!(rt; !is_empty(&mut session));
+    let mut session = session_with(&rt, rt.alloc(), POST, None);
+    let _ = session.read();
+    assert!(rt; !session.is_empty());
+    session.clear();
+    assert!(rt; session.has(b"Content-Length", None));
+    assert!(rt; !session.is_empty());
 }
 
 #[test]
 fn the_first_error_of_the_proxy_alone_is_sent(rt: HostRuntime) {
     let (tx, mut rx) = once::<Error, HostRuntime>(&rt, rt.alloc()).expect(&rt, "memory");
-    let mut session = begun(&rt, rt.alloc(), POST, Some(tx));
-    session.on_proxy_failure(Error::from(ErrorType::TaskFailed(1)));
-    session.on_proxy_failure(Error::from(ErrorType::TaskFailed(2)));
+    let mut session = session_with(&rt, rt.alloc(), POST, Some(tx));
+    session.fail(ErrorType::TaskFailed(1));
+    session.fail(ErrorType::TaskFailed(2));
     match rx.try_take() {
         Some(error) => assert_eq!(rt; error.kind, ErrorType::TaskFailed(1)),
         None => assert!(rt; false),
@@ -157,10 +198,10 @@ fn a_request_of_version_11_with_an_upgrade_line_asks_for_one(rt: HostRuntime) {
         ("GET / HTTP/1.1\r\nHost: a\r\n\r\n", false),
     ];
     for (head, expected) in rows {
-        let mut session = begun(&rt, rt.alloc(), head, None);
-        assert!(rt; !session.is_upgrade_req(), "{head}");
-        let _ = read(&mut session);
-        assert_eq!(rt; session.is_upgrade_req(), expected, "{head}");
+        let mut session = session_with(&rt, rt.alloc(), head, None);
+        assert!(rt; !session.asks_for_upgrade(), "{head}");
+        let _ = session.read();
+        assert_eq!(rt; session.asks_for_upgrade(), expected, "{head}");
         assert!(rt; !session.was_upgraded(), "{head}");
     }
 }
