@@ -15,7 +15,7 @@ use Rattle.h1_client.specs.ClientView.{ClientView, call_begun}
 use Rattle.h1_client.specs.Upgrading.{EndsWithRequest, ends_both}
 use Rattle.h1_client.specs.Words.{Poll, Pending, Ready, Error, Framing, LinkState, TransferView, RequestView, Outgoing, Free, Finish, begun, framing, is_short, itself, request_bytes}
 use Rattle.h1_asking.specs.Turns.{EndTurn, IsIdle, MadeOr, may_finish}
-use Rattle.h1_asking.specs.Writing.{IsPut, Puts, Takes, bytes_behind, payload_of, writer_behind}
+use Rattle.h1_asking.specs.Writing.{IsFlushed, IsPut, Puts, Takes, bytes_behind, payload_of, writer_behind}
 use Rattle.h1_asking.proofs.PutLemmas.{put_on, put_still}
 
 -- the end of the body was put, which isn't short, and is written or flushed
@@ -39,7 +39,7 @@ PutsEnd state before request body link out =
 abbrev pub EndedBy : {L : Type 0} → (L → LinkState) → Option (List ℕ) → RequestView
     → Option (List ℕ) → L → Outgoing → Poll (Result (Option ℕ) Error) → Type 0
 EndedBy state before request body link out (Ready (Ok count)) =
-    Takes before (state link).written request body
+    Takes before (state link).written request body × IsFlushed (state link)
 EndedBy state before request body link out (Ready (Err error)) = Unit {0}
 EndedBy state before request body link out Pending = PutsEnd state before request body link out
 
@@ -86,24 +86,27 @@ begun_behind request (Some body) = refl
 
 -- the end of the body was put by a call with this answer
 end_answer : {L : Type 0} (state : L → LinkState) (before : Option (List ℕ)) (request : RequestView)
-    (body : Option (List ℕ)) (link : L) (was out : Outgoing) (first then : LinkState) (left : ℕ)
+    (body : Option (List ℕ)) (link : L) (was out : Outgoing) (first : LinkState) (left : ℕ)
     (outcome : Poll (Result (Option ℕ) Error)) (front : List ℕ) → request_bytes request ≡ Some front
     → is_short (writer_behind request body) ≡ false
     → IsPut state before
     (front ++ (bytes_behind request body ++ end_bytes (writer_behind request body))) link out
-    → EndAnswer first then was out left outcome
+    → EndAnswer first (state link) was out left outcome
     → EndedBy state before request body link out outcome
-end_answer state before request body link was out first then left (Ready (Ok count)) front head full put
-    answer = record {
-      front = front;
-      head = head;
-      took = put_taken before (state link).written _ out.owed put answer.0.owed
-          ∙ ap (λ rest. append_known before (front ++ rest)) (all_bytes request body);
-      enough = enough request body full;
-    }
-end_answer state before request body link was out first then left (Ready (Err error)) front head full put
+end_answer state before request body link was out first left (Ready (Ok count)) front head full put
+    answer = (
+      record {
+        front = front;
+        head = head;
+        took = put_taken before (state link).written _ out.owed put answer.0.owed
+            ∙ ap (λ rest. append_known before (front ++ rest)) (all_bytes request body);
+        enough = enough request body full;
+      },
+      answer.2,
+    )
+end_answer state before request body link was out first left (Ready (Err error)) front head full put
     answer = tt
-end_answer state before request body link was out first then left Pending front head full put answer =
+end_answer state before request body link was out first left Pending front head full put answer =
     inr (record { front = front; head = head; full = full; put = put; ends = answer.at_step })
 
 begins_end : {L : Type 0} (state : L → LinkState) (before : Option (List ℕ)) (request : RequestView)
@@ -117,7 +120,7 @@ begins_end state before request body start sent outcome full puts writes =
     let moved = writes.writes.sent in
     let rest = bytes_behind request body in
     end_answer state before request body sent.link start.outgoing sent.outgoing (state start.link)
-    (state sent.link) writes.left outcome puts.front puts.head (ap is_short (sym puts.writer_is) ∙ full)
+    writes.left outcome puts.front puts.head (ap is_short (sym puts.writer_is) ∙ full)
     (put_on before (state start.link).written (state sent.link).written (puts.front ++ rest)
     writes.taking start.outgoing.owed sent.outgoing.owed moved.piece puts.put moved.moved.written
     moved.bytes
@@ -133,7 +136,7 @@ goes_end : {L : Type 0} (state : L → LinkState) (before : Option (List ℕ)) (
 goes_end state before request body start sent outcome last writes =
     let moved = writes.writes.sent in
     end_answer state before request body sent.link start.outgoing sent.outgoing (state start.link)
-    (state sent.link) writes.left outcome last.front last.head last.full
+    writes.left outcome last.front last.head last.full
     (put_still before (state start.link).written (state sent.link).written
     (last.front ++ (bytes_behind request body ++ end_bytes (writer_behind request body))) writes.taking
     start.outgoing.owed sent.outgoing.owed moved.piece last.put moved.moved.written moved.bytes
@@ -215,6 +218,7 @@ pub ended_ok : {L : Type 0} (state : L → LinkState) (same_plan : L → L → T
     → EndTurn state same_plan old new (Ready told)
     → PutsEnd state before request body old.transfer.link old.transfer.outgoing → told ≡ Ok count
     → Takes before (state new.transfer.link).written request body
+    × IsFlushed (state new.transfer.link)
 ended_ok state same_plan before request body old new told count turn puts is =
     subst (λ t. EndedBy state before request body new.transfer.link new.transfer.outgoing (Ready t)) is
     (ended_put state same_plan before request body old new (Ready told) turn puts)

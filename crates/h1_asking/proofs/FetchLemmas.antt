@@ -59,6 +59,16 @@ handed_unread state dials peer between now session true answer =
 handed_unread state dials peer between now session false answer =
     (answer.0.0.request, new_unread state session.transfer.link _ session answer.0.0)
 
+-- and it was made with the peer that it is asked for
+pub handed_key : {L D : Type 0} (state : L → LinkState) (dials : D → DialerState) (peer : Peer)
+    (between now : D) (session : ClientView L) (is_reused : Bool)
+    → GetAnswer state dials peer between now (Ready (Ok (session, is_reused)))
+    → session.settings.key ≡ Some peer.key
+handed_key state dials peer between now session true answer =
+    ap (λ (s : Settings). s.key) answer.0.0.settings
+handed_key state dials peer between now session false answer =
+    ap (λ (s : Settings). s.key) answer.0.0.settings
+
 -- the settings of a session decide nothing here
 pub unread_set : {L : Type 0} (state : L → LinkState) (before : Option (List ℕ))
     (old new : ClientView L) (said : Settings) → new ≡ record old { settings = said }
@@ -75,8 +85,13 @@ pub wrote_set : {L : Type 0} (state : L → LinkState) (old new : ClientView L) 
 wrote_set {L} state old new said is =
     ap (λ (s : ClientView L). (state s.transfer.link).written) is
 
+pub key_set : {L : Type 0} (old new : ClientView L) (said : Settings)
+    → new ≡ record old { settings = said } → said.key ≡ old.settings.key
+    → new.settings.key ≡ old.settings.key
+key_set {L} old new said is same = ap (λ (s : ClientView L). s.settings.key) is ∙ same
+
 -- a session that read its final response whole
-pub whole_gives : {L : Type 0} (state : L → LinkState) (before : LinkState) (request : RequestView)
+abbrev pub whole_gives : {L : Type 0} (state : L → LinkState) (before : LinkState) (request : RequestView)
     (said : ResponseView) (payload : List ℕ) (t : TransferView L)
     → ReadsWhole state before.given request said payload t
     → Gives before (state t.link) request said payload

@@ -1,6 +1,5 @@
 -- The calls that read a response write nothing.
-use Rattle.std.proofs.Common.{◌≡◌, ℕ, Bool, true, false, List, [], Option, Some, None, IfSome, IfNone, Result, Ok, Err, ap, ◌∙◌}
-use Rattle.std.specs.Io.KnownBytes.{append_known}
+use Rattle.std.proofs.Common.{◌≡◌, ℕ, Bool, true, false, List, Option, Some, None, IfSome, IfNone, Result, Err, ap, ◌∙◌}
 use Rattle.h1_link.proofs.Laters.{append_known-nil}
 use Rattle.h1_transfer.specs.Payload.{ReadsPayload}
 use Rattle.h1_transfer.specs.declared.reading_head.HeadRead.TheVariants as read

@@ -249,3 +249,42 @@ end_unread {L} state same_plan before old new outcome call unread =
     keeps_unread state before old new
     (record { given = left.given ∙ sent.given; received = left.received ∙ sent.received })
     (ap (λ (s : ClientView L). s.answered) call.rest) unread
+
+sends_settings : {L : Type 0} (state : L → LinkState) (now : ℕ) (old new : ClientView L)
+    (outcome : Poll (Result ℕ Error)) → SendsHead state now old new outcome
+    → new.settings ≡ old.settings
+sends_settings {L} state now old new outcome sends =
+    ap (λ (s : ClientView L). s.settings) sends.rest
+
+stays_settings : {L : Type 0} (old new : ClientView L) (head kept : Option RequestView)
+    → StaysAsIs old new head kept → new.settings ≡ old.settings
+stays_settings {L} old new head kept stays = ap (λ (s : ClientView L). s.settings) stays.0
+
+with_settings : {L : Type 0} (state : L → LinkState) (now : ℕ) (old new : ClientView L)
+    (head : RequestView) (kept : Option RequestView) (bytes : Option (List ℕ))
+    (outcome : Poll (Result ℕ Error)) → AsksWith state now old new head kept bytes outcome
+    → new.settings ≡ old.settings
+with_settings state now old new head kept None outcome asks =
+    stays_settings old new (Some head) kept asks.1
+with_settings state now old new head kept (Some bytes) outcome asks =
+    sends_settings state now (taken_up (call_begun old) head bytes) new outcome asks.1
+
+asks_settings : {L : Type 0} (state : L → LinkState) (now : ℕ) (old new : ClientView L)
+    (head kept : Option RequestView) (outcome : Poll (Result ℕ Error))
+    → AsksBy state now old new head kept outcome → new.settings ≡ old.settings
+asks_settings state now old new None kept outcome asks =
+    sends_settings state now (call_begun old) new outcome asks.1
+asks_settings state now old new (Some head) kept outcome asks = elim asks [
+  | inl starves ↦ stays_settings old new (Some head) kept starves.1
+  | inr writes ↦ with_settings state now old new head kept (request_bytes head) outcome writes
+]
+
+-- a call that writes the head of a request changes no setting
+pub asked_settings : {L : Type 0} (state : L → LinkState) (now : ℕ) (old new : ClientView L)
+    (head kept : Option RequestView) (outcome : Poll (Result ℕ Error)) (refused : Option Error)
+    → IfSome refused (λ error. (outcome ≡ Ready (Err error)) × StaysAsIs old new head kept)
+    → IfNone refused (AsksBy state now old new head kept outcome) → new.settings ≡ old.settings
+asked_settings state now old new head kept outcome (Some error) again asks =
+    stays_settings old new head kept again.1
+asked_settings state now old new head kept outcome None again asks =
+    asks_settings state now old new head kept outcome asks

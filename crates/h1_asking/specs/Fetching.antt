@@ -8,7 +8,7 @@ use Rattle.h1_client.specs.ClientView.{ClientView, request_of, response_of}
 use Rattle.h1_client.specs.Getting.{GetAnswer, is_kept}
 use Rattle.h1_client.specs.declared.settings.Peer.{Peer}
 use Rattle.h1_asking.specs.Reading.{Gives, count_of}
-use Rattle.h1_asking.specs.Writing.{Takes}
+use Rattle.h1_asking.specs.Writing.{IsFlushed, Takes}
 use Rattle.h1_asking.specs.declared.fetching.TheConstants.{MOST_POLLS}
 use Rattle.h1_asking.specs.declared.fetching.Fault.{Fault}
 use Rattle.h1_asking.specs.declared.fetching.Fault.TheVariants as fault
@@ -38,13 +38,21 @@ NoSession state dials peer before now error =
     ⊎ ((error ≡ error_of kind.ReadTimedout) × AfterWaits state dials peer MOST_POLLS before now)
 
 -- One exchange over a session: its link took this request with this body, and nothing else, and gave
--- a final response to it. The status is that of the response, whose payload has so many bytes.
+-- a final response to it. All that it took was flushed before the first byte of the responses was
+-- read. The status is that of the response, whose payload has so many bytes.
 pub record Exchanges {L : Type 0} (state : L → LinkState) (request : RequestView)
     (body : Option (List ℕ)) (old new : ClientView L) (status length : ℕ) : Type 0 where
   pub said : ResponseView
   pub payload : List ℕ
   pub takes : Takes (state old.transfer.link).written (state new.transfer.link).written request body
+  -- the link, once the request was written
+  pub asked_over : L
+  pub wrote : (state new.transfer.link).written ≡ (state asked_over).written
+  pub flushed : IsFlushed (state asked_over)
+  pub unread : (state asked_over).given ≡ (state old.transfer.link).given
   pub gives : Gives (state old.transfer.link) (state new.transfer.link) request said payload
+  -- what is received and not used stands behind the response
+  pub behind : new.transfer.received ≡ gives.left
   pub asked : request_of new ≡ Some request
   pub answered : response_of new ≡ Some said
   pub status_is : status ≡ said.status

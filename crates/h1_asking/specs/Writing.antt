@@ -1,5 +1,5 @@
 -- What a session writes of a request, by the bytes that its link takes (RFC 9112, sections 3 and 6).
-use Rattle.std.specs.Prelude.{◌≡◌, ℕ, List, [], ◌++◌, length, false, Option, Some, None}
+use Rattle.std.specs.Prelude.{◌≡◌, ◌≤◌, ℕ, List, [], ◌++◌, length, false, Option, Some, None}
 use Rattle.std.specs.Io.KnownBytes.{append_known}
 use Rattle.h1_body.specs.Writer.{after_piece, body_bytes, lacks, piece_bytes}
 use Rattle.h1_client.specs.ClientView.{ClientView}
@@ -19,6 +19,10 @@ pub record Takes (before now : Option (List ℕ)) (request : RequestView) (body 
   pub took : now
       ≡ append_known before (front ++ body_bytes (framing request) (payload_of body))
   pub enough : lacks (Some (framing request)) (length (payload_of body)) ≡ false
+
+-- all that a link took is flushed
+abbrev pub IsFlushed : LinkState → Type 0
+IsFlushed s = s.bytes_out ≤ s.flushed
 
 -- since it had taken the bytes before, a link took these, but for those at their end that are owed
 abbrev pub IsPut : {L : Type 0} → (L → LinkState) → Option (List ℕ) → List ℕ → L → Outgoing

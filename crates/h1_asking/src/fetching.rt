@@ -5,7 +5,7 @@ ghost use Rattle.h1_client.specs.ClientView.{request_of, response_of};
 ghost use Rattle.h1_client.specs.Words.{RequestView, ResponseView, begun, framing};
 ghost use Rattle.h1_asking.specs.Fetching.{Connects, Exchanges, Fetches, FetchFault, IsFaultOf, NoSession};
 ghost use Rattle.h1_asking.specs.Reading.{Counts, ReadsSoFar, ReadsWhole, Unread, count_of};
-ghost use Rattle.h1_asking.specs.Writing.{HasPut, Takes, bytes_behind, writer_behind};
+ghost use Rattle.h1_asking.specs.Writing.{HasPut, IsFlushed, Takes, bytes_behind, writer_behind};
 
 use crate::turns::{ask, finish, read_piece, read_response, write_piece};
 use bytes::Bytes;
@@ -150,6 +150,7 @@ fn exchange<L: Link + Drop, T: Clock>(
     requires unread { Unread L.state (L.state session.old.transfer.link).given session.old }
     ensures ok { IfOk result (λ came. Exchanges L.state head body session.old session.new came.status
         came.length) }
+    ensures key { OnOk result (session.new.settings.key ≡ session.old.settings.key) }
 {
     session.set_read_timeout(Some(TIMEOUT));
     session.set_write_timeout(Some(TIMEOUT));
@@ -169,6 +170,7 @@ fn write_head<L: Link + Drop, T: Clock>(
 ) -> Result<(), Error>
     requires { request_of session.old ≡ None }
     ensures request { OnOk result (request_of session.new ≡ Some head) }
+    ensures settings { session.new.settings ≡ session.old.settings }
     ensures puts { OnOk result (HasPut L.state (L.state session.old.transfer.link).written head
         (begun (framing head)) [] session.new) }
     ensures unread { (before : Option (List ℕ)) → Unread L.state before session.old
@@ -192,6 +194,7 @@ fn write_body<L: Link + Drop, T: Clock>(
     body: Option<Bytes>,
 ) -> Result<(), Error>
     ensures request { request_of session.new ≡ request_of session.old }
+    ensures settings { session.new.settings ≡ session.old.settings }
     ensures puts { OnOk result ((before : Option (List ℕ)) (request : RequestView)
         → HasPut L.state before request (begun (framing request)) [] session.old
         → HasPut L.state before request (writer_behind request body) (bytes_behind request body)
@@ -219,11 +222,13 @@ fn write_end<L: Link + Drop, T: Clock>(
     clock: &mut T,
 ) -> Result<(), Error>
     ensures request { request_of session.new ≡ request_of session.old }
+    ensures settings { session.new.settings ≡ session.old.settings }
     ensures takes { OnOk result ((before : Option (List ℕ)) (request : RequestView)
         (body : Option (List ℕ))
         → HasPut L.state before request (writer_behind request body) (bytes_behind request body)
         session.old
-        → Takes before (L.state session.new.transfer.link).written request body) }
+        → Takes before (L.state session.new.transfer.link).written request body
+        × IsFlushed (L.state session.new.transfer.link)) }
     ensures unread { (before : Option (List ℕ)) → Unread L.state before session.old
         → Unread L.state before session.new }
 {
@@ -243,6 +248,7 @@ fn read_head<L: Link + Drop, T: Clock>(
     clock: &mut T,
 ) -> Result<u16, Error>
     ensures request { request_of session.new ≡ request_of session.old }
+    ensures settings { session.new.settings ≡ session.old.settings }
     ensures ok { IfOk result (λ status. (before : Option (List ℕ)) (request : RequestView)
         → request_of session.old ≡ Some request → Unread L.state before session.old
         → (said : ResponseView) × (response_of session.new ≡ Some said)
@@ -278,6 +284,7 @@ fn read_body<L: Link + Drop, T: Clock>(
     clock: &mut T,
 ) -> Result<u64, Error>
     ensures request { request_of session.new ≡ request_of session.old }
+    ensures settings { session.new.settings ≡ session.old.settings }
     ensures response { response_of session.new ≡ response_of session.old }
     ensures ok { IfOk result (λ length. (before : Option (List ℕ)) (request : RequestView)
         (said : ResponseView)
@@ -305,6 +312,7 @@ fn count_part<L: Link + Drop>(
     length: &mut u64,
 ) -> Result<Part, Error>
     ensures request { request_of session.new ≡ request_of session.old }
+    ensures settings { session.new.settings ≡ session.old.settings }
     ensures response { response_of session.new ≡ response_of session.old }
     ensures ok { IfOk result (λ part. (before : Option (List ℕ)) (request : RequestView)
         (said : ResponseView) (payload : List ℕ)

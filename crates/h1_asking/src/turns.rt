@@ -27,6 +27,7 @@ pub fn ask<L: Link + Drop>(
         → IsHandedOver request head.old (request_of session.old)
         → IsHandedOver request head.new (request_of session.new) }
     ensures done { IsAnsweredEmpty result head.new }
+    ensures settings { session.new.settings ≡ session.old.settings }
     ensures unread { (before : Option (List ℕ)) → Unread L.state before session.old
         → Unread L.state before session.new }
 {
@@ -45,6 +46,7 @@ pub fn write_piece<L: Link + Drop>(
     ensures call { PieceTurn L.state L.same_plan now session.old session.new piece.old piece.new
         result }
     ensures request { request_of session.new ≡ request_of session.old }
+    ensures settings { session.new.settings ≡ session.old.settings }
     ensures unread { (before : Option (List ℕ)) → Unread L.state before session.old
         → Unread L.state before session.new }
 {
@@ -61,6 +63,7 @@ pub fn finish<L: Link + Drop>(
 ) -> Poll<Result<Option<usize>, Error>>
     ensures call { EndTurn L.state L.same_plan session.old session.new result }
     ensures request { request_of session.new ≡ request_of session.old }
+    ensures settings { session.new.settings ≡ session.old.settings }
     ensures unread { (before : Option (List ℕ)) → Unread L.state before session.old
         → Unread L.state before session.new }
 {
@@ -77,6 +80,7 @@ pub fn read_response<L: Link + Drop>(
 ) -> Poll<Result<usize, Error>>
     ensures call { HeadTurn L.state L.same_plan now session.old session.new result }
     ensures request { request_of session.new ≡ request_of session.old }
+    ensures settings { session.new.settings ≡ session.old.settings }
     ensures reads { (before : Option (List ℕ)) (request : RequestView)
         → request_of session.old ≡ Some request
         → ReadsHeads L.state before request session.old.transfer (response_of session.old)
@@ -97,6 +101,7 @@ pub fn read_piece<L: Link + Drop>(
 ) -> Poll<Result<Option<Bytes>, Error>>
     ensures call { PartTurn L.state L.same_plan now session.old session.new result }
     ensures request { request_of session.new ≡ request_of session.old }
+    ensures settings { session.new.settings ≡ session.old.settings }
     ensures response { response_of session.new ≡ response_of session.old }
     ensures reads { (before : Option (List ℕ)) (request : RequestView) (said : ResponseView)
         (payload : List ℕ)

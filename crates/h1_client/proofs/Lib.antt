@@ -6,4 +6,5 @@ pub mod CallLemmas
 pub mod EndLemmas
 pub mod AskLemmas
 pub mod ReadLemmas
+pub mod KeyLemmas
 pub mod PickLemmas

@@ -1,5 +1,5 @@
 -- Each step of a session keeps what holds of it.
-use Rattle.std.proofs.Common.{◌≡◌, ℕ, List, [], length, take, drop, Bool, true, false, ◌&&◌, ◌==◌, Option, Some, None, is_some, refl, sym, ap, ◌∙◌}
+use Rattle.std.proofs.Common.{◌≡◌, ℕ, List, [], take, drop, Bool, true, false, ◌&&◌, ◌==◌, Option, Some, None, is_some, refl, sym, ap, ◌∙◌}
 use Rattle.std.proofs.lemmas.Bool.{false≢true}
 use Rattle.h1_body.specs.Payload.{Payload}
 use Rattle.h1_transfer.specs.Moved.{Received, Sent}
@@ -8,7 +8,7 @@ use Rattle.h1_client.specs.Words.{Framing, Counted, Chunked, UntilClose, framing
 use Rattle.h1_client.specs.Responses.{framing_to, is_upgraded, wishes_upgrade}
 use Rattle.h1_client.specs.Reusing.{is_at_end, is_nothing, is_on, is_sent}
 use Rattle.h1_client.specs.Served.{IsServed}
-use Rattle.h1_client.specs.Sound.{Sound, Exchanging, IsSearched, StaysHttp}
+use Rattle.h1_client.specs.Sound.{Sound, IsSearched, StaysHttp}
 use Rattle.h1_client.specs.Written.{FitsRequest}
 use Rattle.h1_client.specs.declared.keeping.Keepalive.{Keepalive}
 use Rattle.h1_client.specs.declared.keeping.Keepalive.TheVariants.{Off, On}

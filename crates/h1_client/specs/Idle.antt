@@ -5,6 +5,8 @@ use Rattle.h1_client.specs.declared.keeping.Keepalive.TheVariants.{Off, On}
 
 pub record IdleView (L : Type 0) : Type 0 where
   pub link : L
+  -- the key of its peer, where it is known
+  pub key : Option ℕ
   -- the millisecond from which it isn't handed out any more, where there is one
   pub deadline : Option ℕ
 

@@ -1,12 +1,12 @@
 -- Which of the idle links under a key is handed out.
-use Rattle.std.specs.Prelude.{◌≡◌, ℕ, ◌+◌, ◌-◌, ◌^◌, min, List, [], ◌∷◌, ◌++◌, map, Option, Some, None}
+use Rattle.std.specs.Prelude.{◌≡◌, ℕ, ◌+◌, ◌-◌, ◌^◌, min, List, [], ◌∷◌, ◌++◌, map, Option, Some, None, IfSome}
 use Rattle.h1_link.specs.LinkState.{LinkState}
 use Rattle.h1_client.specs.Idle.{IdleView, is_past}
 use Rattle.h1_client.specs.Pool.{under, StandsBeside}
 use Rattle.h1_client.specs.Probing.{Probes}
 use Rattle.h1_client.specs.declared.idle.Probe.{Probe}
 use Rattle.h1_client.specs.declared.idle.Probe.TheVariants.{Fresh, Past, Byte, Ended, Failed, NoMemory}
-use Rattle.h1_client.specs.declared.pool.Pool.{Pool}
+use Rattle.h1_client.specs.declared.stacks.Stacks.{Stacks}
 
 -- a link that was probed, and what the probe answered
 pub record Look (L : Type 0) : Type 0 where
@@ -48,7 +48,7 @@ idles looks = map (λ look. look.idle) looks
 
 -- The latest release that can still be used is handed out, and those behind it are gone. None is
 -- handed out exactly where all under the key are gone.
-abbrev pub Picked : {L : Type 0} → (L → LinkState) → ℕ → ℕ → Pool L → Pool L → List (Look L)
+abbrev pub Picked : {L : Type 0} → (L → LinkState) → ℕ → ℕ → Stacks L → Stacks L → List (Look L)
     → Option (IdleView L) → Type 0
 Picked {L} state key now old new gone (Some idle) =
     (before : IdleView L)
@@ -56,11 +56,13 @@ Picked {L} state key now old new gone (Some idle) =
     × Probes state before (Fresh idle) (is_past before.deadline now)
 Picked state key now old new gone None = (under key old ≡ idles gone) × (under key new ≡ [])
 
-pub record Picks {L : Type 0} (state : L → LinkState) (key now : ℕ) (old new : Pool L)
+pub record Picks {L : Type 0} (state : L → LinkState) (key now : ℕ) (old new : Stacks L)
     (answer : Option (IdleView L)) (bytes : ℕ) : Type 0 where
   -- the links that are gone, the earliest release first
   pub gone : List (Look L)
   pub all_gone : AllGone state now gone
   pub picked : Picked state key now old new gone answer
+  -- the link leads to the peer of this key
+  pub keyed : IfSome answer (λ idle. idle.key ≡ Some key)
   pub counted : bytes ≡ min (all_unasked gone) (2 ^ 64 - 1)
   pub beside : StandsBeside key old new

@@ -1,5 +1,5 @@
 //! The pool of idle links that threads share, and the links that are dialled beside it.
-ghost use Rattle.std.specs.Prelude.{◌≡◌, IfErr, IfOk, IfSome, IsOkUnless, true};
+ghost use Rattle.std.specs.Prelude.{◌≡◌, IfErr, IfOk, IfSome, IsOkUnless, Some, true};
 ghost use Rattle.h1_error.specs.Memory.{no_memory};
 
 use crate::pool::Pool;
@@ -75,8 +75,7 @@ impl<L: Link + Drop> Connector<L> {
         now: u64,
     ) -> Option<v1::HttpSession<L>>
         ensures reused { IfSome result (IsReused L.state peer.now) }
-        ensures looked { IfSome result
-            (λ session. IsFoundFresh L.state now session.transfer.link) }
+        ensures looked { IfSome result (IsFoundFresh L.state now) }
     {
         let pick = self.pool.lock(rt).pick_idle(peer.key, now);
         self.unexpected.fetch_add(pick.unasked, Ordering::SeqCst);
@@ -84,9 +83,10 @@ impl<L: Link + Drop> Connector<L> {
     }
 
     /// Keeps the link of a session for the next request to the peer, exactly where both sides keep
-    /// it alive and the exchange is whole, and says whether it did; any other link is shut. It may
-    /// stand idle for so many milliseconds; with None it may until its peer closes it, or for as
-    /// long as the peer said. Where there is no memory the link is dropped.
+    /// it alive and the exchange is whole, and says whether it did; any other link is shut. The
+    /// session is one that was made with this peer, as the connector's are. The link may stand idle
+    /// for so many milliseconds; with None it may until its peer closes it, or for as long as the
+    /// peer said. Where there is no memory it is dropped.
     pub fn release_http_session<R: Wait>(
         &self,
         rt: &R,
@@ -95,6 +95,7 @@ impl<L: Link + Drop> Connector<L> {
         idle_timeout: Option<u64>,
         now: u64,
     ) -> Result<bool, Error>
+        requires { session.settings.key ≡ Some peer.now.key }
         ensures ok { IfOk result (λ pooled. pooled ≡ is_kept session) }
         ensures err { IfErr result (λ error. (error ≡ no_memory) × (is_kept session ≡ true)) }
     {

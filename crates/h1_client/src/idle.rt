@@ -4,7 +4,7 @@ ghost use Rattle.h1_client.specs.Idle.{deadline_of, earlier, is_past, moment_beh
 ghost use Rattle.h1_client.specs.Picking.{fresh_of, unasked};
 
 use crate::response_place::ResponsePlace;
-use crate::{Keepalive, Peer, v1};
+use crate::{Keepalive, Peer, Settings, v1};
 use h1_link::{Link, ReadStep};
 use std::alloc::Global;
 use std::marker::Model;
@@ -13,6 +13,8 @@ use std::marker::Model;
 #[derive(Drop)]
 pub struct IdleLink<L: Link + Drop> {
     link: L,
+    /// The key of the peer that it leads to, where its session was made with one.
+    key: Option<u64>,
     deadline: Option<u64>,
     /// What the session before left for the next one.
     place: ResponsePlace,
@@ -24,7 +26,7 @@ impl<L: Link + Drop> Model for IdleLink<L> {
 
     ghost Value = { IdleView L };
 
-    ghost view = { λ s. record { link = s.link; deadline = s.deadline } };
+    ghost view = { λ s. record { link = s.link; key = s.key; deadline = s.deadline } };
 
     ghost invariant = { λ s. IsServed (L.state s.link) };
 }
@@ -48,9 +50,10 @@ pub enum Probe<L: Link + Drop> {
 
 impl<L: Link + Drop> IdleLink<L> {
     ghost use Rattle.h1_client.specs.ClientView.{IsNewSession};
-    ghost use Rattle.h1_client.specs.Settings.{peer_settings};
+    ghost use Rattle.h1_client.specs.Settings.{idle_settings};
     ghost use Rattle.h1_client.specs.Probing.{Probes, link_of};
     ghost use Rattle.h1_client.specs.Reusing.{is_reusable};
+    ghost use Rattle.h1_client.specs.Served.{IsServed};
 
     /// The link of a session, exactly where `reuse` gives it; any other link is shut. It may stand
     /// idle for so many milliseconds, and no longer than the peer said.
@@ -63,9 +66,11 @@ impl<L: Link + Drop> IdleLink<L> {
         ensures gives { is_some result ≡ is_reusable session }
         ensures idle { IfSome result (λ idle. idle ≡ record {
           link = session.transfer.link;
+          key = session.settings.key;
           deadline = deadline_of now idle_timeout session.keepalive;
         }) }
     {
+        let key = session.settings().key;
         let deadline = deadline_of(now, idle_timeout, session.keepalive());
         let kept = session.is_reusable();
         let mut session = session;
@@ -79,18 +84,24 @@ impl<L: Link + Drop> IdleLink<L> {
         }
         Some(IdleLink {
             link,
+            key,
             deadline,
             place,
         })
     }
 
-    /// A new session with this peer over the link. Takes no memory.
+    /// A new session over the link, with what this peer tolerates. Its key stays that of the link.
+    /// Takes no memory.
     #[inline(always)]
     pub fn into_session(self, alloc: Global, peer: &Peer) -> v1::HttpSession<L>
-        ensures { IsNewSession self.link (peer_settings peer.now) result }
+        ensures new { IsNewSession self.link (idle_settings self.key self.deadline peer.now)
+            result }
+        ensures served { IsServed (L.state result.transfer.link) }
     {
-        let tolerant = peer.allow_h1_response_invalid_content_length;
-        v1::HttpSession::with_place(alloc, self.link, tolerant, self.place)
+        let mut settings = Settings::with_peer(peer);
+        settings.key = self.key;
+        settings.until = self.deadline;
+        v1::HttpSession::with_place(alloc, self.link, settings, self.place)
     }
 
     /// Looks whether the link can still be used: one byte is read, and none is to be there. Where
@@ -109,6 +120,7 @@ impl<L: Link + Drop> IdleLink<L> {
             ReadStep::End => Probe::Ended(link),
             ReadStep::NotReady => Probe::Fresh(IdleLink {
                 link,
+                key: self.key,
                 deadline: self.deadline,
                 place: self.place,
             }),

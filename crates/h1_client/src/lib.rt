@@ -14,6 +14,7 @@ mod response_place;
 mod session;
 mod settings;
 mod spare;
+mod stacks;
 pub mod v1;
 
 pub use connector::Connector;

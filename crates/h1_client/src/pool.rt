@@ -1,19 +1,20 @@
 //! The links that stand idle, of all peers.
-ghost use Rattle.std.specs.Prelude.{IsOkUnless, OnErr, OnOk};
+ghost use Rattle.std.specs.Prelude.{◌≡◌, IfSome, IsOkUnless, OnErr, OnOk, Some};
 ghost use Rattle.h1_error.specs.Memory.{no_memory};
+ghost use Rattle.h1_client.specs.Pool.{AreKeyed};
 
 use crate::IdleLink;
+use crate::stacks::Stacks;
 use h1_error::Error;
 use h1_link::Link;
 use std::alloc::Global;
-use std::collections::BTreeMap;
 
 /// Idle links, each under the key of its peer. Contracts see the links under each key, the earliest
 /// release first.
 #[derive(Drop)]
 pub struct Pool<L: Link + Drop> {
-    alloc: Global,
-    stacks: BTreeMap<u64, Vec<IdleLink<L>>>,
+    stacks: Stacks<L>,
+    ghost keyed: { AreKeyed stacks },
 }
 
 /// What a look through the links under a key finds.
@@ -30,48 +31,37 @@ impl<L: Link + Drop> Pool<L> {
     ghost use Rattle.h1_client.specs.Pool.{IsEmpty, PutsLatest, StandsWhole, TakesLatest};
 
     pub fn new(alloc: Global) -> Self
-        ensures { IsEmpty result }
+        ensures { IsEmpty result.stacks }
     {
         Pool {
-            alloc,
-            stacks: BTreeMap::new(alloc),
+            stacks: Stacks::new(alloc),
         }
     }
 
-    /// Puts a link under a key, of which it is the latest release then. Where there is no memory
-    /// the link is dropped.
+    /// Puts a link under the key of its peer, of which it is the latest release then. Where there
+    /// is no memory the link is dropped.
     pub fn put_idle(&mut self, key: u64, idle: IdleLink<L>) -> Result<(), Error>
-        ensures ok { OnOk result (PutsLatest key idle self.old self.new) }
+        requires { idle.key ≡ Some key }
+        ensures ok { OnOk result (PutsLatest key idle self.old.stacks self.new.stacks) }
         ensures err { IsOkUnless result no_memory }
-        ensures same { OnErr result (StandsWhole self.old self.new) }
+        ensures same { OnErr result (StandsWhole self.old.stacks self.new.stacks) }
     {
-        if let Some(stack) = self.stacks.get_mut(&key) {
-            stack.push(idle)?;
-            return Ok(());
-        }
-        let mut stack = Vec::new(self.alloc);
-        stack.push(idle)?;
-        self.stacks.insert(key, stack)?;
-        Ok(())
+        self.stacks.put(key, idle)
     }
 
     /// Takes out the latest release under a key, or answers None where there is none.
     pub fn take_idle(&mut self, key: u64) -> Option<IdleLink<L>>
-        ensures { TakesLatest key self.old self.new result }
+        ensures takes { TakesLatest key self.old.stacks self.new.stacks result }
+        ensures keyed { IfSome result (λ idle. idle.key ≡ Some key) }
     {
-        let stack = self.stacks.get_mut(&key)?;
-        let idle = stack.pop()?;
-        // A key without a link is to take no memory.
-        if stack.is_empty() {
-            self.stacks.remove(&key);
-        }
-        Some(idle)
+        self.stacks.take(key)
     }
 
     /// Takes out and probes the links under a key, the latest release first, until one can still be
     /// used. Those before it go.
     pub fn pick_idle(&mut self, key: u64, now: u64) -> Pick<L>
-        ensures { Picks L.state key now self.old self.new result.idle result.unasked }
+        ensures { Picks L.state key now self.old.stacks self.new.stacks result.idle
+            result.unasked }
     {
         let mut unasked = 0u64;
         'picks: while let Some(idle) = self.take_idle(key) {

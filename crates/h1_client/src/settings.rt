@@ -1,6 +1,6 @@
 //! What is set on a client's session. All times are milliseconds.
 ghost use Rattle.std.specs.Prelude.{◌≡◌};
-ghost use Rattle.h1_client.specs.Settings.{new_settings, read_deadline, write_deadline};
+ghost use Rattle.h1_client.specs.Settings.{new_settings, peer_settings, read_deadline, write_deadline};
 
 use h1_transfer::Deadline;
 
@@ -24,17 +24,38 @@ pub struct Settings {
     /// One value of Content-Length that is no number is tolerated, and the response is read until
     /// the link ends.
     pub tolerant: bool,
+    /// The key of the peer, under which alone the link may stand idle. None where the session was
+    /// made without a peer.
+    pub key: Option<u64>,
+    /// The moment from which the link was not to be handed out any more, where it stood idle
+    /// before. None is without a limit.
+    pub until: Option<u64>,
 }
 
 impl Settings {
     /// Nothing has a limit.
-    pub(crate) fn new(tolerant: bool) -> Self
-        ensures { result ≡ record new_settings { tolerant = tolerant } }
+    pub(crate) fn new() -> Self
+        ensures { result ≡ new_settings }
     {
         Settings {
             read_timeout: None,
             write_timeout: None,
-            tolerant,
+            tolerant: false,
+            key: None,
+            until: None,
+        }
+    }
+
+    /// The same with what is known of the peer.
+    pub(crate) fn with_peer(peer: &Peer) -> Self
+        ensures { result ≡ peer_settings peer.now }
+    {
+        Settings {
+            read_timeout: None,
+            write_timeout: None,
+            tolerant: peer.allow_h1_response_invalid_content_length,
+            key: Some(peer.key),
+            until: None,
         }
     }
 

@@ -74,15 +74,19 @@ impl<L: Link + Drop> HttpSession<L> {
         requires { IsServed (L.state link) }
         ensures { IsNewSession link new_settings result }
     {
-        HttpSession::with_place(alloc, link, false, ResponsePlace::new())
+        HttpSession::with_place(alloc, link, Settings::new(), ResponsePlace::new())
     }
 
-    /// The same with whether one value of Content-Length that is no number is tolerated, and with
-    /// what the session before left.
+    /// The same with what is set on the session, and with what the session before left.
     #[inline(always)]
-    pub(crate) fn with_place(alloc: Global, link: L, tolerant: bool, place: ResponsePlace) -> Self
+    pub(crate) fn with_place(
+        alloc: Global,
+        link: L,
+        settings: Settings,
+        place: ResponsePlace,
+    ) -> Self
         requires { IsServed (L.state link) }
-        ensures { IsNewSession link (record new_settings { tolerant = tolerant }) result }
+        ensures { IsNewSession link settings result }
     {
         let mut place = place;
         let mut transfer = Transfer::new(alloc, link);
@@ -92,7 +96,7 @@ impl<L: Link + Drop> HttpSession<L> {
             asked: Asked::new(),
             answered: Answered::new(),
             keepalive: Keepalive::Off,
-            settings: Settings::new(tolerant),
+            settings,
             payload_read: 0,
             lent: Poll::Pending,
             spent: false,
@@ -100,13 +104,13 @@ impl<L: Link + Drop> HttpSession<L> {
         }
     }
 
-    /// The same with what the peer tolerates.
+    /// The same with the key of the peer that the link leads to, and with what the peer tolerates.
     pub fn new_with_options(alloc: Global, link: L, peer: &Peer) -> Self
         requires { IsServed (L.state link) }
         ensures { IsNewSession link (peer_settings peer.now) result }
     {
-        let tolerant = peer.allow_h1_response_invalid_content_length;
-        HttpSession::with_place(alloc, link, tolerant, ResponsePlace::new())
+        let settings = Settings::with_peer(peer);
+        HttpSession::with_place(alloc, link, settings, ResponsePlace::new())
     }
 
     /// Whether the head of a request was taken up.

@@ -1,26 +1,44 @@
 //! The calls of a session, each with what it tells, and what its peer does.
+ghost use Rattle.std.specs.Prelude.{◌≡◌};
+
 use super::Told::{self, *};
 use super::{Client, Fault, HttpSession, MemLink};
 use bytes::Bytes;
 use futures::task::Poll;
+use h1_client::Peer;
 use h1_error::Error;
 use h1_head::RequestHeader;
 use h1_transfer::Step;
 use std::alloc::Global;
 use std::process::Abort;
 
-/// A session that is to ask.
+/// A session that is to ask the peer of key 1.
 pub(crate) fn new(alloc: Global) -> Client {
+    new_with(alloc, 1)
+}
+
+/// A session that is to ask the peer of this key.
+pub(crate) fn new_with(alloc: Global, key: u64) -> Client {
     Client {
-        session: session_of(alloc),
+        session: session_of(alloc, &peer_of(key)),
         statuses: Vec::new(alloc),
         payload: Vec::new(alloc),
         fault: None,
     }
 }
 
-fn session_of(alloc: Global) -> HttpSession<MemLink> {
-    HttpSession::new(alloc, MemLink::new(alloc))
+fn session_of(alloc: Global, peer: &Peer) -> HttpSession<MemLink> {
+    HttpSession::new_with_options(alloc, MemLink::new(alloc), peer)
+}
+
+/// A peer that tolerates nothing.
+pub(crate) fn peer_of(key: u64) -> Peer
+    ensures { result.key ≡ key }
+{
+    Peer {
+        key,
+        allow_h1_response_invalid_content_length: false,
+    }
 }
 
 /// The head of a request without a line.

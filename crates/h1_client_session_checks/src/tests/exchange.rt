@@ -22,7 +22,12 @@ pub(crate) struct Row<'a> {
 
 /// A session that wrote a request with this method and no body.
 pub(crate) fn client_of(rt: &impl Abort, alloc: Global, method: &[u8]) -> Client {
-    let mut client = new(alloc);
+    asked(rt, alloc, new(alloc), method)
+}
+
+/// The same of this session.
+pub(crate) fn asked(rt: &impl Abort, alloc: Global, client: Client, method: &[u8]) -> Client {
+    let mut client = client;
     let head = head_of(rt, alloc, method, b"/x");
     ask(rt, &mut client, head, 0);
     finish(rt, &mut client, 0);

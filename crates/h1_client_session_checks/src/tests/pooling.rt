@@ -1,11 +1,11 @@
 //! Which idle link is handed out, to one thread and to two.
-use super::calls::give;
-use super::exchange::{client_of, receive};
-use super::probing::whole;
+use super::calls::{give, new_with, peer_of};
+use super::exchange::{asked, receive};
+use super::probing::whole_with;
 use super::{Client, ErrorType, MemLink};
 use futures::task::Poll;
+use h1_client::Connector;
 use h1_client::v1::HttpSession;
-use h1_client::{Connector, Peer};
 use h1_error::{ConnectFault, Error};
 use h1_link::{DialStep, MemDialer};
 use std::marker::Model;
@@ -38,14 +38,7 @@ pub(crate) fn pool_of(rt: &(impl Abort + AllocGlobal)) -> Shared {
     Shared { connector }
 }
 
-fn peer_of(key: u64) -> Peer {
-    Peer {
-        key,
-        allow_h1_response_invalid_content_length: false,
-    }
-}
-
-/// Releases a session at 0: whether its link is kept.
+/// Releases a session with the peer of this key at 0: whether its link is kept.
 pub(crate) fn release(
     rt: &(impl Abort + Wait),
     shared: &Shared,
@@ -53,6 +46,12 @@ pub(crate) fn release(
     key: u64,
     idle_timeout: Option<u64>,
 ) -> bool {
+    let known = client
+        .session
+        .settings()
+        .key
+        .expect(rt, "a session with a peer");
+    assert!(rt; known == key);
     shared
         .connector
         .release_http_session(rt, client.session, &peer_of(key), idle_timeout, 0)
@@ -80,7 +79,7 @@ fn pool(
     idle_timeout: Option<u64>,
     response: &[u8],
 ) {
-    let mut client = client_of(rt, rt.alloc(), b"GET");
+    let mut client = asked(rt, rt.alloc(), new_with(rt.alloc(), key), b"GET");
     receive(rt, &mut client, response, 4096);
     assert!(rt; release(rt, shared, client, key, idle_timeout));
 }
@@ -146,7 +145,7 @@ fn counted(shared: &Shared) -> u64 {
 
 /// Puts a link under a key whose peer then sends a byte that no request asked for.
 fn pool_with_a_byte(rt: &(impl Abort + AllocGlobal + Wait), shared: &Shared, key: u64) {
-    let mut client = whole(rt, rt.alloc());
+    let mut client = whole_with(rt, rt.alloc(), key);
     give(rt, &mut client, b"x");
     assert!(rt; release(rt, shared, client, key, None));
 }

@@ -1,7 +1,7 @@
 //! What a look at an idle link finds.
 use super::Client;
-use super::calls::{break_reads, end, give};
-use super::exchange::{client_of, receive};
+use super::calls::{break_reads, end, give, new_with};
+use super::exchange::{asked, receive};
 use h1_client::{IdleLink, Probe};
 use h1_link::MemLink;
 use std::alloc::Global;
@@ -66,7 +66,12 @@ fn a_look_finds_the_deadline_or_what_happened(rt: HostRuntime) {
 
 /// A session whose exchange is whole, over a link that may serve the next request.
 pub(crate) fn whole(rt: &impl Abort, alloc: Global) -> Client {
-    let mut client = client_of(rt, alloc, b"GET");
+    whole_with(rt, alloc, 1)
+}
+
+/// The same with the peer of this key.
+pub(crate) fn whole_with(rt: &impl Abort, alloc: Global, key: u64) -> Client {
+    let mut client = asked(rt, alloc, new_with(alloc, key), b"GET");
     receive(rt, &mut client, b"HTTP/1.1 204 No Content\r\n\r\n", 4096);
     client.session.respect_keepalive();
     client

@@ -1,7 +1,8 @@
-use Rattle.std.proofs.Common.{ℕ, List, [], Option, sym, subst, ◌∙◌}
+use Rattle.std.proofs.Common.{ℕ, List, [], Option, refl, sym, ap, subst, ◌∙◌}
 use Rattle.h1_client.specs.Words.{begun, framing}
+use Rattle.h1_client.specs.declared.settings.Settings.{Settings}
 use Rattle.h1_asking.specs.Writing.{HasPut, Takes}
-use Rattle.h1_asking.proofs.FetchLemmas.{unread_set, whole_gives, wrote_set}
+use Rattle.h1_asking.proofs.FetchLemmas.{key_set, unread_set, whole_gives, wrote_set}
 use Rattle.h1_asking.proofs.fetching.exchange.Goals as goal
 
 pub returns : goal.returns
@@ -30,11 +31,21 @@ returns g c =
         said = head.0;
         payload = part.0;
         takes = subst (λ (taken : Option (List ℕ)). Takes start.written taken c.args.head c.args.body)
-            (sym (c.read_body.ensures.wrote ∙ c.read_head.ensures.wrote)) took;
+            (sym (c.read_body.ensures.wrote ∙ c.read_head.ensures.wrote)) took.0;
+        asked_over = c.write_end.new.session.transfer.link;
+        wrote = c.read_body.ensures.wrote ∙ c.read_head.ensures.wrote;
+        flushed = took.1;
+        unread = unread.given;
         gives = whole_gives g.L.Link.state start c.args.head head.0 part.0 _ part.1;
+        behind = refl;
         asked = c.read_body.ensures.request ∙ c.read_head.ensures.request ∙ asked;
         answered = c.read_body.ensures.response ∙ head.1;
         status_is = head.3;
         length_is = part.2;
       };
+      key = ap (λ (s : Settings). s.key) (c.read_body.ensures.settings
+          ∙ c.read_head.ensures.settings ∙ c.write_end.ensures.settings
+          ∙ c.write_body.ensures.settings ∙ c.write_head.ensures.settings)
+          ∙ key_set c.set_read_timeout.new.self _ _ c.set_write_timeout.ensures refl
+          ∙ key_set c.args.session.now _ _ c.set_read_timeout.ensures refl;
     }

@@ -4,6 +4,7 @@ use Rattle.h1_asking.proofs.fetching.read_body.Goals as goal
 pub loop-preserved : goal.loop-preserved
 loop-preserved g c = record {
   request = c.count_part.ensures.request ∙ c.loop.invariant.request;
+  settings = c.count_part.ensures.settings ∙ c.loop.invariant.settings;
   response = c.count_part.ensures.response ∙ c.loop.invariant.response;
   wrote = c.count_part.ensures.wrote ∙ c.loop.invariant.wrote;
   reads = λ before request said asked is far.
@@ -15,6 +16,7 @@ loop-preserved g c = record {
 pub returns-in-End : goal.returns-in-End
 returns-in-End g c = record {
   request = c.count_part.ensures.request ∙ c.loop.invariant.request;
+  settings = c.count_part.ensures.settings ∙ c.loop.invariant.settings;
   response = c.count_part.ensures.response ∙ c.loop.invariant.response;
   ok = λ before request said asked is far.
       let so_far = c.loop.invariant.reads before request said asked is far in

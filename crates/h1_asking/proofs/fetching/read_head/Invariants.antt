@@ -7,6 +7,7 @@ use Rattle.h1_asking.proofs.fetching.read_head.Given as goal
 abbrev pub invariant-loop : goal.invariant-loop
 invariant-loop g l = record {
   request : request_of l.session ≡ request_of l.fn.session;
+  settings : l.session.settings ≡ l.fn.session.settings;
   wrote : (g.L.Link.state l.session.transfer.link).written
       ≡ (g.L.Link.state l.fn.session.transfer.link).written;
   reads : (before : Option (List ℕ)) (request : RequestView)

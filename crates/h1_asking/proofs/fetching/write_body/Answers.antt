@@ -5,6 +5,7 @@ use Rattle.h1_asking.proofs.fetching.write_body.Goals as goal
 pub loop-init : goal.loop-init
 loop-init g c = record {
   request = refl;
+  settings = refl;
   puts = λ before request has. body_to_put g.L.Link.state before request c.args.body
       c.args.session.now.transfer.link c.args.session.now.transfer.outgoing has.0;
   unread = λ before unread. unread;
@@ -13,6 +14,7 @@ loop-init g c = record {
 pub loop-preserved : goal.loop-preserved
 loop-preserved g c = record {
   request = c.write_piece.ensures.request ∙ c.loop.invariant.request;
+  settings = c.write_piece.ensures.settings ∙ c.loop.invariant.settings;
   puts = λ before request has. wrote_put g.L.Link.state g.L.Link.same_plan before request c.args.body _ _ _ _
       _ _ c.in-Pending.ensures.call (c.loop.invariant.puts before request has);
   unread = λ before unread.

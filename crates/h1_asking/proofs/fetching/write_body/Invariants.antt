@@ -9,6 +9,7 @@ use Rattle.h1_asking.proofs.fetching.write_body.Given as goal
 abbrev pub invariant-loop : goal.invariant-loop
 invariant-loop g l = record {
   request : request_of l.session ≡ request_of l.fn.session;
+  settings : l.session.settings ≡ l.fn.session.settings;
   puts : (before : Option (List ℕ)) (request : RequestView)
       → HasPut g.L.Link.state before request (begun (framing request)) [] l.fn.session
       → PutsBody g.L.Link.state before request l.fn.body l.piece l.session.transfer.link

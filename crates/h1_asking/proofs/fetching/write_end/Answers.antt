@@ -5,6 +5,7 @@ use Rattle.h1_asking.proofs.fetching.write_end.Goals as goal
 pub loop-init : goal.loop-init
 loop-init g c = record {
   request = refl;
+  settings = refl;
   puts = λ before request body has. inl has;
   unread = λ before unread. unread;
 }
@@ -12,6 +13,7 @@ loop-init g c = record {
 pub loop-preserved : goal.loop-preserved
 loop-preserved g c = record {
   request = c.finish.ensures.request ∙ c.loop.invariant.request;
+  settings = c.finish.ensures.settings ∙ c.loop.invariant.settings;
   puts = λ before request body has. ended_put g.L.Link.state g.L.Link.same_plan before request body _ _ _
       c.in-Pending.ensures.call (c.loop.invariant.puts before request body has);
   unread = λ before unread. c.finish.ensures.unread before (c.loop.invariant.unread before unread);

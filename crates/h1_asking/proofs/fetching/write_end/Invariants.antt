@@ -9,6 +9,7 @@ use Rattle.h1_asking.proofs.fetching.write_end.Given as goal
 abbrev pub invariant-loop : goal.invariant-loop
 invariant-loop g l = record {
   request : request_of l.session ≡ request_of l.fn.session;
+  settings : l.session.settings ≡ l.fn.session.settings;
   puts : (before : Option (List ℕ)) (request : RequestView) (body : Option (List ℕ))
       → HasPut g.L.Link.state before request (writer_behind request body) (bytes_behind request body)
       l.fn.session

@@ -1,3 +1,4 @@
+use Rattle.std.proofs.Common.{◌∙◌}
 use Rattle.h1_asking.proofs.PutLemmas.{asked_ok, asked_put}
 use Rattle.h1_asking.proofs.fetching.write_head.Goals as goal
 
@@ -18,6 +19,7 @@ returns-in-Ready-Err-clause-unread g c before unread =
 pub loop-preserved : goal.loop-preserved
 loop-preserved g c = record {
   handed = c.ask.ensures.handed c.args.head c.loop.invariant.handed;
+  settings = c.ask.ensures.settings ∙ c.loop.invariant.settings;
   puts = asked_put g.L.Link.state g.L.Link.same_plan
       (g.L.Link.state c.args.session.now.transfer.link).written c.args.head _ _ _ _ _ _
       c.in-Pending.ensures.call c.loop.invariant.puts;
